@@ -1,0 +1,19 @@
+-- Laws of the definitions in specs/, and the theorems about them.
+pub mod Truth
+pub mod Tests
+pub mod Each
+pub mod Outcomes
+pub mod Letters
+pub mod Patterns
+pub mod Sizes
+pub mod Bits
+pub mod Strings
+pub mod Steps
+pub mod Runs
+pub mod Marks
+pub mod Occurrences
+pub mod Ends
+pub mod Rows
+pub mod Linear
+pub mod Cards
+pub mod TextCards

@@ -1,0 +1,20 @@
+-- Laws of sizes.
+use Prim.Native.Nat.{ℕ, _+_, _≤_}
+use native.Mathlib.Omega.{arith}
+use mathlib.Core.Path.{_≡_}
+use mathlib.Core.List.{List, [], _∷_, _++_}
+use Rattle.text.specs.Text.{total, counted}
+
+-- a variant counts no more than its length field and its letters take
+pub counted-le : (n : ℕ) → counted n ≤ n + 2
+unfolding counted
+counted-le n = omega arith
+
+pub total-append : {A : Type 0} (f : A → ℕ) (l k : List A) → total f (l ++ k) ≡ total f l + total f k
+unfolding total
+total-append f [] k = omega arith
+total-append f (a ∷ l) k = omega (arith, total-append f l k)
+
+pub total-snoc : {A : Type 0} (f : A → ℕ) (l : List A) (a : A) → total f (l ++ (a ∷ [])) ≡ total f l + f a
+unfolding total
+total-snoc f l a = omega (arith, total-append f l (a ∷ []))

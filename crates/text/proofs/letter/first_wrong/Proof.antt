@@ -1,0 +1,62 @@
+-- `text::letter::first_wrong` meets its contract. The loop's invariant, `Passed`: the bytes before i are letters, and the first wrong byte
+-- is looked for from i on. The measure is the number of bytes left.
+use Prim.Native.Nat.{_-_}
+use mathlib.Core.Path.{sym, _∙_}
+use borrow.Author.Needs.{needs}
+use borrow.Author.Tests.{not-true, not-false}
+use lib.ListN.{length}
+use Rattle.text.specs.Letter.{letter}
+use Rattle.text.proofs.Letters.{Passed, passed-none, passed-more, passed-stop, passed-all}
+use Rattle.text.proofs.letter.first_wrong.Statement.{statement}
+use Rattle.text.proofs.letter.first_wrong.Tie as tie
+
+abbrev Inv-loop : tie.InvT-loop
+Inv-loop part i₀ i = Passed letter part i
+
+abbrev μ-loop : tie.MeasureT-loop
+μ-loop part i₀ i = length part - i
+
+loop-holds : tie.Need-loop-holds Inv-loop μ-loop
+loop-holds c = passed-none letter _
+
+shared-slice-read-is-letter : tie.Need-shared-slice-read-is-letter Inv-loop μ-loop
+shared-slice-read-is-letter c = search needs
+
+is-letter-requires : tie.Need-is-letter-requires Inv-loop μ-loop
+is-letter-requires c κs = search needs
+
+returns : tie.Need-returns Inv-loop μ-loop
+returns c =
+    let d = c .before .before .before in
+    let wrong = sym (c .before .is-letter .ensures) ∙ not-true _ (c .if1 .taken) in
+    sym (passed-stop letter _ _ (d .before .loop .inv) (d .loop-test .taken) wrong)
+
+add-i : tie.Need-add-i Inv-loop μ-loop
+add-i c = search needs
+
+loop-less : tie.Need-loop-less Inv-loop μ-loop
+loop-less c = search needs
+
+loop-again : tie.Need-loop-again Inv-loop μ-loop
+loop-again c =
+    let d = c .before .before .before in
+    let right = sym (c .before .is-letter .ensures) ∙ not-false _ (c .if1 .left) in
+    passed-more letter _ _ (d .before .loop .inv) (d .loop-test .taken) right
+
+returns-2 : tie.Need-returns-2 Inv-loop μ-loop
+returns-2 c = sym (passed-all letter _ _ (c .before .loop .inv) (c .loop-test .left))
+
+pub first-wrong-spec : {M : Type 1} → statement M
+first-wrong-spec =
+    tie.close
+    (tie.spec
+    Inv-loop
+    μ-loop
+    loop-holds
+    shared-slice-read-is-letter
+    is-letter-requires
+    returns
+    add-i
+    loop-less
+    loop-again
+    returns-2)

@@ -1,0 +1,26 @@
+-- Tests on strings of letters, by recursion, so that examples compute.
+use Prim.Native.Nat.{ℕ, _-_}
+use mathlib.Core.Bool.{Bool, true, false, _||_, _&&_}
+use mathlib.Core.List.{List, [], _∷_}
+use lib.Dec.{eqb}
+use lib.ListN.{length, take, drop}
+
+-- the same letters
+unfoldable pub same : List ℕ → List ℕ → Bool
+same [] [] = true
+same [] (d ∷ t) = false
+same (c ∷ s) [] = false
+same (c ∷ s) (d ∷ t) = eqb c d && same s t
+
+-- s begins with p
+unfoldable pub prefix : List ℕ → List ℕ → Bool
+prefix p s = same p (take (length p) s)
+
+-- s ends with p
+unfoldable pub suffix : List ℕ → List ℕ → Bool
+suffix p s = same p (drop (length s - length p) s)
+
+-- p lies in s
+unfoldable pub inside : List ℕ → List ℕ → Bool
+inside p [] = prefix p []
+inside p (c ∷ s) = prefix p (c ∷ s) || inside p s

@@ -1,0 +1,41 @@
+-- Answers that may refuse, and the order of refusals as a chain of demands.
+use Prim.Native.Nat.{ℕ}
+use mathlib.Core.Bool.{Bool, true, false}
+use mathlib.Core.List.{List}
+use lib.Dec.{leb, ltb}
+use lib.ListN.{length}
+use Rattle.text.specs.Letter.{base, every, firstNot}
+use Rattle.text.specs.declared.pattern.PatternIs.{PatternIs}
+use Rattle.text.specs.declared.pattern.PatternIs.the-variants.{Sound, Refused}
+
+-- a value, or document 01's number and place
+pub data Outcome (A : Type 0) : Type 0 where
+  ok : A → Outcome A
+  refused : ℕ → ℕ → Outcome A
+
+-- go on where the test holds; else refuse with number n at place p
+abbrev pub demand : {A : Type 0} → Bool → ℕ → ℕ → Outcome A → Outcome A
+demand true n p o = o
+demand false n p o = refused n p
+
+-- go on with the value; a refusal stays
+abbrev pub after : {A B : Type 0} → Outcome A → (A → Outcome B) → Outcome B
+after (ok a) f = f a
+after (refused n p) f = refused n p
+
+-- the greatest pattern
+abbrev pub greatestPattern : ℕ
+greatestPattern = 64
+
+-- what is asked of a pattern, 1 to 64 bases, before o
+unfoldable pub pattern : {A : Type 0} → List ℕ → Outcome A → Outcome A
+pattern P o =
+    demand (ltb 0 (length P)) 1 0
+    (demand (leb (length P) greatestPattern) 2 0
+    (demand (every base P) 3 (firstNot base P)
+    o))
+
+-- what the answer of a pattern's check says
+abbrev pub toldPattern : PatternIs → Outcome (Unit {0})
+toldPattern Sound = ok tt
+toldPattern (Refused r) = refused (r .number) (r .place)

@@ -1,0 +1,37 @@
+-- Texts: rows of segments, each a list of variants.
+use Prim.Native.Nat.{ℕ, _+_}
+use mathlib.Core.List.{List, [], _∷_}
+use lib.ListN.{length, getD}
+
+-- a string of letters, perhaps empty
+abbrev pub Variant : Type 0
+Variant = List ℕ
+
+-- the variants that one place of the text may have
+abbrev pub Segment : Type 0
+Segment = List Variant
+
+-- a row of segments, perhaps none, numbered from 0
+abbrev pub Text : Type 0
+Text = List Segment
+
+-- segment j; a number behind the last one has no variants
+abbrev pub segment : Text → ℕ → Segment
+segment T j = getD T j []
+
+-- the sum of what the members of a list count
+unfoldable pub total : {A : Type 0} → (A → ℕ) → List A → ℕ
+total f [] = 0
+total f (a ∷ l) = f a + total f l
+
+-- what a variant of n letters counts in the size: its letters
+unfoldable pub counted : ℕ → ℕ
+counted n = n
+
+-- what a variant counts in the size
+unfoldable pub weight : Variant → ℕ
+weight s = counted (length s)
+
+-- the number of letters in all variants of a text
+unfoldable pub size : Text → ℕ
+size T = total (total weight) T

@@ -1,0 +1,8 @@
+// Letters, patterns, refusals, and tests on parts of slices: what every crate above this one cites.
+pub mod compare;
+pub mod letter;
+pub mod pattern;
+pub mod refusal;
+pub mod size;
+
+pub use refusal::Refusal;
