@@ -4,7 +4,7 @@ use native.Mathlib.Omega.{arith}
 use mathlib.Core.Path.{_≡_, refl, sym}
 use mathlib.Core.Logic.{_⊎_, inl, inr, ⊎-elim, by-cases}
 use mathlib.Core.Bool.{Bool, true, false, _||_, _&&_, false≢true}
-use mathlib.Core.List.{List, [], _∷_, List·Memᴰ, List·Memᴰ·head, List·Memᴰ·tail}
+use mathlib.Core.List.{List, [], _∷_, _++_, List·Memᴰ, List·Memᴰ·head, List·Memᴰ·tail}
 use native.Mathlib.Decide.{decLt}
 use Rattle.text.specs.Bits.{anyBelow, anyOf}
 
@@ -88,3 +88,16 @@ some-anyBelow f (suc n) q l h =
     by-cases (decLt q n)
     (λ (k : q < n). or-left (anyBelow f n) (f n) (some-anyBelow f n q k h))
     (λ (k : ¬ (q < n)). or-right (anyBelow f n) (f n) (let e : q ≡ n = omega arith in rw e at h))
+
+pub or-false : (a : Bool) → (a || false) ≡ a
+or-false true = refl
+or-false false = refl
+
+pub or-assoc : (a b c : Bool) → ((a || b) || c) ≡ (a || (b || c))
+or-assoc true b c = refl
+or-assoc false b c = refl
+
+pub anyOf-snoc : {A : Type 0} (f : A → Bool) (l : List A) (a : A) → anyOf f (l ++ (a ∷ [])) ≡ (anyOf f l || f a)
+unfolding anyOf
+anyOf-snoc f [] a = or-false (f a)
+anyOf-snoc f (b ∷ l) a = rw (anyOf-snoc f l a) (sym (or-assoc (f b) (anyOf f l) (f a)))

@@ -1,0 +1,87 @@
+-- Laws of a variant's head and of the test for repetition.
+use Prim.Native.Nat.{ℕ, suc, _+_, _-_, _≤_, _<_}
+use native.Mathlib.Omega.{arith}
+use mathlib.Core.Path.{_≡_, refl, sym, ap, _∙_}
+use mathlib.Core.Bool.{Bool, true, false, _||_, _&&_}
+use mathlib.Core.List.{List}
+use borrow.Author.Tests.{leb-true, leb-false, le-leb, lt-leb}
+use lib.Dec.{leb}
+use lib.ListN.{length, take, drop, length-take, length-drop}
+use Rattle.text.specs.Text.{Variant}
+use Rattle.text.specs.Compare.{same}
+use Rattle.text.specs.Refusal.{ok, refused, demand}
+use Rattle.stretch.specs.Bytes.{word}
+use Rattle.stretch.specs.Reading.{lettersAt, behind}
+use Rattle.stretch.specs.Variants.{Span, headAt, repeated}
+
+-- a variant that is whole: where its letters start, and where the next one begins
+pub record Whole (s : List ℕ) (at start next : ℕ) : Type 0 where
+  pub starts : start ≡ at + 2
+  pub ends : next ≡ behind s at
+  pub inside : behind s at ≤ length s
+
+pub head-cut : (s : List ℕ) (at : ℕ) → length s < behind s at → headAt s at ≡ refused 5 at
+unfolding headAt
+head-cut s at l = rw (lt-leb (behind s at) (length s) l)
+
+-- found with the number n that its length states
+pub head-found : (s : List ℕ) (at n : ℕ) → n ≡ word s at → behind s at ≤ length s → headAt s at ≡ ok (record { start = at + 2; next = at + 2 + n })
+unfolding headAt
+head-found s at n e l = rw (le-leb (behind s at) (length s) l, e)
+
+pub head-is : (s : List ℕ) (at start next : ℕ) → headAt s at ≡ ok (record { start = start; next = next }) → Whole s at start next
+unfolding headAt
+head-is s at start next e = go (leb (behind s at) (length s)) refl e
+  where
+    go : (b : Bool) → leb (behind s at) (length s) ≡ b → demand {A = Span} b 5 at (ok (record { start = at + 2; next = behind s at })) ≡ ok (record { start = start; next = next }) → Whole s at start next
+    go true t e =
+        let p : _≡_ {A = Span} (record { start = at + 2; next = behind s at }) (record { start = start; next = next }) = cc in
+        record { starts = sym (ap (λ (x : Span). x .start) p); ends = sym (ap (λ (x : Span). x .next) p); inside = leb-true (behind s at) (length s) t }
+    go false t e = absurd (let z : _≡_ {A = ℕ} 0 1 = cc in let y : ⊥ = omega arith in y)
+
+pub head-not : (s : List ℕ) (at n p : ℕ) → headAt s at ≡ refused n p → length s < behind s at
+unfolding headAt
+head-not s at n p e = go (leb (behind s at) (length s)) refl e
+  where
+    go : (b : Bool) → leb (behind s at) (length s) ≡ b → demand {A = Span} b 5 at (ok (record { start = at + 2; next = behind s at })) ≡ refused n p → length s < behind s at
+    go true t e = absurd (let z : _≡_ {A = ℕ} 0 1 = cc in let y : ⊥ = omega arith in y)
+    go false t e = leb-false (behind s at) (length s) t
+
+-- the part from start to next is the variant's letters
+pub whole-part : (s : List ℕ) (at start next : ℕ) → Whole s at start next → take (next - start) (drop start s) ≡ lettersAt s at
+whole-part s at start next w =
+    let long : next - start ≡ word s at = omega (arith, w .starts, w .ends) in
+    rw (long, w .starts)
+
+-- a variant that is whole has as many letters as its length states
+pub whole-letters : (s : List ℕ) (at : ℕ) → behind s at ≤ length s → length (lettersAt s at) ≡ word s at
+whole-letters s at l = simp (length-take, length-drop) (omega arith)
+
+pub whole-length : (s : List ℕ) (at start next : ℕ) → Whole s at start next → length (lettersAt s at) ≡ next - start
+whole-length s at start next w = omega (arith, whole-letters s at (w .inside), w .starts, w .ends)
+
+-- the search for a repetition has passed i variants and stands at `at`
+pub record Passing (s : List ℕ) (v : Variant) (k first i at : ℕ) : Type 0 where
+  pub most : i ≤ k
+  pub rest : repeated s v k first ≡ repeated s v (k - i) at
+
+pub passing-none : (s : List ℕ) (v : Variant) (k first : ℕ) → Passing s v k first 0 first
+passing-none s v k first = record { most = omega arith; rest = ap (λ (n : ℕ). repeated s v n first) (let e : k ≡ k - 0 = omega arith in e) }
+
+module _ (s : List ℕ) (v : Variant) (k first i at : ℕ) (p : Passing s v k first i at) where
+  one-more : i < k → repeated s v k first ≡ (leb (behind s at) (length s) && (same v (lettersAt s at) || repeated s v (k - (i + 1)) (behind s at)))
+  unfolding repeated
+  one-more l = p .rest ∙ ap (λ (n : ℕ). repeated s v n at) (let e : k - i ≡ suc (k - (i + 1)) = omega (arith, p .most) in e)
+
+  pub passing-cut : i < k → length s < behind s at → repeated s v k first ≡ false
+  passing-cut l c = one-more l ∙ rw (lt-leb (behind s at) (length s) c)
+
+  pub passing-found : i < k → behind s at ≤ length s → same v (lettersAt s at) ≡ true → repeated s v k first ≡ true
+  passing-found l w e = one-more l ∙ rw (le-leb (behind s at) (length s) w, e)
+
+  pub passing-more : i < k → behind s at ≤ length s → same v (lettersAt s at) ≡ false → Passing s v k first (i + 1) (behind s at)
+  passing-more l w e = record { most = omega arith; rest = one-more l ∙ rw (le-leb (behind s at) (length s) w, e) }
+
+  pub passing-end : k ≤ i → repeated s v k first ≡ false
+  unfolding repeated
+  passing-end l = p .rest ∙ ap (λ (n : ℕ). repeated s v n at) (let e : k - i ≡ 0 = omega arith in e)

@@ -1,0 +1,107 @@
+-- `stretch::check` meets its contract. The loop's invariant, `InStretch`: k segments are read, and the size is theirs. The measure is
+-- the number of segments left.
+use Prim.Native.Nat.{_-_, _≤_}
+use borrow.Author.Needs.{needs}
+use native.Mathlib.Omega.{arith}
+use mathlib.Core.Path.{sym, ap, _∙_}
+use Rattle.stretch.specs.Answers.{toldWalked}
+use Rattle.stretch.proofs.Stretches.{InStretch, through-none, through-more, through-refused}
+use Rattle.stretch.proofs.Stretches.{check-long, check-cut, check-refused, check-left, check-many, check-sound}
+use Rattle.stretch.proofs.checking.check.Statement.{statement}
+use Rattle.stretch.proofs.checking.check.Tie as tie
+
+abbrev Inv-loop : tie.InvT-loop
+Inv-loop stretch end segments at₀ size₀ k₀ at size k = InStretch stretch k at size × (k ≤ segments)
+
+abbrev μ-loop : tie.MeasureT-loop
+μ-loop stretch end segments at₀ size₀ k₀ at size k = segments - k
+
+returns : tie.Need-returns Inv-loop μ-loop
+returns c = sym (check-long _ (c .if1 .taken))
+
+returns-2 : tie.Need-returns-2 Inv-loop μ-loop
+returns-2 c = sym (check-cut _ (c .before .if1 .left) (c .if2 .taken))
+
+word-requires : tie.Need-word-requires Inv-loop μ-loop
+word-requires c κs = search needs
+
+loop-holds : tie.Need-loop-holds Inv-loop μ-loop
+loop-holds c = (through-none _ (c .before .if2 .left), omega arith)
+
+segment-at-requires : tie.Need-segment-at-requires Inv-loop μ-loop
+segment-at-requires c κs = search needs
+
+enum-known-refused : tie.Need-enum-known-refused Inv-loop μ-loop
+enum-known-refused c = search needs
+
+returns-3 : tie.Need-returns-3 Inv-loop μ-loop
+returns-3 c =
+    let d = c .before .before .before in
+    let a = d .before .before in
+    let wrong = sym (d .segment-at .ensures) ∙ ap toldWalked (c .before .refused .given .1) in
+    let all = through-refused _ _ _ _ (a .loop .inv .0) _ (d .before .loop-test .taken) _ _ wrong in
+    let e = a .before in
+    sym (check-refused _ (e .before .before .if1 .left) (e .before .if2 .left) _ (e .word .ensures) _ _ all)
+
+enum-known-next : tie.Need-enum-known-next Inv-loop μ-loop
+enum-known-next c = search needs
+
+loop-again : tie.Need-loop-again Inv-loop μ-loop
+loop-again c =
+    let d = c .before .before .before in
+    let sound = sym (d .segment-at .ensures) ∙ ap toldWalked (c .before .next .given .1) in
+    (through-more _ _ _ _ (d .before .before .loop .inv .0) _ _ sound, omega arith)
+
+add-size : tie.Need-add-size Inv-loop μ-loop
+add-size c = let m = loop-again c .0 in omega (arith, m .small, m .inside)
+
+add-k : tie.Need-add-k Inv-loop μ-loop
+add-k c = search needs
+
+loop-less : tie.Need-loop-less Inv-loop μ-loop
+loop-less c = search needs
+
+returns-4 : tie.Need-returns-4 Inv-loop μ-loop
+returns-4 c =
+    let a = c .before .before in
+    let e = a .before in
+    sym
+    (check-left _ (e .before .before .if1 .left) (e .before .if2 .left) _ (e .word .ensures) _ _ _ (a .loop .inv .0) (omega arith) (c .if3 .taken))
+
+returns-5 : tie.Need-returns-5 Inv-loop μ-loop
+returns-5 c =
+    let a = c .before .before .before in
+    let e = a .before in
+    sym
+    (check-many _ (e .before .before .if1 .left) (e .before .if2 .left) _ (e .word .ensures) _ _ _ (a .loop .inv .0) (omega arith)
+    (c .before .if3 .left) (c .if4 .taken))
+
+returns-6 : tie.Need-returns-6 Inv-loop μ-loop
+returns-6 c =
+    let a = c .before .before .before in
+    let e = a .before in
+    sym
+    (check-sound _ (e .before .before .if1 .left) (e .before .if2 .left) _ (e .word .ensures) _ _ _ (a .loop .inv .0) (omega arith)
+    (c .before .if3 .left) (c .if4 .left))
+
+pub check-spec : {M : Type 1} → statement M
+check-spec =
+    tie.close
+    (tie.spec
+    Inv-loop
+    μ-loop
+    returns
+    returns-2
+    word-requires
+    loop-holds
+    segment-at-requires
+    enum-known-refused
+    returns-3
+    enum-known-next
+    add-size
+    add-k
+    loop-less
+    loop-again
+    returns-4
+    returns-5
+    returns-6)

@@ -1,0 +1,31 @@
+-- What the answers of the calls say, in document 01's numbers and values, and what they are to say.
+use Prim.Native.Nat.{ℕ}
+use mathlib.Core.List.{List}
+use lib.ListN.{length}
+use Rattle.text.specs.Text.{total, weight, size}
+use Rattle.text.specs.Refusal.{Outcome, ok, refused, after}
+use Rattle.stretch.specs.Reading.{Taken, segmentAt, stretchOf}
+use Rattle.stretch.specs.declared.segment.Walked.{Walked}
+use Rattle.stretch.specs.declared.segment.Walked.the-variants.{To}
+use Rattle.stretch.specs.declared.checking.Checked.{Checked}
+use Rattle.stretch.specs.declared.checking.Checked.the-variants.{Sound}
+
+-- how far a walk over a segment has come, and the segment's size
+abbrev pub toldWalked : Walked → Outcome (Taken ℕ ℕ)
+toldWalked (To next size) = ok (record { value = size; next = next })
+toldWalked (Walked.Refused r) = refused (r .number) (r .place)
+
+unfoldable pub walkedSegment : List ℕ → ℕ → Outcome (Taken ℕ ℕ)
+walkedSegment s at = after (segmentAt s at) λ x. ok (record { value = total weight (x .value); next = x .next })
+
+-- the segment count and the size of a sound stretch
+pub record Sum : Type 0 where
+  pub segments : ℕ
+  pub size : ℕ
+
+abbrev pub toldChecked : Checked → Outcome Sum
+toldChecked (Sound segments size) = ok (record { segments = segments; size = size })
+toldChecked (Checked.Refused r) = refused (r .number) (r .place)
+
+unfoldable pub checking : List ℕ → Outcome Sum
+checking s = after (stretchOf s) λ t. ok (record { segments = length t; size = size t })

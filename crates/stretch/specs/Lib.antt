@@ -1,0 +1,8 @@
+-- The bytes of a stretch and their meaning, by document 01 ("Bytes of a stretch", "What can be called").
+pub mod Bytes
+pub mod Reading
+pub mod Variants
+pub mod Encoding
+pub mod Writing
+pub mod Places
+pub mod Answers

@@ -1,0 +1,90 @@
+// One variant in the bytes: where its letters stand and whether it is sound. Every walk over a stretch is made of these
+// pieces, so no other crate knows how a length is written.
+use crate::bytes::word;
+use text::Refusal;
+use text::compare::same;
+use text::letter::first_wrong;
+use text::refusal;
+ghost use mathlib.Core.Path.{_≡_};
+ghost use Rattle.text.specs.Refusal.{refused};
+ghost use Rattle.stretch.specs.Variants.{headAt, repeated, soundAt, toldPart};
+
+// Where a variant's letters start, and where the next variant begins, right behind them.
+pub enum Part {
+    At { start: usize, next: usize },
+    Refused(Refusal),
+}
+
+// Refusal 5: the bytes end inside the length at `at`, or before the letters that it states.
+fn cut_off(at: usize) -> Part
+    ensures { λ r. ⌜ toldPart r ≡ refused 5 at ⌝ }
+{
+    Part::Refused(Refusal {
+        number: refusal::BYTES_END,
+        place: at,
+    })
+}
+
+// The variant whose length stands at `at`: refusal 5.
+pub fn head(stretch: &[u8], at: usize) -> Part
+    ensures { λ r. ⌜ toldPart r ≡ headAt (now (stretch .entry)) at ⌝ }
+{
+    let end = stretch.len();
+    if end <= at {
+        return cut_off(at);
+    }
+    if end - at < 2 {
+        return cut_off(at);
+    }
+    let start = at + 2;
+    let letters = word(stretch, at);
+    if end - start < letters {
+        return cut_off(at);
+    }
+    let next = start + letters;
+    Part::At { start, next }
+}
+
+// Whether a variant is equal to one of the k that stand one after another from `first` on. A length or letters that are cut
+// off end the search.
+pub fn repeated(stretch: &[u8], first: usize, k: usize, variant: &[u8]) -> bool
+    ensures { λ r. ⌜ r ≡ repeated (now (stretch .entry)) (now (variant .entry)) k first ⌝ }
+{
+    let mut at = first;
+    let mut i = 0;
+    while i < k {
+        let Part::At { start, next } = head(stretch, at) else {
+            return false;
+        };
+        if same(variant, &stretch[start..next]) {
+            return true;
+        }
+        at = next;
+        i += 1;
+    }
+    false
+}
+
+// The variant at `at`, behind the k of its segment that stand from `first` on: refusals 5, 7 and 8.
+pub fn variant_at(stretch: &[u8], first: usize, k: usize, at: usize) -> Part
+    ensures { λ r. ⌜ toldPart r ≡ soundAt (now (stretch .entry)) first k at ⌝ }
+{
+    let Part::At { start, next } = head(stretch, at) else {
+        return cut_off(at);
+    };
+    let letters = &stretch[start..next];
+    let wrong = first_wrong(letters);
+    if wrong < next - start {
+        return Part::Refused(Refusal {
+            number: refusal::WRONG_LETTER,
+            place: start + wrong,
+        });
+    }
+    if repeated(stretch, first, k, letters) {
+        return Part::Refused(Refusal {
+            number: refusal::REPEATED,
+            place: at,
+        });
+    }
+    Part::At { start, next }
+}
