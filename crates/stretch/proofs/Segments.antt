@@ -8,7 +8,7 @@ use mathlib.Core.List.{List, [], _∷_, _++_}
 use borrow.Author.Tests.{leb-true, le-leb, lt-ltb, le-ltb}
 use lib.ListN.{length, getD}
 use Rattle.text.specs.Letter.{letter, every}
-use Rattle.text.specs.Text.{Variant, Segment, counted, weight}
+use Rattle.text.specs.Text.{Variant, Segment, total, counted, weight}
 use Rattle.text.specs.Compare.{same}
 use Rattle.text.specs.Bits.{anyOf}
 use Rattle.text.specs.Refusal.{ok, refused, after}
@@ -69,56 +69,74 @@ variant-steps s seen at x e =
     rw (r .is) (record { counts = omega (arith, counted-le (length (lettersAt s at))); inside = r .inside })
 
 -- the variants of a segment, walked and summed up
-abbrev pub InSegment : List ℕ → ℕ → ℕ → ℕ → ℕ → Type 0
-InSegment s first k at size = Summed (variantAt s) weight (length s) (variant-steps s) first k at size
+abbrev pub InSegment : List ℕ → ℕ → ℕ → Segment → ℕ → ℕ → Type 0
+InSegment s first k seen at size = Summed (variantAt s) weight (length s) (variant-steps s) first k seen at size
 
-pub in-none : (s : List ℕ) (first : ℕ) → first ≤ length s → InSegment s first 0 first 0
+pub in-none : (s : List ℕ) (first : ℕ) → first ≤ length s → InSegment s first 0 [] first 0
 in-none s first l = summed-none (variantAt s) weight (length s) (variant-steps s) first l
 
-module _ (s : List ℕ) (first k at size : ℕ) (m : InSegment s first k at size) where
-  unit : soundAt s first k at ≡ after (variantAt s (m .seen) at) (λ x. ok (record { start = at + 2; next = x .next }))
-  unit = unit-reads s first k (m .seen) at (m .walk)
+module _ (s : List ℕ) (first k : ℕ) (seen : Segment) (at size : ℕ) (m : InSegment s first k seen at size) where
+  unit : soundAt s first k at ≡ after (variantAt s seen at) (λ x. ok (record { start = at + 2; next = x .next }))
+  unit = unit-reads s first k seen at (m .walk)
 
-  pub in-more : (start next : ℕ) → soundAt s first k at ≡ ok (record { start = start; next = next })
-      → InSegment s first (k + 1) next (size + counted (next - start))
+  pub in-more : (start next more : ℕ) → soundAt s first k at ≡ ok (record { start = start; next = next }) → more ≡ counted (next - start)
+      → InSegment s first (k + 1) (seen ++ (lettersAt s at ∷ [])) next (size + more)
   unfolding weight
-  in-more start next e =
-      let t = told-met (variantAt s (m .seen) at) (λ x. record { start = at + 2; next = x .next }) (record { start = start; next = next }) (sym unit ∙ e) in
-      let r = variant-read s (m .seen) at (t .0) (t .1) in
+  in-more start next more e count =
+      let t = told-met (variantAt s seen at) (λ x. record { start = at + 2; next = x .next }) (record { start = start; next = next }) (sym unit ∙ e) in
+      let r = variant-read s seen at (t .0) (t .1) in
       let starts : at + 2 ≡ start = ap (λ (x : Span). x .start) (t .2) in
-      let ends : t .0 .next ≡ next = ap (λ (x : Span). x .next) (t .2) in
       let same : t .0 .next ≡ behind s at = ap (λ (x : Taken Variant ℕ). x .next) (r .is) in
-      let long : length (t .0 .value) ≡ next - start =
-      ap (λ (x : Taken Variant ℕ). length (x .value)) (r .is)
-      ∙ whole-length s at start next (record { starts = sym starts; ends = sym ends ∙ same; inside = r .inside }) in
-      subst₂ (λ (n z : ℕ). InSegment s first (k + 1) n z) ends (ap (λ (n : ℕ). size + counted n) long)
-      (summed-more (variantAt s) weight (length s) (variant-steps s) first k at size m (t .0) (t .1))
+      let ends : behind s at ≡ next = sym same ∙ ap (λ (x : Span). x .next) (t .2) in
+      let long : length (lettersAt s at) ≡ next - start =
+      whole-length s at start next (record { starts = sym starts; ends = sym ends; inside = r .inside }) in
+      subst₂ (λ (n z : ℕ). InSegment s first (k + 1) (seen ++ (lettersAt s at ∷ [])) n z) ends (ap (λ (n : ℕ). size + counted n) long ∙ ap (λ (n : ℕ). size + n) (sym count))
+      (summed-more (variantAt s) weight (length s) (variant-steps s) first k seen at size m
+      (record { value = lettersAt s at; next = behind s at }) (t .1 ∙ ap ok (r .is)))
 
   pub in-refused : (n : ℕ) → k < n → (j p : ℕ) → soundAt s first k at ≡ refused j p → many (variantAt s) n [] first ≡ refused j p
   in-refused n l j p e =
-      walk-refused (variantAt s) first k (m .seen) at (m .walk) n l j p
-      (told-refused (variantAt s (m .seen) at) (λ x. record { start = at + 2; next = x .next }) j p (sym unit ∙ e))
+      walk-refused (variantAt s) first k seen at (m .walk) n l j p
+      (told-refused (variantAt s seen at) (λ x. record { start = at + 2; next = x .next }) j p (sym unit ∙ e))
 
--- what is told of a segment, from the tests and the walk
+-- what reading a segment answers, from the tests and the walk
 module _ (s : List ℕ) (at : ℕ) where
-  pub segment-cut : length s ≤ at → walkedSegment s at ≡ refused 5 at
-  unfolding walkedSegment segmentAt
+  pub segment-cut : length s ≤ at → segmentAt s at ≡ refused 5 at
+  unfolding segmentAt
   segment-cut l = rw (le-ltb at (length s) l)
 
   module _ (l : at < length s) (count : ℕ) (e : count ≡ getD s at 0) where
-    pub segment-none : count ≡ 0 → walkedSegment s at ≡ refused 6 at
-    unfolding walkedSegment segmentAt
+    pub segment-none : count ≡ 0 → segmentAt s at ≡ refused 6 at
+    unfolding segmentAt
     segment-none z = rw (lt-ltb at (length s) l, ← e, z)
 
     module _ (some : count ≡ 0 → ⊥) where
-      variants : segmentAt s at ≡ many (variantAt s) count [] (at + 1)
+      pub segment-variants : segmentAt s at ≡ many (variantAt s) count [] (at + 1)
       unfolding segmentAt
-      variants = let pos : 0 < count = omega arith in rw (lt-ltb at (length s) l, ← e, lt-ltb 0 count pos)
+      segment-variants = let pos : 0 < count = omega arith in rw (lt-ltb at (length s) l, ← e, lt-ltb 0 count pos)
 
-      pub segment-refused : (j p : ℕ) → many (variantAt s) count [] (at + 1) ≡ refused j p → walkedSegment s at ≡ refused j p
-      unfolding walkedSegment
-      segment-refused j p r = rw (variants, r)
+      pub segment-all : (k : ℕ) (seen : Segment) (next size : ℕ) → InSegment s (at + 1) k seen next size → k ≡ count
+          → segmentAt s at ≡ ok (record { value = seen; next = next })
+      segment-all k seen next size m e = rw (segment-variants, ← e) (m .walk)
 
-      pub segment-done : (k next size : ℕ) → InSegment s (at + 1) k next size → k ≡ count → walkedSegment s at ≡ ok (record { value = size; next = next })
-      unfolding walkedSegment
-      segment-done k next size m e = rw (variants, ← e, m .walk, m .sum)
+-- what is told of a segment
+pub walked-refused : (s : List ℕ) (at j p : ℕ) → segmentAt s at ≡ refused j p → walkedSegment s at ≡ refused j p
+unfolding walkedSegment
+walked-refused s at j p e = rw e
+
+pub walked-done : (s : List ℕ) (at next size : ℕ) (g : Segment) → segmentAt s at ≡ ok (record { value = g; next = next }) → size ≡ total weight g
+    → walkedSegment s at ≡ ok (record { value = size; next = next })
+unfolding walkedSegment
+walked-done s at next size g e sum = rw (e, sum)
+
+-- what was told of a segment
+pub walked-met : (s : List ℕ) (at next size : ℕ) → walkedSegment s at ≡ ok (record { value = size; next = next })
+    → (g : Segment) × (segmentAt s at ≡ ok (record { value = g; next = next })) × (total weight g ≡ size)
+unfolding walkedSegment
+walked-met s at next size e =
+    let t = told-met (segmentAt s at) (λ x. record { value = total weight (x .value); next = x .next }) (record { value = size; next = next }) e in
+    (t .0 .value, t .1 ∙ ap (λ (n : ℕ). ok (record { value = t .0 .value; next = n })) (ap (λ (x : Taken ℕ ℕ). x .next) (t .2)), ap (λ (x : Taken ℕ ℕ). x .value) (t .2))
+
+pub walked-not : (s : List ℕ) (at j p : ℕ) → walkedSegment s at ≡ refused j p → segmentAt s at ≡ refused j p
+unfolding walkedSegment
+walked-not s at j p e = told-refused (segmentAt s at) (λ x. record { value = total weight (x .value); next = x .next }) j p e

@@ -2,17 +2,17 @@
 -- the tests that lead there.
 use Prim.Native.Nat.{ℕ, _+_, _≤_, _<_}
 use native.Mathlib.Omega.{arith}
-use mathlib.Core.Path.{_≡_, ap, _∙_, subst₂}
-use mathlib.Core.List.{List, []}
+use mathlib.Core.Path.{_≡_, ap, _∙_}
+use mathlib.Core.List.{List, [], _∷_, _++_}
 use borrow.Author.Tests.{ltb-true, le-leb, lt-leb, eq-eqb, ne-eqb}
 use lib.Dec.{ltb}
 use lib.ListN.{length, getD}
-use Rattle.text.specs.Text.{Segment, weight, total, size}
+use Rattle.text.specs.Text.{Segment, Text, weight, total, size}
 use Rattle.text.specs.Refusal.{ok, refused}
-use Rattle.text.proofs.Outcomes.{demand-met, told-met, told-refused}
+use Rattle.text.proofs.Outcomes.{demand-met}
 use Rattle.stretch.specs.Bytes.{greatestStretch, word}
 use Rattle.stretch.specs.Reading.{Taken, variantAt, many, segmentAt, stretchOf, mostInStretch}
-use Rattle.stretch.specs.Answers.{walkedSegment, checking}
+use Rattle.stretch.specs.Answers.{checking}
 use Rattle.stretch.proofs.Walks.{Step, walk-refused, walk-length, Summed, summed-none, summed-more, many-steps}
 use Rattle.stretch.proofs.Segments.{variant-steps}
 
@@ -27,61 +27,64 @@ segment-steps s seen at x e =
     record { counts = omega (arith, m .0); inside = m .1 }
 
 -- the segments of a stretch, walked and summed up
-abbrev pub InStretch : List ℕ → ℕ → ℕ → ℕ → Type 0
-InStretch s k at size = Summed (λ _. segmentAt s) (total weight) (length s) (segment-steps s) 2 k at size
+abbrev pub InStretch : List ℕ → ℕ → Text → ℕ → ℕ → Type 0
+InStretch s k seen at size = Summed (λ _. segmentAt s) (total weight) (length s) (segment-steps s) 2 k seen at size
 
-pub through-none : (s : List ℕ) → 2 ≤ length s → InStretch s 0 2 0
+pub through-none : (s : List ℕ) → 2 ≤ length s → InStretch s 0 [] 2 0
 through-none s l = summed-none (λ _. segmentAt s) (total weight) (length s) (segment-steps s) 2 l
 
-module _ (s : List ℕ) (k at size : ℕ) (m : InStretch s k at size) where
-  pub through-more : (more next : ℕ) → walkedSegment s at ≡ ok (record { value = more; next = next }) → InStretch s (k + 1) next (size + more)
-  unfolding walkedSegment
-  through-more more next e =
-      let t = told-met (segmentAt s at) (λ x. record { value = total weight (x .value); next = x .next }) (record { value = more; next = next }) e in
-      subst₂ (λ (n z : ℕ). InStretch s (k + 1) n (size + z)) (ap (λ (x : Taken ℕ ℕ). x .next) (t .2)) (ap (λ (x : Taken ℕ ℕ). x .value) (t .2))
-      (summed-more (λ _. segmentAt s) (total weight) (length s) (segment-steps s) 2 k at size m (t .0) (t .1))
+module _ (s : List ℕ) (k : ℕ) (seen : Text) (at size : ℕ) (m : InStretch s k seen at size) where
+  pub through-more : (g : Segment) (next more : ℕ) → segmentAt s at ≡ ok (record { value = g; next = next }) → total weight g ≡ more
+      → InStretch s (k + 1) (seen ++ (g ∷ [])) next (size + more)
+  through-more g next more e sum =
+      rw (← sum) (summed-more (λ _. segmentAt s) (total weight) (length s) (segment-steps s) 2 k seen at size m (record { value = g; next = next }) e)
 
-  pub through-refused : (n : ℕ) → k < n → (j p : ℕ) → walkedSegment s at ≡ refused j p → many (λ _. segmentAt s) n [] 2 ≡ refused j p
-  unfolding walkedSegment
-  through-refused n l j p e =
-      walk-refused (λ _. segmentAt s) 2 k (m .seen) at (m .walk) n l j p
-      (told-refused (segmentAt s at) (λ x. record { value = total weight (x .value); next = x .next }) j p e)
+  pub through-refused : (n : ℕ) → k < n → (j p : ℕ) → segmentAt s at ≡ refused j p → many (λ _. segmentAt s) n [] 2 ≡ refused j p
+  through-refused n l j p e = walk-refused (λ _. segmentAt s) 2 k seen at (m .walk) n l j p e
 
--- what a check tells, from the tests and the walk
+-- what reading a stretch answers, from the tests and the walk
 module _ (s : List ℕ) where
-  pub check-long : greatestStretch < length s → checking s ≡ refused 4 0
-  unfolding checking stretchOf
-  check-long l = rw (lt-leb (length s) greatestStretch l)
+  pub stretch-long : greatestStretch < length s → stretchOf s ≡ refused 4 0
+  unfolding stretchOf
+  stretch-long l = rw (lt-leb (length s) greatestStretch l)
 
   module _ (short : length s ≤ greatestStretch) where
-    pub check-cut : length s < 2 → checking s ≡ refused 5 0
-    unfolding checking stretchOf
-    check-cut l = rw (le-leb (length s) greatestStretch short, lt-leb 2 (length s) l)
+    pub stretch-cut : length s < 2 → stretchOf s ≡ refused 5 0
+    unfolding stretchOf
+    stretch-cut l = rw (le-leb (length s) greatestStretch short, lt-leb 2 (length s) l)
 
     module _ (some : 2 ≤ length s) (n : ℕ) (e : n ≡ word s 0) where
-      pub check-refused : (j p : ℕ) → many (λ _. segmentAt s) n [] 2 ≡ refused j p → checking s ≡ refused j p
-      unfolding checking stretchOf
-      check-refused j p r = rw (le-leb (length s) greatestStretch short, le-leb 2 (length s) some, ← e, r)
+      pub stretch-refused : (j p : ℕ) → many (λ _. segmentAt s) n [] 2 ≡ refused j p → stretchOf s ≡ refused j p
+      unfolding stretchOf
+      stretch-refused j p r = rw (le-leb (length s) greatestStretch short, le-leb 2 (length s) some, ← e, r)
 
-      module _ (k at sum : ℕ) (m : InStretch s k at sum) (done : k ≡ n) where
-        all : many (λ _. segmentAt s) n [] 2 ≡ ok (record { value = m .seen; next = at })
+      module _ (k : ℕ) (seen : Text) (at sum : ℕ) (m : InStretch s k seen at sum) (done : k ≡ n) where
+        all : many (λ _. segmentAt s) n [] 2 ≡ ok (record { value = seen; next = at })
         all = rw (← done) (m .walk)
 
-        pub check-left : (at ≡ length s → ⊥) → checking s ≡ refused 9 at
-        unfolding checking stretchOf
-        check-left l = rw (le-leb (length s) greatestStretch short, le-leb 2 (length s) some, ← e, all, ne-eqb at (length s) l)
+        pub stretch-count : length seen ≡ n
+        stretch-count = walk-length (λ _. segmentAt s) 2 k seen at (m .walk) ∙ done
+
+        pub stretch-left : (at ≡ length s → ⊥) → stretchOf s ≡ refused 9 at
+        unfolding stretchOf
+        stretch-left l = rw (le-leb (length s) greatestStretch short, le-leb 2 (length s) some, ← e, all, ne-eqb at (length s) l)
 
         module _ (end : at ≡ length s) where
-          count : length (m .seen) ≡ n
-          count = walk-length (λ _. segmentAt s) 2 k (m .seen) at (m .walk) ∙ done
+          pub stretch-many : mostInStretch < n → stretchOf s ≡ refused 16 0
+          unfolding stretchOf
+          stretch-many l =
+              rw (le-leb (length s) greatestStretch short, le-leb 2 (length s) some, ← e, all, eq-eqb at (length s) end, stretch-count, lt-leb n mostInStretch l)
 
-          pub check-many : mostInStretch < n → checking s ≡ refused 16 0
-          unfolding checking stretchOf
-          check-many l =
-              rw (le-leb (length s) greatestStretch short, le-leb 2 (length s) some, ← e, all, eq-eqb at (length s) end, count, lt-leb n mostInStretch l)
+          pub stretch-sound : n ≤ mostInStretch → stretchOf s ≡ ok seen
+          unfolding stretchOf
+          stretch-sound l =
+              rw (le-leb (length s) greatestStretch short, le-leb 2 (length s) some, ← e, all, eq-eqb at (length s) end, stretch-count, le-leb n mostInStretch l)
 
-          pub check-sound : n ≤ mostInStretch → checking s ≡ ok (record { segments = n; size = sum })
-          unfolding checking stretchOf size
-          check-sound l =
-              rw (le-leb (length s) greatestStretch short, le-leb 2 (length s) some, ← e, all, eq-eqb at (length s) end, count, le-leb n mostInStretch l, m .sum)
-              (ap (λ (j : ℕ). ok (record { segments = j; size = total (total weight) (m .seen) })) count)
+-- what a check tells
+pub check-refused : (s : List ℕ) (j p : ℕ) → stretchOf s ≡ refused j p → checking s ≡ refused j p
+unfolding checking
+check-refused s j p e = rw e
+
+pub check-sound : (s : List ℕ) (t : Text) (n sum : ℕ) → stretchOf s ≡ ok t → length t ≡ n → sum ≡ total (total weight) t → checking s ≡ ok (record { segments = n; size = sum })
+unfolding checking size
+check-sound s t n sum e count whole = rw (e, whole) (ap (λ (j : ℕ). ok (record { segments = j; size = total (total weight) t })) count)

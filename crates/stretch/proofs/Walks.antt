@@ -75,25 +75,23 @@ module _ {A : Type 0} (f : List A → ℕ → Outcome (Taken A ℕ)) (w : A → 
       (omega (arith, m .0, s .counts, total-snoc w seen (t .0 .value)), m .1)
 
   -- a walk that sums up what it has seen
-  pub record Summed (start k at size : ℕ) : Type 0 where
-    pub seen : List A
+  pub record Summed (start k : ℕ) (seen : List A) (at size : ℕ) : Type 0 where
     pub walk : Walk f start k seen at
     pub sum : size ≡ total w seen
     pub small : size + start ≤ at
     pub inside : at ≤ L
 
-  pub summed-none : (start : ℕ) → start ≤ L → Summed start 0 start 0
+  pub summed-none : (start : ℕ) → start ≤ L → Summed start 0 [] start 0
   unfolding total
-  summed-none start l = record { seen = []; walk = walk-none f start; sum = refl; small = omega arith; inside = l }
+  summed-none start l = record { walk = walk-none f start; sum = refl; small = omega arith; inside = l }
 
-  pub summed-more : (start k at size : ℕ) (m : Summed start k at size) (x : Taken A ℕ) → f (m .seen) at ≡ ok x
-      → Summed start (k + 1) (x .next) (size + w (x .value))
-  summed-more start k at size m x e =
-      let s = steps (m .seen) at x e in
+  pub summed-more : (start k : ℕ) (seen : List A) (at size : ℕ) → Summed start k seen at size → (x : Taken A ℕ) → f seen at ≡ ok x
+      → Summed start (k + 1) (seen ++ (x .value ∷ [])) (x .next) (size + w (x .value))
+  summed-more start k seen at size m x e =
+      let s = steps seen at x e in
       record {
-        seen = m .seen ++ (x .value ∷ []);
-        walk = walk-more f start k (m .seen) at (m .walk) x e;
-        sum = ap (λ (n : ℕ). n + w (x .value)) (m .sum) ∙ sym (total-snoc w (m .seen) (x .value));
+        walk = walk-more f start k seen at (m .walk) x e;
+        sum = ap (λ (n : ℕ). n + w (x .value)) (m .sum) ∙ sym (total-snoc w seen (x .value));
         small = omega (arith, m .small, s .counts);
         inside = s .inside;
       }

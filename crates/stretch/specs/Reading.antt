@@ -69,6 +69,10 @@ stretchOf s =
     (demand (leb (length t) mostInStretch) 16 0
     (ok t)))))
 
+-- the segment that a lone segment encodes, its length apart
+unfoldable pub loneSegment : List ℕ → Outcome Segment
+loneSegment s = after (segmentAt s 0) (whole s)
+
 -- the segment that a lone segment encodes
 unfoldable pub segmentOf : List ℕ → Outcome Segment
-segmentOf s = fits s (after (segmentAt s 0) (whole s))
+segmentOf s = fits s (loneSegment s)

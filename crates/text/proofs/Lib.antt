@@ -8,7 +8,9 @@ pub mod Patterns
 pub mod Sizes
 pub mod Bits
 pub mod Strings
+pub mod Snoc
 pub mod Steps
+pub mod Scan
 pub mod Runs
 pub mod Marks
 pub mod Occurrences
@@ -17,3 +19,4 @@ pub mod Rows
 pub mod Linear
 pub mod Cards
 pub mod TextCards
+pub mod Folds

@@ -63,6 +63,9 @@ pub record Carries (P : List ℕ) (st q : ℕ) : Type 0 where
   pub short : q < length P
   pub carried : bit st q ≡ true
 
+pub front-length : (P : List ℕ) {st : ℕ} (q : ℕ) → Carries P st q → length (take q P) ≡ q
+front-length P q c = length-take-le q P (let z : q ≤ length P = omega (arith, c .short) in z)
+
 -- what a state brings about, as a relation: A by a fresh start, or B q by a carried q
 pub data From (P : List ℕ) (st : ℕ) (A : Type 0) (B : ℕ → Type 0) : Type 0 where
   afresh : bit st 0 ≡ true → A → From P st A B

@@ -101,3 +101,7 @@ pub anyOf-snoc : {A : Type 0} (f : A → Bool) (l : List A) (a : A) → anyOf f 
 unfolding anyOf
 anyOf-snoc f [] a = or-false (f a)
 anyOf-snoc f (b ∷ l) a = rw (anyOf-snoc f l a) (sym (or-assoc (f b) (anyOf f l) (f a)))
+
+pub or-self : (a : Bool) → (a || a) ≡ a
+or-self true = refl
+or-self false = refl

@@ -6,27 +6,30 @@ use native.Mathlib.Omega.{arith}
 use mathlib.Core.Path.{sym, ap, _∙_}
 use Rattle.stretch.specs.Answers.{toldWalked}
 use Rattle.stretch.proofs.Stretches.{InStretch, through-none, through-more, through-refused}
-use Rattle.stretch.proofs.Stretches.{check-long, check-cut, check-refused, check-left, check-many, check-sound}
+use Rattle.stretch.proofs.Stretches.{stretch-long, stretch-cut, stretch-refused, stretch-left, stretch-many, stretch-sound, stretch-count, check-refused, check-sound}
+use Rattle.stretch.proofs.Segments.{walked-met, walked-not}
+use Rattle.text.specs.Text.{Text}
+use mathlib.Core.List.{[]}
 use Rattle.stretch.proofs.checking.check.Statement.{statement}
 use Rattle.stretch.proofs.checking.check.Tie as tie
 
 abbrev Inv-loop : tie.InvT-loop
-Inv-loop stretch end segments at₀ size₀ k₀ at size k = InStretch stretch k at size × (k ≤ segments)
+Inv-loop stretch end segments at₀ size₀ k₀ at size k = (seen : Text) × InStretch stretch k seen at size × (k ≤ segments)
 
 abbrev μ-loop : tie.MeasureT-loop
 μ-loop stretch end segments at₀ size₀ k₀ at size k = segments - k
 
 returns : tie.Need-returns Inv-loop μ-loop
-returns c = sym (check-long _ (c .if1 .taken))
+returns c = sym (check-refused _ _ _ (stretch-long _ (c .if1 .taken)))
 
 returns-2 : tie.Need-returns-2 Inv-loop μ-loop
-returns-2 c = sym (check-cut _ (c .before .if1 .left) (c .if2 .taken))
+returns-2 c = sym (check-refused _ _ _ (stretch-cut _ (c .before .if1 .left) (c .if2 .taken)))
 
 word-requires : tie.Need-word-requires Inv-loop μ-loop
 word-requires c κs = search needs
 
 loop-holds : tie.Need-loop-holds Inv-loop μ-loop
-loop-holds c = (through-none _ (c .before .if2 .left), omega arith)
+loop-holds c = ([], through-none _ (c .before .if2 .left), omega arith)
 
 segment-at-requires : tie.Need-segment-at-requires Inv-loop μ-loop
 segment-at-requires c κs = search needs
@@ -38,10 +41,10 @@ returns-3 : tie.Need-returns-3 Inv-loop μ-loop
 returns-3 c =
     let d = c .before .before .before in
     let a = d .before .before in
-    let wrong = sym (d .segment-at .ensures) ∙ ap toldWalked (c .before .refused .given .1) in
-    let all = through-refused _ _ _ _ (a .loop .inv .0) _ (d .before .loop-test .taken) _ _ wrong in
+    let wrong = walked-not _ _ _ _ (sym (d .segment-at .ensures) ∙ ap toldWalked (c .before .refused .given .1)) in
+    let all = through-refused _ _ _ _ _ (a .loop .inv .1) _ (d .before .loop-test .taken) _ _ wrong in
     let e = a .before in
-    sym (check-refused _ (e .before .before .if1 .left) (e .before .if2 .left) _ (e .word .ensures) _ _ all)
+    sym (check-refused _ _ _ (stretch-refused _ (e .before .before .if1 .left) (e .before .if2 .left) _ (e .word .ensures) _ _ all))
 
 enum-known-next : tie.Need-enum-known-next Inv-loop μ-loop
 enum-known-next c = search needs
@@ -49,11 +52,11 @@ enum-known-next c = search needs
 loop-again : tie.Need-loop-again Inv-loop μ-loop
 loop-again c =
     let d = c .before .before .before in
-    let sound = sym (d .segment-at .ensures) ∙ ap toldWalked (c .before .next .given .1) in
-    (through-more _ _ _ _ (d .before .before .loop .inv .0) _ _ sound, omega arith)
+    let g = walked-met _ _ _ _ (sym (d .segment-at .ensures) ∙ ap toldWalked (c .before .next .given .1)) in
+    (_, through-more _ _ _ _ _ (d .before .before .loop .inv .1) _ _ _ (g .1) (g .2), omega arith)
 
 add-size : tie.Need-add-size Inv-loop μ-loop
-add-size c = let m = loop-again c .0 in omega (arith, m .small, m .inside)
+add-size c = let m = loop-again c .1 in omega (arith, m .small, m .inside)
 
 add-k : tie.Need-add-k Inv-loop μ-loop
 add-k c = search needs
@@ -66,23 +69,27 @@ returns-4 c =
     let a = c .before .before in
     let e = a .before in
     sym
-    (check-left _ (e .before .before .if1 .left) (e .before .if2 .left) _ (e .word .ensures) _ _ _ (a .loop .inv .0) (omega arith) (c .if3 .taken))
+    (check-refused _ _ _
+    (stretch-left _ (e .before .before .if1 .left) (e .before .if2 .left) _ (e .word .ensures) _ _ _ _ (a .loop .inv .1) (omega arith) (c .if3 .taken)))
 
 returns-5 : tie.Need-returns-5 Inv-loop μ-loop
 returns-5 c =
     let a = c .before .before .before in
     let e = a .before in
     sym
-    (check-many _ (e .before .before .if1 .left) (e .before .if2 .left) _ (e .word .ensures) _ _ _ (a .loop .inv .0) (omega arith)
-    (c .before .if3 .left) (c .if4 .taken))
+    (check-refused _ _ _
+    (stretch-many _ (e .before .before .if1 .left) (e .before .if2 .left) _ (e .word .ensures) _ _ _ _ (a .loop .inv .1) (omega arith)
+    (c .before .if3 .left) (c .if4 .taken)))
 
 returns-6 : tie.Need-returns-6 Inv-loop μ-loop
 returns-6 c =
     let a = c .before .before .before in
     let e = a .before in
-    sym
-    (check-sound _ (e .before .before .if1 .left) (e .before .if2 .left) _ (e .word .ensures) _ _ _ (a .loop .inv .0) (omega arith)
-    (c .before .if3 .left) (c .if4 .left))
+    let m = a .loop .inv .1 in
+    let short = e .before .before .if1 .left in
+    let some = e .before .if2 .left in
+    let sound = stretch-sound _ short some _ (e .word .ensures) _ _ _ _ m (omega arith) (c .before .if3 .left) (c .if4 .left) in
+    sym (check-sound _ _ _ _ sound (stretch-count _ short some _ (e .word .ensures) _ _ _ _ m (omega arith)) (m .sum))
 
 pub check-spec : {M : Type 1} → statement M
 check-spec =

@@ -4,21 +4,22 @@ use Prim.Native.Nat.{_-_, _≤_}
 use borrow.Author.Needs.{needs}
 use native.Mathlib.Omega.{arith}
 use mathlib.Core.Path.{sym, ap, _∙_}
-use Rattle.text.specs.Text.{counted}
+use mathlib.Core.List.{[]}
+use Rattle.text.specs.Text.{Segment, counted}
 use Rattle.stretch.specs.Variants.{toldPart}
 use Rattle.stretch.proofs.Units.{sound-whole}
-use Rattle.stretch.proofs.Segments.{InSegment, in-none, in-more, in-refused, segment-cut, segment-none, segment-refused, segment-done}
+use Rattle.stretch.proofs.Segments.{InSegment, in-none, in-more, in-refused, segment-cut, segment-none, segment-variants, segment-all, walked-refused, walked-done}
 use Rattle.stretch.proofs.segment.segment_at.Statement.{statement}
 use Rattle.stretch.proofs.segment.segment_at.Tie as tie
 
 abbrev Inv-loop : tie.InvT-loop
-Inv-loop stretch at count first next₀ size₀ k₀ next size k = InSegment stretch first k next size × (k ≤ count)
+Inv-loop stretch at count first next₀ size₀ k₀ next size k = (seen : Segment) × InSegment stretch first k seen next size × (k ≤ count)
 
 abbrev μ-loop : tie.MeasureT-loop
 μ-loop stretch at count first next₀ size₀ k₀ next size k = count - k
 
 returns : tie.Need-returns Inv-loop μ-loop
-returns c = sym (segment-cut _ _ (c .if1 .taken))
+returns c = sym (walked-refused _ _ _ _ (segment-cut _ _ (c .if1 .taken)))
 
 shared-slice-read-wide : tie.Need-shared-slice-read-wide Inv-loop μ-loop
 shared-slice-read-wide c = search needs
@@ -29,13 +30,13 @@ wide-requires c κs = search needs
 returns-2 : tie.Need-returns-2 Inv-loop μ-loop
 returns-2 c =
     let d = c .before in
-    sym (segment-none _ _ (d .before .before .if1 .left) _ (d .wide .ensures .0) (c .if2 .taken))
+    sym (walked-refused _ _ _ _ (segment-none _ _ (d .before .before .if1 .left) _ (d .wide .ensures .0) (c .if2 .taken)))
 
 add-first : tie.Need-add-first Inv-loop μ-loop
 add-first c = search needs
 
 loop-holds : tie.Need-loop-holds Inv-loop μ-loop
-loop-holds c = (in-none _ _ (omega arith), omega arith)
+loop-holds c = ([], in-none _ _ (omega arith), omega arith)
 
 variant-at-requires : tie.Need-variant-at-requires Inv-loop μ-loop
 variant-at-requires c κs = search needs
@@ -48,9 +49,9 @@ returns-3 c =
     let d = c .before .before .before in
     let a = d .before .before in
     let wrong = sym (d .variant-at .ensures) ∙ ap toldPart (c .before .refused .given .1) in
-    let all = in-refused _ _ _ _ _ (a .loop .inv .0) _ (d .before .loop-test .taken) _ _ wrong in
+    let all = in-refused _ _ _ _ _ _ (a .loop .inv .1) _ (d .before .loop-test .taken) _ _ wrong in
     let e = a .before .before in
-    sym (segment-refused _ _ (e .before .before .if1 .left) _ (e .wide .ensures .0) (a .before .if2 .left) _ _ all)
+    sym (walked-refused _ _ _ _ (segment-variants _ _ (e .before .before .if1 .left) _ (e .wide .ensures .0) (a .before .if2 .left) ∙ all))
 
 enum-known-start : tie.Need-enum-known-start Inv-loop μ-loop
 enum-known-start c = search needs
@@ -67,10 +68,10 @@ loop-again : tie.Need-loop-again Inv-loop μ-loop
 loop-again c =
     let d = c .before .before .before .before in
     let sound = sym (d .variant-at .ensures) ∙ ap toldPart (c .before .before .start .given .1) in
-    (rw (c .counted .ensures) (in-more _ _ _ _ _ (d .before .before .loop .inv .0) _ _ sound), omega arith)
+    (_, in-more _ _ _ _ _ _ (d .before .before .loop .inv .1) _ _ _ sound (c .counted .ensures), omega arith)
 
 add-size : tie.Need-add-size Inv-loop μ-loop
-add-size c = let m = loop-again c .0 in omega (arith, m .small, m .inside)
+add-size c = let m = loop-again c .1 in omega (arith, m .small, m .inside)
 
 add-k : tie.Need-add-k Inv-loop μ-loop
 add-k c = search needs
@@ -82,8 +83,9 @@ returns-4 : tie.Need-returns-4 Inv-loop μ-loop
 returns-4 c =
     let a = c .before in
     let e = a .before .before in
-    sym
-    (segment-done _ _ (e .before .before .if1 .left) _ (e .wide .ensures .0) (a .before .if2 .left) _ _ _ (a .loop .inv .0) (omega arith))
+    let all =
+    segment-all _ _ (e .before .before .if1 .left) _ (e .wide .ensures .0) (a .before .if2 .left) _ _ _ _ (a .loop .inv .1) (omega arith) in
+    sym (walked-done _ _ _ _ _ all (a .loop .inv .1 .sum))
 
 pub segment-at-spec : {M : Type 1} → statement M
 segment-at-spec =

@@ -1,0 +1,2 @@
+// States and the two searches.
+mod step;
