@@ -1,18 +1,26 @@
 -- What a search and a feed answer, in document 01's numbers and values, and what they leave in lent slices.
 use Prim.Native.Nat.{ℕ}
+use mathlib.Core.Path.{_≡_}
 use mathlib.Core.Bool.{Bool}
 use mathlib.Core.List.{List}
 use lib.Dec.{leb}
-use lib.ListN.{length}
+use lib.ListN.{length, take}
 use Rattle.text.specs.Text.{Text, total, size}
 use Rattle.text.specs.State.{isState, next, ends, marks}
 use Rattle.text.specs.Refusal.{Outcome, ok, refused, demand, after, pattern}
 use Rattle.stretch.specs.Bytes.{over}
 use Rattle.stretch.specs.Reading.{fits, loneSegment, stretchOf}
+use Rattle.search.specs.declared.state.Fed.{Fed}
+use Rattle.search.specs.declared.walk.Searched.{Searched}
+use Rattle.search.specs.declared.walk.Searched.the-variants.{Marked}
 
--- a search with room for so many marks: the text to be marked
+-- a stretch whose marks go into a buffer of so many bytes
+unfoldable pub stretchInto : List ℕ → ℕ → Outcome Text
+stretchInto s room = after (stretchOf s) λ t. demand (leb (length t) room) 10 0 (ok t)
+
+-- a search: 1, 2, 3, those of the stretch, then 10
 unfoldable pub searching : List ℕ → List ℕ → ℕ → Outcome Text
-searching P s room = pattern P (after (stretchOf s) λ t. demand (leb (length t) room) 10 0 (ok t))
+searching P s room = pattern P (stretchInto s room)
 
 -- what a search tells of a text: its segment count, its size, and the number of ones among its marks
 pub record Sums : Type 0 where
@@ -22,6 +30,14 @@ pub record Sums : Type 0 where
 
 unfoldable pub sumsOf : List ℕ → Text → Sums
 sumsOf P t = record { segments = length t; size = size t; ends = total (λ x. x) (marks P t) }
+
+abbrev pub toldSearched : Searched → Outcome Sums
+toldSearched (Marked segments size ends) = ok (record { segments = segments; size = size; ends = ends })
+toldSearched (Searched.Refused r) = refused (r .number) (r .place)
+
+-- a buffer that holds the marks of an accepted text in front; after a refusal it may hold anything
+abbrev pub Marks : List ℕ → Outcome Text → List ℕ → Type 0
+Marks P o buffer = (t : Text) → o ≡ ok t → take (length t) buffer ≡ marks P t
 
 -- what a call leaves in a lent slice: something where it accepts, the slice as it was where it refuses
 abbrev pub leftBy : {A : Type 0} → (A → List ℕ → List ℕ) → Outcome A → List ℕ → List ℕ
@@ -45,3 +61,7 @@ feeding P st s =
     (demand (isState (length P) st) 17 0
     (after (loneSegment s) λ g.
     (ok (record { state = next P st g; ends = ends P st g })))))
+
+abbrev pub toldFed : Fed → Outcome Next
+toldFed (Fed.Next state ends) = ok (record { state = state .bits; ends = ends })
+toldFed (Fed.Refused r) = refused (r .number) (r .place)

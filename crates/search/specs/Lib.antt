@@ -1,3 +1,6 @@
--- Searching and feeding: what the calls answer, and what one variant's step is.
+-- Searching and feeding: what the calls answer, what one variant's step is, and what a state carries.
 pub mod Step
+pub mod Masks
+pub mod Method
 pub mod Answers
+pub mod Carried

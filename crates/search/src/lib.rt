@@ -1,2 +1,14 @@
-// States and the two searches.
+// States, and the search of a pattern in a stretch by two methods.
+mod bits;
+mod masks;
+mod method;
+mod searching;
+mod state;
 mod step;
+mod walk;
+
+pub use searching::by_bits;
+pub use state::Carried;
+pub use state::Fed;
+pub use state::State;
+pub use walk::Searched;

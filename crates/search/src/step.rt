@@ -1,7 +1,20 @@
-// One variant's step: what every method answers.
+// Steps over a variant and over a segment: what every method answers.
+use text::Refusal;
 
 // The state that one variant leads to, and whether an occurrence ends in it.
 pub struct Stepped {
     pub bits: u64,
     pub ends: bool,
+}
+
+// How far a step has come in the bytes: the place behind what it passed, its size, the state there, and whether an occurrence
+// ends in it.
+pub enum Passed {
+    To {
+        next: usize,
+        size: usize,
+        bits: u64,
+        ends: bool,
+    },
+    Refused(Refusal),
 }

@@ -5,3 +5,14 @@ pub mod Walks
 pub mod Units
 pub mod Segments
 pub mod Stretches
+pub mod Overs
+pub mod Stands
+pub mod Rows
+pub mod Lengths
+pub mod Decoding
+pub mod Encoding
+pub mod Refusals
+pub mod Skips
+pub mod Places
+pub mod Readings
+pub mod ReadingOn

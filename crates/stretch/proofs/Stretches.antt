@@ -2,19 +2,20 @@
 -- the tests that lead there.
 use Prim.Native.Nat.{ℕ, _+_, _≤_, _<_}
 use native.Mathlib.Omega.{arith}
-use mathlib.Core.Path.{_≡_, ap, _∙_}
+use mathlib.Core.Path.{_≡_, ap, subst, _∙_}
 use mathlib.Core.List.{List, [], _∷_, _++_}
-use borrow.Author.Tests.{ltb-true, le-leb, lt-leb, eq-eqb, ne-eqb}
-use lib.Dec.{ltb}
+use borrow.Author.Tests.{ltb-true, leb-true, le-leb, lt-leb, eq-eqb, ne-eqb}
+use lib.Dec.{leb, ltb}
 use lib.ListN.{length, getD}
-use Rattle.text.specs.Text.{Segment, Text, weight, total, size}
+use Rattle.text.specs.Text.{Variant, Segment, Text, weight, total, size}
 use Rattle.text.specs.Refusal.{ok, refused}
-use Rattle.text.proofs.Outcomes.{demand-met}
+use Rattle.text.proofs.Sizes.{total-each}
+use Rattle.text.proofs.Outcomes.{ok-inj, demand-met, after-met}
 use Rattle.stretch.specs.Bytes.{greatestStretch, word}
-use Rattle.stretch.specs.Reading.{Taken, variantAt, many, segmentAt, stretchOf, mostInStretch}
+use Rattle.stretch.specs.Reading.{Taken, variantAt, many, segmentAt, whole, stretchOf, mostInStretch}
 use Rattle.stretch.specs.Answers.{checking}
-use Rattle.stretch.proofs.Walks.{Step, walk-refused, walk-length, Summed, summed-none, summed-more, many-steps}
-use Rattle.stretch.proofs.Segments.{variant-steps}
+use Rattle.stretch.proofs.Walks.{Step, walk-refused, walk-length, Summed, summed-none, summed-more, many-steps, many-length}
+use Rattle.stretch.proofs.Segments.{variant-read, variant-steps}
 
 -- a segment counts no more than its bytes
 pub segment-steps : (s : List ℕ) (seen : List Segment) (at : ℕ) (x : Taken Segment ℕ) → segmentAt s at ≡ ok x → Step (total weight) (length s) at x
@@ -88,3 +89,28 @@ check-refused s j p e = rw e
 pub check-sound : (s : List ℕ) (t : Text) (n sum : ℕ) → stretchOf s ≡ ok t → length t ≡ n → sum ≡ total (total weight) t → checking s ≡ ok (record { segments = n; size = sum })
 unfolding checking size
 check-sound s t n sum e count whole = rw (e, whole) (ap (λ (j : ℕ). ok (record { segments = j; size = total (total weight) t })) count)
+
+-- a segment takes at least three bytes
+pub segment-bytes : (s : List ℕ) (at : ℕ) (x : Taken Segment ℕ) → segmentAt s at ≡ ok x → at + 3 ≤ x .next
+unfolding segmentAt total
+segment-bytes s at x e =
+    let a = demand-met (ltb at (length s)) 5 at _ x e in
+    let b = demand-met (ltb 0 (getD s at 0)) 6 at _ x (a .1) in
+    let some : 0 < getD s at 0 = ltb-true 0 (getD s at 0) (b .0) in
+    let inside : at < length s = ltb-true at (length s) (a .0) in
+    let m = many-steps (variantAt s) (λ v. 2) (length s) two (getD s at 0) [] (at + 1) x (omega arith) (b .1) in
+    omega (arith, m .0, total-each 2 (x .value), many-length (variantAt s) (getD s at 0) [] (at + 1) x (b .1))
+  where
+    two : (seen : Segment) (at : ℕ) (x : Taken Variant ℕ) → variantAt s seen at ≡ ok x → Step (λ v. 2) (length s) at x
+    two seen at x e = let r = variant-read s seen at x e in rw (r .is) (record { counts = omega arith; inside = r .inside })
+
+-- an accepted stretch has at most 10,922 segments
+pub stretch-most : (s : List ℕ) (t : Text) → stretchOf s ≡ ok t → length t ≤ mostInStretch
+unfolding stretchOf
+stretch-most s t e =
+    let a = demand-met (leb (length s) greatestStretch) 4 0 _ t e in
+    let b = demand-met (leb 2 (length s)) 5 0 _ t (a .1) in
+    let c = after-met (many (λ _. segmentAt s) (word s 0) [] 2) _ t (b .1) in
+    let d = after-met (whole s (c .0)) _ t (c .2) in
+    let f = demand-met (leb (length (d .0)) mostInStretch) 16 0 _ t (d .2) in
+    subst (λ (u : Text). length u ≤ mostInStretch) (ok-inj (f .1)) (leb-true (length (d .0)) mostInStretch (f .0))

@@ -14,9 +14,12 @@ use Rattle.stretch.specs.Reading.{lettersAt, behind}
 use Rattle.stretch.specs.Variants.{headAt, repeated, soundAt}
 use Rattle.stretch.proofs.Heads.{Whole, head-cut, head-found, head-is, whole-part, whole-length}
 
-pub sound-cut : (s : List ℕ) (first k at : ℕ) → length s < behind s at → soundAt s first k at ≡ refused 5 at
+pub sound-refused : (s : List ℕ) (first k at n p : ℕ) → headAt s at ≡ refused n p → soundAt s first k at ≡ refused n p
 unfolding soundAt
-sound-cut s first k at l = rw (head-cut s at l)
+sound-refused s first k at n p e = rw e
+
+pub sound-cut : (s : List ℕ) (first k at : ℕ) → length s < behind s at → soundAt s first k at ≡ refused 5 at
+sound-cut s first k at l = sound-refused s first k at 5 at (head-cut s at l)
 
 -- a sound variant is whole
 pub sound-whole : (s : List ℕ) (first k at start next : ℕ) → soundAt s first k at ≡ ok (record { start = start; next = next }) → Whole s at start next

@@ -1,14 +1,20 @@
 -- What the answers of the calls say, in document 01's numbers and values, and what they are to say.
-use Prim.Native.Nat.{ℕ}
+use Prim.Native.Nat.{ℕ, _+_}
+use mathlib.Core.Path.{_≡_}
 use mathlib.Core.List.{List}
 use lib.ListN.{length}
-use Rattle.text.specs.Text.{total, weight, size}
+use Rattle.text.specs.Text.{Text, total, weight, size}
 use Rattle.text.specs.Refusal.{Outcome, ok, refused, after}
 use Rattle.stretch.specs.Reading.{Taken, segmentAt, stretchOf}
+use Rattle.stretch.specs.Bytes.{word}
+use Rattle.stretch.specs.Places.{found, end, Reading}
+use Rattle.stretch.specs.Skips.{behindVariants}
 use Rattle.stretch.specs.declared.segment.Walked.{Walked}
 use Rattle.stretch.specs.declared.segment.Walked.the-variants.{To}
 use Rattle.stretch.specs.declared.checking.Checked.{Checked}
 use Rattle.stretch.specs.declared.checking.Checked.the-variants.{Sound}
+use Rattle.stretch.specs.declared.reading.Got.{Got}
+use Rattle.stretch.specs.declared.reading.Got.the-variants.{End}
 
 -- how far a walk over a segment has come, and the segment's size
 abbrev pub toldWalked : Walked → Outcome (Taken ℕ ℕ)
@@ -29,3 +35,20 @@ toldChecked (Checked.Refused r) = refused (r .number) (r .place)
 
 unfoldable pub checking : List ℕ → Outcome Sum
 checking s = after (stretchOf s) λ t. ok (record { segments = length t; size = size t })
+
+-- a stretch that was found sound, with its segment count
+pub record Accepted (s : List ℕ) (segments : ℕ) : Type 0 where
+  pub text : Text
+  pub means : stretchOf s ≡ ok text
+  pub count : segments ≡ length text
+
+-- what a read finds, and the place that goes with it
+abbrev pub toldGot : Got → Reading
+toldGot (Got.Variant start len segment variant) = record { answer = ok (found start len); segment = segment; variant = variant }
+toldGot (End segment variant) = record { answer = ok end; segment = segment; variant = variant }
+toldGot (Got.Refused r segment variant) = record { answer = refused (r .number) (r .place); segment = segment; variant = variant }
+
+-- variant v of segment j, whose count stands at `at`
+abbrev pub handedAt : List ℕ → ℕ → ℕ → ℕ → Reading
+handedAt s at j v =
+    record { answer = ok (found (behindVariants s v (at + 1) + 2) (word s (behindVariants s v (at + 1)))); segment = j; variant = v + 1 }

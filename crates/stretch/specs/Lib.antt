@@ -5,4 +5,5 @@ pub mod Variants
 pub mod Encoding
 pub mod Writing
 pub mod Places
+pub mod Skips
 pub mod Answers

@@ -2,13 +2,13 @@
 use Prim.Native.Nat.{ℕ, suc, _+_, _<_, _≤_}
 use native.Mathlib.Numerals.{add-one}
 use native.Mathlib.Omega.{arith}
-use mathlib.Core.Path.{_≡_, refl, ap, _∙_}
+use mathlib.Core.Path.{_≡_, refl, sym, ap, _∙_}
 use mathlib.Core.Bool.{Bool, true, false, _&&_, cond}
-use mathlib.Core.List.{List, [], _∷_}
+use mathlib.Core.List.{List, [], _∷_, _++_}
 use lib.ListN.{length, getD, drop, drop-of-length-le}
 use lib.Seq.{drop-cons}
 use Rattle.text.specs.Letter.{base, letter, every, firstNot}
-use Rattle.text.proofs.Truth.{and-left, and-right, not-true-false}
+use Rattle.text.proofs.Truth.{and-left, and-right, and-true, and-assoc, not-true-false}
 
 -- a pattern's bases and a variant's letters are the same four
 pub first-base : (s : List ℕ) → firstNot base s ≡ firstNot letter s
@@ -79,3 +79,8 @@ module _ (f : ℕ → Bool) where
   passed-all s i p l =
       let h : firstNot f (drop i s) ≡ 0 = rw drop-of-length-le in
       omega arith
+
+pub every-snoc : (f : ℕ → Bool) (s : List ℕ) (c : ℕ) → every f (s ++ (c ∷ [])) ≡ (every f s && f c)
+unfolding every
+every-snoc f [] c = and-true (f c)
+every-snoc f (d ∷ s) c = rw (every-snoc f s c) (sym (and-assoc (f d) (every f s) (f c)))

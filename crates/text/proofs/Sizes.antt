@@ -1,8 +1,10 @@
 -- Laws of sizes.
-use Prim.Native.Nat.{ℕ, _+_, _≤_}
+use Prim.Native.Nat.{ℕ, _+_, _*_, _≤_}
+use native.Mathlib.Nat.{mul-zero, mul-suc}
 use native.Mathlib.Omega.{arith}
-use mathlib.Core.Path.{_≡_}
+use mathlib.Core.Path.{_≡_, sym}
 use mathlib.Core.List.{List, [], _∷_, _++_}
+use lib.ListN.{length}
 use Rattle.text.specs.Text.{total, counted}
 
 -- a variant counts no more than its length field and its letters take
@@ -18,3 +20,8 @@ total-append f (a ∷ l) k = omega (arith, total-append f l k)
 pub total-snoc : {A : Type 0} (f : A → ℕ) (l : List A) (a : A) → total f (l ++ (a ∷ [])) ≡ total f l + f a
 unfolding total
 total-snoc f l a = omega (arith, total-append f l (a ∷ []))
+
+pub total-each : {A : Type 0} (n : ℕ) (l : List A) → total (λ a. n) l ≡ n * length l
+unfolding total
+total-each n [] = sym (mul-zero n)
+total-each n (a ∷ l) = omega (arith, total-each n l, mul-suc n (length l))

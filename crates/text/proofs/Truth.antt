@@ -105,3 +105,15 @@ anyOf-snoc f (b ∷ l) a = rw (anyOf-snoc f l a) (sym (or-assoc (f b) (anyOf f l
 pub or-self : (a : Bool) → (a || a) ≡ a
 or-self true = refl
 or-self false = refl
+
+pub and-true : (a : Bool) → (a && true) ≡ a
+and-true true = refl
+and-true false = refl
+
+pub and-assoc : (a b c : Bool) → ((a && b) && c) ≡ (a && (b && c))
+and-assoc true b c = refl
+and-assoc false b c = refl
+
+pub and-false : (a : Bool) → (a && false) ≡ false
+and-false true = refl
+and-false false = refl

@@ -1,0 +1,93 @@
+-- What a feed answers, from the tests that lead there.
+use Prim.Native.Nat.{ℕ, _-_, _/_, _%_, _^_, _≤_, _<_}
+use native.Mathlib.Omega.{arith}
+use mathlib.Core.Path.{_≡_, ap, ap₂, _∙_}
+use mathlib.Core.Bool.{Bool, true, false, _&&_}
+use mathlib.Core.List.{List}
+use borrow.Author.Tests.{le-leb, lt-leb, lt-ltb, le-ltb, eq-eqb, ne-eqb}
+use lib.Dec.{eqb, ltb}
+use lib.ListN.{length}
+use lib.Pow.{pow-pos}
+use Rattle.text.specs.Text.{Segment, weight, total}
+use Rattle.text.specs.Bits.{bit}
+use Rattle.text.specs.State.{isState, next, ends}
+use Rattle.text.specs.Refusal.{ok, refused, pattern}
+use Rattle.text.proofs.Truth.{and-false, and-both}
+use Rattle.text.proofs.Bits.{bit-first}
+use Rattle.text.proofs.Outcomes.{told-met, told-refused}
+use Rattle.text.proofs.Patterns.{SoundPattern, pattern-refused, sound-pattern}
+use Rattle.stretch.specs.Bytes.{greatestStretch}
+use Rattle.stretch.specs.Reading.{Taken, segmentAt, loneSegment}
+use Rattle.search.specs.Step.{Pass, segmentPass}
+use Rattle.search.specs.Answers.{feeding}
+use Rattle.search.proofs.Vectors.{low-ones}
+
+module _ (P s : List ℕ) (st : ℕ) where
+  pub fed-pattern : (j p : ℕ) → pattern P (ok (tt {0})) ≡ refused j p → feeding P st s ≡ refused j p
+  unfolding feeding
+  fed-pattern j p e = pattern-refused P j p e _
+
+  module _ (y : SoundPattern P) where
+    pub fed-long : greatestStretch < length s → feeding P st s ≡ refused 4 0
+    unfolding feeding
+    fed-long l = sound-pattern P y _ ∙ rw (lt-leb (length s) greatestStretch l)
+
+    module _ (short : length s ≤ greatestStretch) where
+      wrong-state : isState (length P) st ≡ false → feeding P st s ≡ refused 17 0
+      unfolding feeding
+      wrong-state e = sound-pattern P y _ ∙ rw (le-leb (length s) greatestStretch short, e)
+
+      -- bit 0 is clear
+      pub fed-even : st % 2 ≡ 0 → feeding P st s ≡ refused 17 0
+      unfolding isState
+      fed-even e = wrong-state (ap (λ (b : Bool). b && ltb st (2 ^ length P)) (bit-first st ∙ ap (λ (n : ℕ). eqb n 1) e))
+
+      module _ (low : ℕ) (ones : low ≡ 0xffff_ffff_ffff_ffff / 2 ^ (64 - length P)) where
+        low-is : low ≡ 2 ^ length P - 1
+        low-is = ones ∙ low-ones (length P) (y .short)
+
+        -- a bit from m up is set
+        pub fed-high : low < st → feeding P st s ≡ refused 17 0
+        unfolding isState
+        fed-high l =
+            let far : 2 ^ length P ≤ st = omega (arith, low-is) in
+            wrong-state (ap (λ (b : Bool). bit st 0 && b) (le-ltb st (2 ^ length P) far) ∙ and-false (bit st 0))
+
+        module _ (odd : st % 2 ≡ 0 → ⊥) (small : st ≤ low) where
+          pub fed-small : st < 2 ^ length P
+          fed-small = omega (arith, low-is, pow-pos (length P))
+
+          state : isState (length P) st ≡ true
+          unfolding isState
+          state =
+              let one : st % 2 ≡ 1 = omega (arith, odd) in
+              and-both (bit st 0) (ltb st (2 ^ length P)) (bit-first st ∙ ap (λ (n : ℕ). eqb n 1) one) (lt-ltb st (2 ^ length P) fed-small)
+
+          -- what a step over a segment tells
+          pass : Taken Segment ℕ → Pass
+          pass x = record { next = x .next; size = total weight (x .value); state = next P st (x .value); ends = ends P st (x .value) }
+
+          pub fed-refused : (j p : ℕ) → segmentPass P st s 0 ≡ refused j p → feeding P st s ≡ refused j p
+          unfolding feeding loneSegment segmentPass pass
+          fed-refused j p e =
+              sound-pattern P y _ ∙ rw (le-leb (length s) greatestStretch short, state, told-refused (segmentAt s 0) pass j p e)
+
+          module _ (behind size bits : ℕ) (hit : Bool)
+              (e : segmentPass P st s 0 ≡ ok (record { next = behind; size = size; state = bits; ends = hit })) where
+            met : (x : Taken Segment ℕ) × (segmentAt s 0 ≡ ok x) × (pass x ≡ record { next = behind; size = size; state = bits; ends = hit })
+            unfolding segmentPass pass
+            met = told-met (segmentAt s 0) pass (record { next = behind; size = size; state = bits; ends = hit }) e
+
+            pub fed-left : (behind ≡ length s → ⊥) → feeding P st s ≡ refused 9 behind
+            unfolding feeding loneSegment pass
+            fed-left l =
+                let far : met .0 .next ≡ behind = ap (λ (x : Pass). x .next) (met .2) in
+                sound-pattern P y _ ∙ rw (le-leb (length s) greatestStretch short, state, met .1, far, ne-eqb behind (length s) l)
+
+            pub fed-next : behind ≡ length s → feeding P st s ≡ ok (record { state = bits; ends = hit })
+            unfolding feeding loneSegment pass
+            fed-next l =
+                let far : met .0 .next ≡ behind = ap (λ (x : Pass). x .next) (met .2) in
+                sound-pattern P y _
+                ∙ rw (le-leb (length s) greatestStretch short, state, met .1, far, eq-eqb behind (length s) l)
+                (ap₂ (λ (n : ℕ) (b : Bool). ok (record { state = n; ends = b })) (ap (λ (x : Pass). x .state) (met .2)) (ap (λ (x : Pass). x .ends) (met .2)))

@@ -1,0 +1,81 @@
+-- `search::bits::scan` meets its contract. The loop's invariant, `Scanning`: the word has the bits of the state that the letters read so
+-- far lead to. The measure is the number of letters left.
+use Prim.Native.Nat.{_-_, _<_}
+use borrow.Author.Needs.{needs}
+use native.Mathlib.Omega.{arith}
+use mathlib.Core.Path.{refl}
+use lib.ListN.{length, getD}
+use Rattle.search.proofs.Vectors.{Scanning, scanning-none, scanning-more, scanning-all, scanning-wrong}
+use Rattle.search.proofs.bits.scan.Statement.{statement}
+use Rattle.search.proofs.bits.scan.Tie as tie
+
+abbrev Inv-loop : tie.InvT-loop
+Inv-loop pattern masks classes bits variant low fresh d₀ hits₀ bad₀ i₀ d hits bad i = Scanning pattern bits variant i d hits bad
+
+abbrev μ-loop : tie.MeasureT-loop
+μ-loop pattern masks classes bits variant low fresh d₀ hits₀ bad₀ i₀ d hits bad i = length variant - i
+
+sub-low : tie.Need-sub-low Inv-loop μ-loop
+sub-low c = search needs
+
+shr-low : tie.Need-shr-low Inv-loop μ-loop
+shr-low c = search needs
+
+loop-holds : tie.Need-loop-holds Inv-loop μ-loop
+loop-holds c = scanning-none _ _ _ _ _ (c .pre)
+
+shared-slice-read-c : tie.Need-shared-slice-read-c Inv-loop μ-loop
+shared-slice-read-c c = search needs
+
+-- the letter that is read is a byte
+byte : (c : tie.After-shared-slice-known Inv-loop μ-loop) → getD (c .before .before .before .args .variant .now) (c .before .before .loop .i) 0 < 256
+byte c = omega (arith, c .shared-slice-known .given (c .before .before .loop .i))
+
+cast-c : tie.Need-cast-c Inv-loop μ-loop
+cast-c c = omega (arith, byte c)
+
+element-copy-out-bad : tie.Need-element-copy-out-bad Inv-loop μ-loop
+element-copy-out-bad c = byte c
+
+mul-e : tie.Need-mul-e Inv-loop μ-loop
+mul-e c = omega (arith, byte (c .before))
+
+element-copy-out-e : tie.Need-element-copy-out-e Inv-loop μ-loop
+element-copy-out-e c = byte (c .before)
+
+add-i : tie.Need-add-i Inv-loop μ-loop
+add-i c = search needs
+
+loop-less : tie.Need-loop-less Inv-loop μ-loop
+loop-less c = search needs
+
+loop-again : tie.Need-loop-again Inv-loop μ-loop
+loop-again c =
+    let d = c .before .before .before in
+    scanning-more _ _ _ _ _ _ _ _ _ (d .before .before .pre) (d .before .loop .inv) (d .loop-test .taken) _ refl (byte (c .before .before))
+
+returns : tie.Need-returns Inv-loop μ-loop
+returns c =
+    let d = c .before in (
+      scanning-all _ _ _ _ _ _ _ _ _ _ (d .before .pre) (d .loop .inv) (c .loop-test .left) refl,
+      scanning-wrong _ _ _ _ _ _ _ _ _ _ (d .before .pre) (d .loop .inv) (c .loop-test .left) refl,
+    )
+
+pub scan-spec : {M : Type 1} → statement M
+scan-spec =
+    tie.close
+    (tie.spec
+    Inv-loop
+    μ-loop
+    sub-low
+    shr-low
+    loop-holds
+    shared-slice-read-c
+    cast-c
+    element-copy-out-bad
+    mul-e
+    element-copy-out-e
+    add-i
+    loop-less
+    loop-again
+    returns)

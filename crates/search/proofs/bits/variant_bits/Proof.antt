@@ -1,0 +1,102 @@
+-- `search::bits::variant_bits` meets its contract: each answer is a law of `variantPass`, from what `head`, `scan`, `first_wrong` and
+-- `repeated` ensure.
+use borrow.Author.Needs.{needs}
+use borrow.Author.Tests.{not-true, not-false}
+use native.Mathlib.Omega.{arith}
+use mathlib.Core.Path.{sym, ap, _∙_}
+use Rattle.stretch.specs.Variants.{toldPart}
+use Rattle.stretch.proofs.Heads.{Whole, head-is}
+use Rattle.search.proofs.Passes.{pass-cut, wrong-place, pass-wrong, pass-repeated, pass-to}
+use Rattle.search.proofs.bits.variant_bits.Statement.{statement}
+use Rattle.search.proofs.bits.variant_bits.Tie as tie
+
+head-requires : tie.Need-head-requires
+head-requires c κs = search needs
+
+enum-known-refused : tie.Need-enum-known-refused
+enum-known-refused c = search needs
+
+enum-known-start : tie.Need-enum-known-start
+enum-known-start c = search needs
+
+-- where the letters stand
+found : (c : tie.After-start)
+    → Whole
+    (c .before .before .before .before .before .args .stretch .now)
+    (c .before .before .before .before .before .args .at)
+    (c .start .given .0 .0)
+    (c .start .given .0 .1 .0)
+found c = head-is _ _ _ _ (sym (c .before .before .head .ensures) ∙ ap toldPart (c .start .given .1))
+
+sub-letters : tie.Need-sub-letters
+sub-letters c = let w = found (c .before) in omega (arith, w .starts, w .ends)
+
+part-letters-start : tie.Need-part-letters-start
+part-letters-start c = let w = found (c .before) in omega (arith, w .starts, w .ends)
+
+part-letters-end : tie.Need-part-letters-end
+part-letters-end c = let w = found (c .before) in omega (arith, w .ends, w .inside)
+
+scan-requires : tie.Need-scan-requires
+scan-requires c κs = search needs
+
+first-wrong-requires : tie.Need-first-wrong-requires
+first-wrong-requires c κs = search needs
+
+add-place : tie.Need-add-place
+add-place c =
+    let w = found (c .before .before .before .before .before) in
+    let near = wrong-place _ _ _ _ w _ (c .first-wrong .ensures) in
+    omega arith
+
+returns : tie.Need-returns
+returns c =
+    let d = c .before .before in
+    let bad = not-true _ (sym (d .scan .ensures .1) ∙ c .before .if1 .taken) in
+    sym (pass-wrong _ _ _ _ _ _ _ _ (found (d .before .before .before)) _ (c .first-wrong .ensures) bad)
+
+repeated-requires : tie.Need-repeated-requires
+repeated-requires c κs = search needs
+
+returns-2 : tie.Need-returns-2
+returns-2 c =
+    let d = c .before .before .before in
+    let good = not-false _ (sym (d .scan .ensures .1) ∙ c .before .before .if1 .left) in
+    sym (pass-repeated _ _ _ _ _ _ _ _ (found (d .before .before .before)) good (sym (c .before .repeated .ensures) ∙ c .if2 .taken))
+
+sub-counted : tie.Need-sub-counted
+sub-counted c = let w = found (c .before .before .before .before .before .before) in omega (arith, w .starts, w .ends)
+
+counted-requires : tie.Need-counted-requires
+counted-requires c κs = search needs
+
+returns-3 : tie.Need-returns-3
+returns-3 c = sym (pass-cut _ _ _ _ _ _ _ _ (sym (c .before .before .before .head .ensures) ∙ ap toldPart (c .before .refused .given .1)))
+
+returns-4 : tie.Need-returns-4
+returns-4 c =
+    let d = c .before .before .before .before in
+    let good = not-false _ (sym (d .scan .ensures .1) ∙ c .before .before .before .if1 .left) in
+    let new = sym (c .before .before .repeated .ensures) ∙ c .before .if2 .left in
+    sym (pass-to _ _ _ _ _ _ _ _ (found (d .before .before .before)) good new _ _ _ (c .counted .ensures) (d .scan .ensures .0))
+
+pub variant-bits-spec : {M : Type 1} → statement M
+variant-bits-spec =
+    tie.close
+    (tie.spec
+    head-requires
+    enum-known-refused
+    enum-known-start
+    sub-letters
+    part-letters-start
+    part-letters-end
+    scan-requires
+    first-wrong-requires
+    add-place
+    returns
+    repeated-requires
+    returns-2
+    sub-counted
+    counted-requires
+    returns-3
+    returns-4)

@@ -1,0 +1,137 @@
+-- `search::State::feed` meets its contract: each answer is a law of `feeding`, from the tests that led to it and from what
+-- `segment_bits` ensures.
+use borrow.Author.Needs.{needs}
+use native.Mathlib.Omega.{arith}
+use mathlib.Core.Path.{refl, sym, ap, _∙_}
+use Rattle.text.specs.Refusal.{toldPattern}
+use Rattle.text.proofs.Patterns.{SoundPattern, pattern-sound}
+use Rattle.search.specs.Step.{toldPassed}
+use Rattle.search.proofs.Feeds.{fed-pattern, fed-long, fed-even, fed-high, fed-small, fed-refused, fed-left, fed-next}
+use Rattle.search.proofs.state.State.feed.Statement.{statement}
+use Rattle.search.proofs.state.State.feed.Tie as tie
+
+check-requires : tie.Need-check-requires
+check-requires c κs = search needs
+
+enum-known-refused : tie.Need-enum-known-refused
+enum-known-refused c = search needs
+
+returns : tie.Need-returns
+returns c = sym (fed-pattern _ _ _ _ _ (sym (c .before .before .before .check .ensures) ∙ ap toldPattern (c .before .refused .given .1)))
+
+enum-told : tie.Need-enum-told
+enum-told c = search needs
+
+-- the pattern was found sound
+sound : (c : tie.After-enum-told) → SoundPattern (c .before .before .before .before .before .args .pattern .now)
+sound c = pattern-sound _ (sym (c .before .before .check .ensures) ∙ ap toldPattern (c .enum-told .given .1))
+
+refused-requires : tie.Need-refused-requires
+refused-requires c κs = search needs
+
+returns-2 : tie.Need-returns-2
+returns-2 c = c .refused2 .ensures ∙ sym (fed-long _ _ _ (sound (c .before .before)) (c .before .if1 .taken))
+
+sub-low : tie.Need-sub-low
+sub-low c = sound (c .before) .short
+
+shr-low : tie.Need-shr-low
+shr-low c = let p = sound (c .before) in omega (arith, p .some)
+
+refused-requires-2 : tie.Need-refused-requires-2
+refused-requires-2 c κs = search needs
+
+returns-3 : tie.Need-returns-3
+returns-3 c =
+    let d = c .before .before in
+    c .refused3 .ensures ∙ sym (fed-even _ _ _ (sound (d .before)) (d .if1 .left) (c .before .if2 .taken))
+
+refused-requires-3 : tie.Need-refused-requires-3
+refused-requires-3 c κs = search needs
+
+returns-4 : tie.Need-returns-4
+returns-4 c =
+    let d = c .before .before .before in
+    c .refused4 .ensures ∙ sym (fed-high _ _ _ (sound (d .before)) (d .if1 .left) _ refl (c .before .if3 .taken))
+
+masks-requires : tie.Need-masks-requires
+masks-requires c κs = sound (c .before .before .before) .short
+
+classes-requires : tie.Need-classes-requires
+classes-requires c κs = search needs
+
+segment-bits-requires : tie.Need-segment-bits-requires
+segment-bits-requires c κs =
+    let m = c .before .before .before in
+    let d = m .before in
+    let e = d .before .before in
+    let p = sound (e .before) in
+    record {
+      some = p .some;
+      short = p .short;
+      vectors = m .masks .ensures;
+      letters = c .before .before .classes .ensures;
+      small = fed-small _ (e .before .before .before .before .before .before .args .segment .now) _ p (e .if1 .left) _ refl (d .before .if2 .left) (d .if3 .left);
+    }
+
+enum-known-refused-2 : tie.Need-enum-known-refused-2
+enum-known-refused-2 c = search needs
+
+enum-known-next : tie.Need-enum-known-next
+enum-known-next c = search needs
+
+refused-requires-4 : tie.Need-refused-requires-4
+refused-requires-4 c κs = search needs
+
+returns-5 : tie.Need-returns-5
+returns-5 c =
+    let n = c .before .before .before in
+    let g = n .before .before in
+    let d = g .before .before .before .before .before in
+    let e = d .before .before in
+    let on = sym (g .segment-bits .ensures) ∙ ap toldPassed (n .next .given .1) in
+    c .refused6 .ensures
+    ∙ sym (fed-left _ _ _ (sound (e .before)) (e .if1 .left) _ refl (d .before .if2 .left) (d .if3 .left) _ _ _ _ on (c .before .if4 .taken))
+
+returns-6 : tie.Need-returns-6
+returns-6 c =
+    let g = c .before .before .before in
+    let d = g .before .before .before .before .before in
+    let e = d .before .before in
+    let wrong = sym (g .segment-bits .ensures) ∙ ap toldPassed (c .before .refused5 .given .1) in
+    sym (fed-refused _ _ _ (sound (e .before)) (e .if1 .left) _ refl (d .before .if2 .left) (d .if3 .left) _ _ wrong)
+
+returns-7 : tie.Need-returns-7
+returns-7 c =
+    let n = c .before .before in
+    let g = n .before .before in
+    let d = g .before .before .before .before .before in
+    let e = d .before .before in
+    let on = sym (g .segment-bits .ensures) ∙ ap toldPassed (n .next .given .1) in
+    sym (fed-next _ _ _ (sound (e .before)) (e .if1 .left) _ refl (d .before .if2 .left) (d .if3 .left) _ _ _ _ on (c .if4 .left))
+
+pub feed-spec : {M : Type 1} → statement M
+feed-spec =
+    tie.close
+    (tie.spec
+    check-requires
+    enum-known-refused
+    returns
+    enum-told
+    refused-requires
+    returns-2
+    sub-low
+    shr-low
+    refused-requires-2
+    returns-3
+    refused-requires-3
+    returns-4
+    masks-requires
+    classes-requires
+    segment-bits-requires
+    enum-known-refused-2
+    enum-known-next
+    refused-requires-4
+    returns-5
+    returns-6
+    returns-7)

@@ -1,0 +1,31 @@
+-- The tables of the search by bit-vectors: a letter vector for each byte, and which bytes are no letters.
+use Prim.Native.Nat.{ℕ, _^_, _<_, _≤_}
+use mathlib.Core.Path.{_≡_}
+use mathlib.Core.Bool.{cond}
+use mathlib.Core.List.{List}
+use lib.Dec.{eqb}
+use lib.ListN.{length, getD}
+use Rattle.text.specs.Letter.{letter}
+use Rattle.text.specs.Bits.{fromBits}
+
+-- the letter vector of c: bit k is set where base k of P is c, for every k below m
+unfoldable pub maskOf : List ℕ → ℕ → ℕ
+maskOf P c = fromBits (λ k. eqb (getD P k 0) c) (length P)
+
+-- a table with the letter vector of each byte
+pub record Masks (P table : List ℕ) : Type 0 where
+  pub full : length table ≡ 256
+  pub each : (c : ℕ) → c < 256 → getD table c 0 ≡ maskOf P c
+
+-- a table with 0 for each letter and 1 for every other byte
+pub record Classes (table : List ℕ) : Type 0 where
+  pub full : length table ≡ 256
+  pub each : (c : ℕ) → c < 256 → getD table c 0 ≡ cond (letter c) 0 1
+
+-- what a scan may rest on: a pattern of 1 to 64 bases with its tables, and a state below 2 ^ m
+pub record Ready (P masks classes : List ℕ) (st : ℕ) : Type 0 where
+  pub some : 0 < length P
+  pub short : length P ≤ 64
+  pub vectors : Masks P masks
+  pub letters : Classes classes
+  pub small : st < 2 ^ length P

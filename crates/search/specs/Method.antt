@@ -1,0 +1,23 @@
+-- What a method rests on: a pattern of 1 to 64 bases, the method's table, and which bytes are letters.
+use Prim.Native.Nat.{ℕ, _<_, _≤_}
+use mathlib.Core.List.{List}
+use lib.ListN.{length}
+use Rattle.search.specs.Masks.{Masks, Classes}
+use Rattle.search.specs.declared.method.Method.{Method}
+use Rattle.search.specs.declared.method.Method.the-variants.{Bits, Borders}
+
+-- the table of a method: letter vectors, or borders
+abbrev pub TableOf : Method → List ℕ → List ℕ → Type 0
+TableOf Bits P table = Masks P table
+TableOf Borders P table = ⊥
+
+-- a pattern of 1 to 64 bases with the method's table
+pub record Founded (method : Method) (P table : List ℕ) : Type 0 where
+  pub some : 0 < length P
+  pub short : length P ≤ 64
+  pub holds : TableOf method P table
+
+-- and with the table of letters
+pub record Tools (method : Method) (P table classes : List ℕ) : Type 0 where
+  pub founded : Founded method P table
+  pub letters : Classes classes

@@ -1,0 +1,158 @@
+// The step of one variant by bit-vectors: shift-and with one word (Grossi et al., CPM 2017, section 5, with the ranges of its
+// letter vectors corrected: they hold the last base too). Fit for every pattern of up to 64 bases.
+use crate::step::Passed;
+use stretch::bytes::wide;
+use stretch::variant::Part;
+use stretch::variant::head;
+use stretch::variant::repeated;
+use text::Refusal;
+use text::letter::first_wrong;
+use text::refusal;
+use text::size::counted;
+ghost use mathlib.Core.Path.{_≡_};
+ghost use mathlib.Core.Bool.{not};
+ghost use Rattle.text.specs.Letter.{letter, every};
+ghost use Rattle.search.specs.Step.{Steps, toldPassed, variantPass, segmentPass};
+ghost use Rattle.search.specs.Masks.{Ready};
+
+// What one pass over a variant's letters finds.
+pub struct Scanned {
+    pub bits: u64,
+    pub ends: bool,
+    pub wrong: bool,
+}
+
+// The state that the variant leads to, whether an occurrence ends in it, and whether a byte of it is no letter. Bits from m up
+// are cleared once at the end: the letter vectors have none.
+pub fn scan(
+    pattern: &[u8],
+    masks: &[u64; 256],
+    classes: &[u8; 256],
+    bits: u64,
+    variant: &[u8],
+) -> Scanned
+    requires { ⌜ Ready (now pattern) (now masks) (now classes) bits ⌝ }
+    ensures { λ r. ⌜ Steps (now (pattern .entry)) bits (now (variant .entry)) (r .bits) (r .ends) × (r .wrong ≡ not (every letter (now (variant .entry)))) ⌝ }
+{
+    let low = 0xffff_ffff_ffff_ffff >> (64 - pattern.len());
+    let fresh = bits % 2;
+    let mut d = bits;
+    let mut hits = 0;
+    let mut bad = 0u8;
+    let mut i = 0;
+    while i < variant.len() {
+        let c = variant[i] as usize;
+        bad = bad | classes[c];
+        let e = d & masks[c];
+        hits = hits | e;
+        d = (e << 1) | fresh;
+        i += 1;
+    }
+    Scanned {
+        bits: d & low,
+        ends: low / 2 < hits,
+        wrong: bad != 0,
+    }
+}
+
+// The variant at `at`, behind the k of its segment that stand from `first` on: refusals 5, 7 and 8. Its letters are tested and
+// stepped over in one pass; only where one is wrong, a second looks for its place.
+fn variant_bits(
+    pattern: &[u8],
+    masks: &[u64; 256],
+    classes: &[u8; 256],
+    bits: u64,
+    stretch: &[u8],
+    first: usize,
+    k: usize,
+    at: usize,
+) -> Passed
+    requires { ⌜ Ready (now pattern) (now masks) (now classes) bits ⌝ }
+    ensures { λ r. ⌜ toldPassed r ≡ variantPass (now (pattern .entry)) bits (now (stretch .entry)) first k at ⌝ }
+{
+    match head(stretch, at) {
+        Part::Refused(refused) => Passed::Refused(refused),
+        Part::At { start, next } => {
+            let letters = &stretch[start..next];
+            let scanned = scan(pattern, masks, classes, bits, letters);
+            if scanned.wrong {
+                let place = start + first_wrong(letters);
+                return Passed::Refused(Refusal {
+                    number: refusal::WRONG_LETTER,
+                    place,
+                });
+            }
+            if repeated(stretch, first, k, letters) {
+                return Passed::Refused(Refusal {
+                    number: refusal::REPEATED,
+                    place: at,
+                });
+            }
+            let size = counted(next - start);
+            Passed::To {
+                next,
+                size,
+                bits: scanned.bits,
+                ends: scanned.ends,
+            }
+        }
+    }
+}
+
+// The segment at `at`: refusals 5 to 8. The state behind it is the union of what its variants lead to.
+pub fn segment_bits(
+    pattern: &[u8],
+    masks: &[u64; 256],
+    classes: &[u8; 256],
+    bits: u64,
+    stretch: &[u8],
+    at: usize,
+) -> Passed
+    requires { ⌜ Ready (now pattern) (now masks) (now classes) bits ⌝ }
+    ensures { λ r. ⌜ toldPassed r ≡ segmentPass (now (pattern .entry)) bits (now (stretch .entry)) at ⌝ }
+{
+    if stretch.len() <= at {
+        return Passed::Refused(Refusal {
+            number: refusal::BYTES_END,
+            place: at,
+        });
+    }
+    let count = wide(stretch[at]);
+    if count == 0 {
+        return Passed::Refused(Refusal {
+            number: refusal::NO_VARIANTS,
+            place: at,
+        });
+    }
+    let first = at + 1;
+    let mut next = first;
+    let mut size = 0;
+    let mut state = bits % 2;
+    let mut ends = false;
+    let mut k = 0;
+    while k < count {
+        match variant_bits(pattern, masks, classes, bits, stretch, first, k, next) {
+            Passed::Refused(refused) => {
+                return Passed::Refused(refused);
+            }
+            Passed::To {
+                next: behind,
+                size: more,
+                bits: reached,
+                ends: hit,
+            } => {
+                size += more;
+                state = state | reached;
+                ends = ends | hit;
+                next = behind;
+                k += 1;
+            }
+        }
+    }
+    Passed::To {
+        next,
+        size,
+        bits: state,
+        ends,
+    }
+}

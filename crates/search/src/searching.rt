@@ -1,0 +1,81 @@
+// The searches of a pattern in a stretch. Both share the walk; the marks are the caller's only once the whole stretch is accepted.
+use crate::masks::classes;
+use crate::masks::masks;
+use crate::method::Method;
+use crate::walk::Searched;
+use crate::walk::walk;
+use text::Refusal;
+use text::pattern::PatternIs;
+use text::pattern::check;
+use text::refusal;
+ghost use mathlib.Core.Path.{_≡_};
+ghost use Prim.Native.Nat.{_≤_};
+ghost use lib.ListN.{length};
+ghost use Rattle.text.specs.Refusal.{ok, after};
+ghost use Rattle.stretch.specs.Bytes.{over};
+ghost use Rattle.search.specs.Answers.{stretchInto, searching, sumsOf, toldSearched, leftBy, marked};
+ghost use Rattle.search.specs.Method.{Founded};
+
+// Copies `from` over the front of `to`.
+fn copy(from: &[u8], to: &mut [u8])
+    requires { ⌜ length (now from) ≤ length (now to) ⌝ }
+    ensures { λ r. ⌜ now (to .exit) ≡ over (now (to .entry)) 0 (now (from .entry)) ⌝ }
+{
+    let mut i = 0;
+    while i < from.len() {
+        to[i] = from[i];
+        i += 1;
+    }
+}
+
+// A search of a sound pattern by a method and its table: the refusals of the stretch, then 10.
+fn search(
+    method: Method,
+    pattern: &[u8],
+    table: &[u64; 256],
+    stretch: &[u8],
+    marks: &mut [u8],
+) -> Searched
+    requires { ⌜ Founded method (now pattern) (now table) ⌝ }
+    ensures { λ r. ⌜ toldSearched r ≡ after (stretchInto (now (stretch .entry)) (length (now (marks .entry)))) (λ t. ok (sumsOf (now (pattern .entry)) t)) ⌝ }
+    ensures { λ r. ⌜ now (marks .exit) ≡ leftBy (marked (now (pattern .entry))) (stretchInto (now (stretch .entry)) (length (now (marks .entry)))) (now (marks .entry)) ⌝ }
+{
+    let letters = classes();
+    let mut found = [0u8; 10922];
+    match walk(method, pattern, table, &letters, stretch, &mut found) {
+        Searched::Refused(refused) => Searched::Refused(refused),
+        Searched::Marked {
+            segments,
+            size,
+            ends,
+        } => {
+            if marks.len() < segments {
+                return Searched::Refused(Refusal {
+                    number: refusal::BUFFER_SHORT,
+                    place: 0,
+                });
+            }
+            copy(&found[..segments], &mut *marks);
+            Searched::Marked {
+                segments,
+                size,
+                ends,
+            }
+        }
+    }
+}
+
+// The search by bit-vectors: refusals 1, 2, 3, those of the stretch, then 10. It writes 1 or 0 for each segment; further bytes
+// stay, and a refusal changes nothing.
+pub fn by_bits(pattern: &[u8], stretch: &[u8], marks: &mut [u8]) -> Searched
+    ensures { λ r. ⌜ toldSearched r ≡ after (searching (now (pattern .entry)) (now (stretch .entry)) (length (now (marks .entry)))) (λ t. ok (sumsOf (now (pattern .entry)) t)) ⌝ }
+    ensures { λ r. ⌜ now (marks .exit) ≡ leftBy (marked (now (pattern .entry))) (searching (now (pattern .entry)) (now (stretch .entry)) (length (now (marks .entry)))) (now (marks .entry)) ⌝ }
+{
+    match check(pattern) {
+        PatternIs::Refused(refused) => Searched::Refused(refused),
+        PatternIs::Sound => {
+            let table = masks(pattern);
+            search(Method::Bits, pattern, &table, stretch, &mut *marks)
+        }
+    }
+}

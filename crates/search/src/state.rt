@@ -1,0 +1,100 @@
+// States: which lengths of a pattern end exactly at the end of the last segment.
+use crate::bits::segment_bits;
+use crate::masks::classes;
+use crate::masks::masks;
+use crate::step::Passed;
+use text::Refusal;
+use text::pattern::PatternIs;
+use text::pattern::check;
+use text::refusal;
+ghost use mathlib.Core.Path.{_≡_};
+ghost use Rattle.text.specs.Refusal.{Outcome};
+ghost use Rattle.search.specs.Answers.{feeding, toldFed};
+ghost use Rattle.search.specs.Carried.{carriedBy};
+
+// Bit r is set when length r is carried, 1 to 63. Bit 0 is no length: an occurrence may start afresh.
+pub struct State {
+    pub bits: u64,
+}
+
+// The state after one segment, and whether an occurrence ends in it.
+pub enum Fed {
+    Next { state: State, ends: bool },
+    Refused(Refusal),
+}
+
+// How many lengths a state carries, and the shortest of them, 0 if there is none.
+pub struct Carried {
+    pub count: u32,
+    pub shortest: u32,
+}
+
+impl State {
+    // Nothing is carried.
+    pub const FRESH: State = State { bits: 1 };
+
+    // The state after a lone segment: refusals 1, 2, 3, 4, 17, then 5 to 9.
+    pub fn feed(self, pattern: &[u8], segment: &[u8]) -> Fed
+        ensures { λ r. ⌜ toldFed r ≡ feeding (now (pattern .entry)) (self .bits) (now (segment .entry)) ⌝ }
+    {
+        let bits = self.bits;
+        match check(pattern) {
+            PatternIs::Refused(refused) => {
+                return Fed::Refused(refused);
+            }
+            PatternIs::Sound => {}
+        }
+        let end = segment.len();
+        if refusal::GREATEST_STRETCH < end {
+            return refused(refusal::STRETCH_LONG, 0);
+        }
+        let low = 0xffff_ffff_ffff_ffff >> (64 - pattern.len());
+        if bits % 2 == 0 {
+            return refused(refusal::STATE_WRONG, 0);
+        }
+        if low < bits {
+            return refused(refusal::STATE_WRONG, 0);
+        }
+        let table = masks(pattern);
+        let letters = classes();
+        match segment_bits(pattern, &table, &letters, bits, segment, 0) {
+            Passed::Refused(refused) => Fed::Refused(refused),
+            Passed::To {
+                next,
+                size: _,
+                bits: reached,
+                ends,
+            } => {
+                if next != end {
+                    return refused(refusal::BYTES_LEFT, next);
+                }
+                Fed::Next {
+                    state: State { bits: reached },
+                    ends,
+                }
+            }
+        }
+    }
+
+    // What any 64-bit number carries, whether or not it is the state of a pattern.
+    pub fn carried(self) -> Carried
+        ensures { λ r. ⌜ r ≡ carriedBy (self .bits) ⌝ }
+    {
+        let lengths = self.bits & !1;
+        let count = u64::count_ones(lengths);
+        if count == 0 {
+            return Carried {
+                count: 0,
+                shortest: 0,
+            };
+        }
+        let shortest = u64::trailing_zeros(lengths);
+        Carried { count, shortest }
+    }
+}
+
+fn refused(number: u64, place: usize) -> Fed
+    ensures { λ r. ⌜ toldFed r ≡ Outcome.refused number place ⌝ }
+{
+    Fed::Refused(Refusal { number, place })
+}

@@ -1,0 +1,109 @@
+-- Laws of writing over a list, as it goes on: one more piece behind what was written.
+use Prim.Native.Nat.{ℕ, suc, _+_, _<_, _≤_}
+use native.Mathlib.Numerals.{add-one}
+use native.Mathlib.Omega.{arith}
+use mathlib.Core.Path.{_≡_, refl, sym, ap, _∙_}
+use mathlib.Core.List.{List, [], _∷_, _++_, append-assoc, append-nil}
+use lib.ListN.{length, take, drop, set, getD, length-append, length-take, length-drop, take-append-drop, drop-of-length-le}
+use lib.Seq.{take-at, drop-append-add, drop-drop, drop-cons, set-split}
+use Rattle.stretch.specs.Bytes.{over}
+
+module _ (d : List ℕ) (at : ℕ) where
+  pub over-none : over d at [] ≡ d
+  unfolding over
+  over-none = let e : at + 0 ≡ at = omega arith in rw e (take-append-drop at d)
+
+  pub over-set : (a : ℕ) → at < length d → set d at a ≡ over d at (a ∷ [])
+  unfolding over
+  over-set a l = let e : at + 1 ≡ suc at = omega arith in rw e (set-split d at a l)
+
+  module _ (xs : List ℕ) (room : at + length xs ≤ length d) where
+    pub length-over : length (over d at xs) ≡ length d
+    unfolding over
+    length-over = simp (length-append, length-take, length-drop) (omega arith)
+
+    -- what is written right behind xs
+    pub over-over : (ys : List ℕ) → over (over d at xs) (at + length xs) ys ≡ over d at (xs ++ ys)
+    unfolding over
+    over-over ys =
+        let n : ℕ = at + length xs in
+        let p : List ℕ = take at d ++ xs in
+        let q : List ℕ = drop n d in
+        let np : length p ≡ n = simp (length-append, length-take) (omega arith) in
+        let first : over d at xs ≡ p ++ q = sym (append-assoc (take at d) xs q) in
+        let front : take n (p ++ q) ≡ p = take-at p q n np in
+        let behind : drop (n + length ys) (p ++ q) ≡ drop (n + length ys) d =
+        ap (λ (k : ℕ). drop (k + length ys) (p ++ q)) (sym np) ∙ drop-append-add p q (length ys) ∙ drop-drop (length ys) n d in
+        let far : at + length (xs ++ ys) ≡ n + length ys = simp length-append (omega arith) in
+        rw (first, front, behind, far) (simp append-assoc)
+
+-- two numbers set one after the other
+pub over-two : (d : List ℕ) (at a b : ℕ) → at + 2 ≤ length d → set (set d at a) (at + 1) b ≡ over d at (a ∷ b ∷ [])
+over-two d at a b l =
+    let first : at < length d = omega arith in
+    let room : at + 1 ≤ length d = omega arith in
+    let second : at + 1 < length (over d at (a ∷ [])) = omega (arith, length-over d at (a ∷ []) room) in
+    rw (over-set d at a first) (over-set (over d at (a ∷ [])) (at + 1) b second ∙ over-over d at (a ∷ []) room (b ∷ []))
+
+-- of `all`, which is to be written over d from place `from` on, the buffer holds what stands before `rest`; that comes next, at place `at`
+pub record Emitted (d : List ℕ) (from : ℕ) (all out : List ℕ) (at : ℕ) (rest : List ℕ) : Type 0 where
+  pub done : List ℕ
+  pub split : all ≡ done ++ rest
+  pub place : at ≡ from + length done
+  pub left : out ≡ over d from done
+  pub room : from + length all ≤ length d
+
+module _ (d : List ℕ) (from : ℕ) (all : List ℕ) where
+  pub emitted-none : from + length all ≤ length d → Emitted d from all d from all
+  emitted-none l = record { done = []; split = refl; place = omega arith; left = sym (over-none d from); room = l }
+
+  module _ (out : List ℕ) (at : ℕ) (rest : List ℕ) (e : Emitted d from all out at rest) where
+    lengths : length all ≡ length (e .done) + length rest
+    lengths = ap length (e .split) ∙ length-append (e .done) rest
+
+    pub emitted-length : length out ≡ length d
+    emitted-length =
+        let l : from + length (e .done) ≤ length d = omega (arith, lengths) in
+        ap length (e .left) ∙ length-over d from (e .done) l
+
+    pub emitted-room : at + length rest ≤ length out
+    emitted-room = omega (arith, lengths, emitted-length)
+
+    -- one more piece
+    pub emitted-more :
+        (piece after more : List ℕ) (next : ℕ) → rest ≡ piece ++ more → after ≡ over out at piece → next ≡ at + length piece →
+        Emitted d from all after next more
+    emitted-more piece after more next s w n =
+        let l : from + length (e .done) ≤ length d = omega (arith, lengths) in
+        record {
+          done = e .done ++ piece;
+          split = e .split ∙ rw s (sym (append-assoc (e .done) piece more));
+          place = omega (arith, length-append (e .done) piece);
+          left = w ∙ rw (e .left, e .place) (over-over d from (e .done) l piece);
+          room = e .room;
+        }
+
+    pub emitted-end : rest ≡ [] → out ≡ over d from all
+    emitted-end n = e .left ∙ ap (over d from) (sym (e .split ∙ rw n (append-nil (e .done))))
+
+-- a list copied member by member: the first i of them are
+abbrev pub Copied : List ℕ → ℕ → List ℕ → List ℕ → ℕ → Type 0
+Copied d from xs out i = Emitted d from xs out (from + i) (drop i xs)
+
+module _ (d : List ℕ) (from : ℕ) (xs : List ℕ) where
+  pub copied-none : from + length xs ≤ length d → Copied d from xs d 0
+  copied-none l = let e : from + 0 ≡ from = omega arith in rw e (emitted-none d from xs l)
+
+  module _ (out : List ℕ) (i : ℕ) (c : Copied d from xs out i) where
+    pub copied-room : i < length xs → from + i < length out
+    copied-room l = omega (arith, emitted-room d from xs out (from + i) (drop i xs) c, length-drop i xs)
+
+    pub copied-more : i < length xs → Copied d from xs (set out (from + i) (getD xs i 0)) (i + 1)
+    copied-more l =
+        let a : ℕ = getD xs i 0 in
+        let more : drop i xs ≡ (a ∷ []) ++ drop (i + 1) xs = rw add-one (drop-cons xs i 0 l) in
+        emitted-more d from xs out (from + i) (drop i xs) c (a ∷ []) (set out (from + i) a) (drop (i + 1) xs) (from + (i + 1))
+        more (over-set out (from + i) a (copied-room l)) (let e : from + (i + 1) ≡ from + i + 1 = omega arith in e)
+
+    pub copied-end : length xs ≤ i → out ≡ over d from xs
+    copied-end l = emitted-end d from xs out (from + i) (drop i xs) c (drop-of-length-le xs l)
