@@ -5,3 +5,13 @@ pub mod Passes
 pub mod Searches
 pub mod Methods
 pub mod Feeds
+pub mod BorderStrings
+pub mod BorderLengths
+pub mod BorderFalls
+pub mod BorderTables
+pub mod BorderScans
+pub mod BorderHolds
+pub mod BorderChains
+pub mod BorderCarried
+pub mod BorderWalks
+pub mod BorderSteps

@@ -4,6 +4,7 @@ use mathlib.Core.Path.{_≡_, subst}
 use mathlib.Core.List.{List}
 use lib.ListN.{length}
 use Rattle.search.specs.Masks.{Ready}
+use Rattle.search.specs.Border.{Bordered}
 use Rattle.search.specs.Method.{TableOf, Tools}
 use Rattle.search.specs.declared.method.Method.{Method}
 use Rattle.search.specs.declared.method.Method.the-variants.{Bits, Borders}
@@ -12,5 +13,10 @@ pub ready-bits : (method : Method) (P table classes : List ℕ) (st : ℕ) → m
 ready-bits method P table classes st e t small =
     record { some = t .founded .some; short = t .founded .short; vectors = subst (λ (m : Method). TableOf m P table) e (t .founded .holds); letters = t .letters; small = small }
 
-pub no-borders : (method : Method) (P table classes : List ℕ) → method ≡ Borders → Tools method P table classes → ⊥
-no-borders method P table classes e t = subst (λ (m : Method). TableOf m P table) e (t .founded .holds)
+pub ready-borders : (method : Method) (P table classes : List ℕ) (st : ℕ) → method ≡ Borders → Tools method P table classes → st < 2 ^ length P → Bordered P table st
+ready-borders method P table classes st e t small =
+    record {
+      sized = record { some = t .founded .some; short = t .founded .short };
+      holds = subst (λ (m : Method). TableOf m P table) e (t .founded .holds);
+      small = small;
+    }

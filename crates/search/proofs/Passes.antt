@@ -31,6 +31,13 @@ module _ (s : List ℕ) (at start next : ℕ) (w : Whole s at start next) where
   pub wrong-place : (x : ℕ) → x ≡ firstNot letter (take (next - start) (drop start s)) → start + x ≤ length s
   wrong-place x e = omega (arith, first-le letter (take (next - start) (drop start s)), long, w .starts, w .ends, w .inside)
 
+  pub all-letters : (x : ℕ) → x ≡ firstNot letter (take (next - start) (drop start s)) → next - start ≤ x → every letter (take (next - start) (drop start s)) ≡ true
+  all-letters x e l =
+      first-every letter (take (next - start) (drop start s))
+      (let all : firstNot letter (take (next - start) (drop start s)) ≡ length (take (next - start) (drop start s)) =
+      omega (arith, first-le letter (take (next - start) (drop start s)), long) in
+      all)
+
 -- the answers of a step over a variant
 module _ (P : List ℕ) (st : ℕ) (s : List ℕ) (first k at : ℕ) where
   pub pass-refused : (n p : ℕ) → soundAt s first k at ≡ refused n p → variantPass P st s first k at ≡ refused n p
@@ -41,9 +48,12 @@ module _ (P : List ℕ) (st : ℕ) (s : List ℕ) (first k at : ℕ) where
   pass-cut n p e = pass-refused n p (sound-refused s first k at n p e)
 
   module _ (start next : ℕ) (w : Whole s at start next) where
+    pub pass-stopped : (x : ℕ) → x ≡ firstNot letter (take (next - start) (drop start s)) → x < next - start → variantPass P st s first k at ≡ refused 7 (start + x)
+    pass-stopped x e near = pass-refused 7 (start + x) (sound-wrong s first k at start next w x e near)
+
     pub pass-wrong : (x : ℕ) → x ≡ firstNot letter (take (next - start) (drop start s)) → every letter (take (next - start) (drop start s)) ≡ false
         → variantPass P st s first k at ≡ refused 7 (start + x)
-    pass-wrong x e bad = pass-refused 7 (start + x) (sound-wrong s first k at start next w x e near)
+    pass-wrong x e bad = pass-stopped x e near
       where
         near : x < next - start
         near =

@@ -3,13 +3,14 @@ use Prim.Native.Nat.{ℕ, _<_, _≤_}
 use mathlib.Core.List.{List}
 use lib.ListN.{length}
 use Rattle.search.specs.Masks.{Masks, Classes}
+use Rattle.search.specs.Border.{Borders}
 use Rattle.search.specs.declared.method.Method.{Method}
-use Rattle.search.specs.declared.method.Method.the-variants.{Bits, Borders}
+use Rattle.search.specs.declared.method.Method.the-variants.{Bits}
 
 -- the table of a method: letter vectors, or borders
 abbrev pub TableOf : Method → List ℕ → List ℕ → Type 0
 TableOf Bits P table = Masks P table
-TableOf Borders P table = ⊥
+TableOf Method.Borders P table = Borders P table
 
 -- a pattern of 1 to 64 bases with the method's table
 pub record Founded (method : Method) (P table : List ℕ) : Type 0 where

@@ -1,5 +1,6 @@
 // States, and the search of a pattern in a stretch by two methods.
 mod bits;
+mod borders;
 mod masks;
 mod method;
 mod searching;
@@ -8,6 +9,7 @@ mod step;
 mod walk;
 
 pub use searching::by_bits;
+pub use searching::by_borders;
 pub use state::Carried;
 pub use state::Fed;
 pub use state::State;

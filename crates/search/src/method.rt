@@ -1,5 +1,6 @@
 // The two methods: which of them a call takes is a value, so that one walk serves both.
 use crate::bits::segment_bits;
+use crate::borders::segment_borders;
 use crate::step::Passed;
 ghost use mathlib.Core.Path.{_≡_};
 ghost use Prim.Native.Nat.{_^_, _<_};
@@ -28,6 +29,6 @@ pub fn segment_by(
 {
     match method {
         Method::Bits => segment_bits(pattern, table, classes, bits, stretch, at),
-        Method::Borders => segment_bits(pattern, table, classes, bits, stretch, at),
+        Method::Borders => segment_borders(pattern, table, bits, stretch, at),
     }
 }

@@ -1,4 +1,5 @@
 // The searches of a pattern in a stretch. Both share the walk; the marks are the caller's only once the whole stretch is accepted.
+use crate::borders::border_table;
 use crate::masks::classes;
 use crate::masks::masks;
 use crate::method::Method;
@@ -76,6 +77,20 @@ pub fn by_bits(pattern: &[u8], stretch: &[u8], marks: &mut [u8]) -> Searched
         PatternIs::Sound => {
             let table = masks(pattern);
             search(Method::Bits, pattern, &table, stretch, &mut *marks)
+        }
+    }
+}
+
+// The search by border tables: the same promise.
+pub fn by_borders(pattern: &[u8], stretch: &[u8], marks: &mut [u8]) -> Searched
+    ensures { λ r. ⌜ toldSearched r ≡ after (searching (now (pattern .entry)) (now (stretch .entry)) (length (now (marks .entry)))) (λ t. ok (sumsOf (now (pattern .entry)) t)) ⌝ }
+    ensures { λ r. ⌜ now (marks .exit) ≡ leftBy (marked (now (pattern .entry))) (searching (now (pattern .entry)) (now (stretch .entry)) (length (now (marks .entry)))) (now (marks .entry)) ⌝ }
+{
+    match check(pattern) {
+        PatternIs::Refused(refused) => Searched::Refused(refused),
+        PatternIs::Sound => {
+            let table = border_table(pattern);
+            search(Method::Borders, pattern, &table, stretch, &mut *marks)
         }
     }
 }

@@ -1,5 +1,5 @@
 -- Laws of a variant's head and of the test for repetition.
-use Prim.Native.Nat.{ℕ, suc, _+_, _-_, _≤_, _<_}
+use Prim.Native.Nat.{ℕ, zero, suc, _+_, _-_, _≤_, _<_}
 use native.Mathlib.Omega.{arith}
 use mathlib.Core.Path.{_≡_, refl, sym, ap, _∙_}
 use mathlib.Core.Bool.{Bool, true, false, _||_, _&&_}
@@ -67,6 +67,16 @@ pub record Passing (s : List ℕ) (v : Variant) (k first i at : ℕ) : Type 0 wh
 
 pub passing-none : (s : List ℕ) (v : Variant) (k first : ℕ) → Passing s v k first 0 first
 passing-none s v k first = record { most = omega arith; rest = ap (λ (n : ℕ). repeated s v n first) (let e : k ≡ k - 0 = omega arith in e) }
+
+-- there is nothing behind the end
+pub passing-out : (s : List ℕ) (v : Variant) (k first : ℕ) → length s < first → repeated s v k first ≡ false
+unfolding repeated
+passing-out s v zero first l = refl
+passing-out s v (suc k) first l = let cut : length s < behind s first = omega arith in rw (lt-leb (behind s first) (length s) cut)
+
+-- the part that a length at `at` states, as the code has it
+pub part-letters : (s : List ℕ) (at n : ℕ) → n ≡ word s at → take (at + 2 + n - (at + 2)) (drop (at + 2) s) ≡ lettersAt s at
+part-letters s at n e = let long : at + 2 + n - (at + 2) ≡ word s at = omega arith in rw long
 
 module _ (s : List ℕ) (v : Variant) (k first i at : ℕ) (p : Passing s v k first i at) where
   one-more : i < k → repeated s v k first ≡ (leb (behind s at) (length s) && (same v (lettersAt s at) || repeated s v (k - (i + 1)) (behind s at)))

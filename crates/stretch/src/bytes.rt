@@ -1,4 +1,5 @@
 // Numbers in the bytes of a stretch.
+use crate::pair::pair;
 ghost use mathlib.Core.Path.{_≡_};
 ghost use Prim.Native.Nat.{_<_};
 ghost use Rattle.stretch.specs.Bytes.{word};
@@ -17,9 +18,8 @@ pub fn word(bytes: &[u8], at: usize) -> usize
     if bytes.len() <= at {
         return 0;
     }
-    let low = wide(bytes[at]);
     if bytes.len() - at == 1 {
-        return low;
+        return wide(bytes[at]);
     }
-    low + wide(bytes[at + 1]) * 256
+    pair(bytes, at)
 }

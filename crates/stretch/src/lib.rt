@@ -1,6 +1,7 @@
 // The bytes of a stretch: what they mean as a text, their check, their writer and their reader.
 pub mod bytes;
 mod checking;
+mod pair;
 mod reading;
 mod segment;
 mod skip;

@@ -1,6 +1,6 @@
 // One variant in the bytes: where its letters stand and whether it is sound. Every walk over a stretch is made of these
 // pieces, so no other crate knows how a length is written.
-use crate::bytes::word;
+use crate::pair::pair;
 use text::Refusal;
 use text::compare::same;
 use text::letter::first_wrong;
@@ -33,14 +33,15 @@ pub fn head(stretch: &[u8], at: usize) -> Part
     if end <= at {
         return cut_off(at);
     }
-    if end - at < 2 {
+    let left = end - at;
+    if left < 2 {
+        return cut_off(at);
+    }
+    let letters = pair(stretch, at);
+    if left - 2 < letters {
         return cut_off(at);
     }
     let start = at + 2;
-    let letters = word(stretch, at);
-    if end - start < letters {
-        return cut_off(at);
-    }
     let next = start + letters;
     Part::At { start, next }
 }
@@ -50,12 +51,23 @@ pub fn head(stretch: &[u8], at: usize) -> Part
 pub fn repeated(stretch: &[u8], first: usize, k: usize, variant: &[u8]) -> bool
     ensures { λ r. ⌜ r ≡ repeated (now (stretch .entry)) (now (variant .entry)) k first ⌝ }
 {
+    let end = stretch.len();
+    if end < first {
+        return false;
+    }
     let mut at = first;
     let mut i = 0;
     while i < k {
-        let Part::At { start, next } = head(stretch, at) else {
+        let left = end - at;
+        if left < 2 {
             return false;
-        };
+        }
+        let letters = pair(stretch, at);
+        if left - 2 < letters {
+            return false;
+        }
+        let start = at + 2;
+        let next = start + letters;
         if same(variant, &stretch[start..next]) {
             return true;
         }

@@ -1,6 +1,6 @@
 -- `search::method::segment_by` meets its contract: each method has it, and the tools are those of the method that is taken.
 use borrow.Author.Needs.{needs}
-use Rattle.search.proofs.Methods.{ready-bits, no-borders}
+use Rattle.search.proofs.Methods.{ready-bits, ready-borders}
 use Rattle.search.proofs.method.segment_by.Statement.{statement}
 use Rattle.search.proofs.method.segment_by.Tie as tie
 
@@ -13,8 +13,10 @@ segment-bits-requires c κs = ready-bits _ _ _ _ _ (c .enum-told .given .1) (c .
 enum-told-2 : tie.Need-enum-told-2
 enum-told-2 c = search needs
 
-segment-bits-requires-2 : tie.Need-segment-bits-requires-2
-segment-bits-requires-2 c κs = absurd (no-borders _ _ _ _ (c .enum-told2 .given .1) (c .before .before .before .before .pre .0))
+segment-borders-requires : tie.Need-segment-borders-requires
+segment-borders-requires c κs =
+    let start = c .before .before .before .before in
+    ready-borders _ _ _ _ _ (c .enum-told2 .given .1) (start .pre .0) (start .pre .1)
 
 returns : tie.Need-returns
 returns c = search needs
@@ -29,6 +31,6 @@ segment-by-spec =
     enum-told
     segment-bits-requires
     enum-told-2
-    segment-bits-requires-2
+    segment-borders-requires
     returns
     returns-2)

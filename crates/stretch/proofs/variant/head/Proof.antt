@@ -13,8 +13,8 @@ cut-off-requires c κs = search needs
 returns : tie.Need-returns
 returns c = c .cut-off .ensures ∙ sym (head-cut _ _ (omega arith))
 
-sub-if2 : tie.Need-sub-if2
-sub-if2 c = search needs
+sub-left : tie.Need-sub-left
+sub-left c = search needs
 
 cut-off-requires-2 : tie.Need-cut-off-requires-2
 cut-off-requires-2 c κs = search needs
@@ -22,26 +22,23 @@ cut-off-requires-2 c κs = search needs
 returns-2 : tie.Need-returns-2
 returns-2 c = c .cut-off2 .ensures ∙ sym (head-cut _ _ (omega arith))
 
-add-start : tie.Need-add-start
-add-start c = search needs
-
-word-requires : tie.Need-word-requires
-word-requires c κs = search needs
-
-sub-if3 : tie.Need-sub-if3
-sub-if3 c = search needs
+pair-requires : tie.Need-pair-requires
+pair-requires c κs = search needs
 
 cut-off-requires-3 : tie.Need-cut-off-requires-3
 cut-off-requires-3 c κs = search needs
 
 returns-3 : tie.Need-returns-3
-returns-3 c = c .cut-off3 .ensures ∙ sym (head-cut _ _ (omega (arith, c .before .before .word .ensures)))
+returns-3 c = c .cut-off3 .ensures ∙ sym (head-cut _ _ (omega (arith, c .before .before .pair .ensures)))
+
+add-start : tie.Need-add-start
+add-start c = search needs
 
 add-next : tie.Need-add-next
 add-next c = search needs
 
 returns-4 : tie.Need-returns-4
-returns-4 c = sym (head-found _ _ _ (c .before .word .ensures) (omega (arith, c .before .word .ensures)))
+returns-4 c = sym (head-found _ _ _ (c .before .pair .ensures) (omega (arith, c .before .pair .ensures)))
 
 pub head-spec : {M : Type 1} → statement M
 head-spec =
@@ -49,13 +46,12 @@ head-spec =
     (tie.spec
     cut-off-requires
     returns
-    sub-if2
+    sub-left
     cut-off-requires-2
     returns-2
-    add-start
-    word-requires
-    sub-if3
+    pair-requires
     cut-off-requires-3
     returns-3
+    add-start
     add-next
     returns-4)

@@ -1,0 +1,72 @@
+-- One carried length q and a variant v. That v leads q to r is `take r P ≡ take q P ++ v`.
+use Prim.Native.Nat.{ℕ, _+_, _-_, _*_, _%_, _^_, _≤_, _<_}
+use native.Mathlib.Nat.{le-of-lt}
+use native.Mathlib.Omega.{arith}
+use mathlib.Core.Path.{_≡_, sym, ap, _∙_}
+use mathlib.Core.Logic.{_↔_}
+use mathlib.Core.Bool.{Bool, true, false, false≢true}
+use mathlib.Core.List.{List, _++_, append-cancel-left}
+use lib.ListN.{length, take, drop, length-append, length-drop}
+use lib.Seq.{take-add, length-take-le}
+use Rattle.text.specs.Compare.{same, prefix}
+use Rattle.text.specs.Occurrence.{Prefix}
+use Rattle.text.proofs.Strings.{same-eq, eq-same, prefix-is, is-prefix, part-end}
+use Rattle.text.proofs.Steps.{split-length}
+use Rattle.search.specs.Border.{Sized}
+use Rattle.search.specs.BorderStep.{Holds, CarriesOne}
+use Rattle.search.proofs.BorderHolds.{lone, holds-none, holds-lone, holds-map}
+
+module _ (P v : List ℕ) (q : ℕ) (near : q < length P) where
+  -- r is as far behind q as v is long
+  led-far : (r : ℕ) → r < length P → take r P ≡ take q P ++ v → q + length v ≡ r
+  led-far r l e = omega (arith, split-length P (take q P) v r (le-of-lt l) e, length-take-le q P (le-of-lt near))
+
+  -- v is the bases between
+  led-spelt : (r : ℕ) → r < length P → take r P ≡ take q P ++ v → v ≡ take (length v) (drop q P)
+  led-spelt r l e =
+      append-cancel-left (take q P) v (take (length v) (drop q P))
+      (sym e ∙ ap (λ (i : ℕ). take i P) (sym (led-far r l e)) ∙ take-add q (length v) P)
+
+  unled : ((r : ℕ) → r < length P → take r P ≡ take q P ++ v → ⊥) → Holds (length P) (λ r. take r P ≡ take q P ++ v) 0
+  unled f = holds-map (λ r l. (absurd, f r l)) holds-none
+
+  -- v has at least the remaining bases: it may end an occurrence
+  pub carries-end : {ends : Bool} → length P - q ≤ length v → ends ≡ prefix (take (length P - q) (drop q P)) v → CarriesOne P q v 0 ends
+  carries-end long e = record {
+    lengths = unled (λ r l s. let z : ⊥ = omega (arith, led-far r l s) in z);
+    end = rw (e, part-end P q) (prefix-is (drop q P) v, is-prefix (drop q P) v);
+  }
+
+  -- v has fewer: it may lead on, to q + |v|
+  module _ {alike : Bool} (short : length v < length P - q) (e : alike ≡ same v (take (q + length v - q) (drop q P))) where
+    no-end : (false ≡ true) ↔ Prefix (drop q P) v
+    no-end = (
+      λ e. absurd (false≢true e),
+      λ h. absurd (let z : ⊥ = omega (arith, length-drop q P, simp length-append at (ap length (h .split))) in z),
+    )
+
+    part : alike ≡ same v (take (length v) (drop q P))
+    part = let n : q + length v - q ≡ length v = omega arith in rw n at e
+
+    pub carries-on : Sized P → alike ≡ true → CarriesOne P q v (1 * 2 ^ (q + length v) % 2 ^ 64) false
+    carries-on sized t =
+        let end = q + length v in
+        let within : end < length P = omega arith in
+        rw (lone end (let z : end < 64 = omega (arith, sized .short) in z)) record {
+          lengths = holds-map only (holds-lone end within);
+          end = no-end;
+        }
+      where
+        led : take (q + length v) P ≡ take q P ++ v
+        led =
+            take-add q (length v) P
+            ∙ ap (λ (w : List ℕ). take q P ++ w) (sym (same-eq v (take (length v) (drop q P)) (sym part ∙ t)))
+
+        only : (r : ℕ) → r < length P → (q + length v ≡ r) ↔ (take r P ≡ take q P ++ v)
+        only r l = (λ (f : q + length v ≡ r). rw f at led, led-far r l)
+
+    pub carries-not : alike ≡ false → CarriesOne P q v 0 false
+    carries-not t = record {
+      lengths = unled (λ r l s. false≢true (sym t ∙ part ∙ eq-same v (take (length v) (drop q P)) (led-spelt r l s)));
+      end = no-end;
+    }

@@ -1,0 +1,36 @@
+// One variant's step by border tables (Grossi et al., CPM 2017, section 4): a scan after Knuth, Morris and Pratt for what begins
+// in the variant, and one comparison for each carried length. The cost is linear in the variant's letters, with at most m more
+// for the chain of borders at its end and for each carried length.
+use crate::borders::begun::begun;
+use crate::borders::carried::carried;
+use crate::step::Stepped;
+ghost use Prim.Native.Nat.{_<_, _^_};
+ghost use lib.ListN.{length};
+ghost use Rattle.search.specs.Border.{Borders, Sized};
+ghost use Rattle.search.specs.Step.{Steps};
+
+mod begun;
+mod carried;
+mod segment;
+mod table;
+
+pub use segment::segment_borders;
+pub use table::border_table;
+
+// The state that `bits` leads to by one variant, and whether an occurrence ends in it. Where bit 0 is clear nothing begins.
+pub fn step_borders(pattern: &[u8], table: &[u64; 256], bits: u64, variant: &[u8]) -> Stepped
+    requires { ⌜ Sized (now pattern) ⌝ }
+    requires { ⌜ Borders (now pattern) (now table) ⌝ }
+    requires { ⌜ bits < 2 ^ length (now pattern) ⌝ }
+    ensures { λ r. ⌜ Steps (now (pattern .entry)) bits (now (variant .entry)) (r .bits) (r .ends) ⌝ }
+{
+    let sent = carried(pattern, bits, variant);
+    if bits % 2 == 0 {
+        return sent;
+    }
+    let fresh = begun(pattern, table, variant);
+    Stepped {
+        bits: sent.bits | fresh.bits,
+        ends: sent.ends | fresh.ends,
+    }
+}

@@ -1,0 +1,52 @@
+// What a fresh start makes of a variant: the prefixes of the pattern that end it, and whether the pattern lies in it.
+use crate::borders::table::fallback;
+use crate::step::Stepped;
+ghost use Rattle.search.specs.Border.{Borders, Sized};
+ghost use Rattle.search.specs.BorderStep.{Begins, Scans};
+
+// What a scan tells: the longest prefix of the pattern, short of the whole, that ends the letters read, and whether the whole
+// pattern lies in them.
+struct Scanned {
+    longest: usize,
+    whole: bool,
+}
+
+// Reads a variant letter by letter (Knuth, Morris and Pratt).
+fn scan(pattern: &[u8], table: &[u64; 256], variant: &[u8]) -> Scanned
+    requires { ⌜ Sized (now pattern) ⌝ }
+    requires { ⌜ Borders (now pattern) (now table) ⌝ }
+    ensures { λ r. ⌜ Scans (now (pattern .entry)) (now (variant .entry)) (r .longest) (r .whole) ⌝ }
+{
+    let m = pattern.len();
+    let mut longest = 0;
+    let mut whole = false;
+    let mut i = 0;
+    while i < variant.len() {
+        longest = fallback(pattern, table, longest, variant[i]);
+        if longest == m {
+            whole = true;
+            longest = table[m] as usize;
+        }
+        i += 1;
+    }
+    Scanned { longest, whole }
+}
+
+// Every prefix that ends the variant is the longest one, or its border, or that one's border, and so on down to none.
+pub fn begun(pattern: &[u8], table: &[u64; 256], variant: &[u8]) -> Stepped
+    requires { ⌜ Sized (now pattern) ⌝ }
+    requires { ⌜ Borders (now pattern) (now table) ⌝ }
+    ensures { λ r. ⌜ Begins (now (pattern .entry)) (now (variant .entry)) (r .bits) (r .ends) ⌝ }
+{
+    let scanned = scan(pattern, table, variant);
+    let mut k = scanned.longest;
+    let mut bits: u64 = 1 << k;
+    while k != 0 {
+        k = table[k] as usize;
+        bits = bits | (1 << k);
+    }
+    Stepped {
+        bits,
+        ends: scanned.whole,
+    }
+}

@@ -1,0 +1,56 @@
+// What a variant makes of carried lengths: where it leads them, and whether it has the bases that remain.
+use crate::step::Stepped;
+use text::compare::prefix;
+use text::compare::same;
+ghost use Prim.Native.Nat.{_<_, _^_};
+ghost use lib.ListN.{length};
+ghost use Rattle.search.specs.Border.{Sized};
+ghost use Rattle.search.specs.BorderStep.{CarriesOne, CarriesAll};
+
+// One carried length q. A variant shorter than the remaining bases may lead on, one that is not may end an occurrence.
+fn carried_one(pattern: &[u8], q: usize, variant: &[u8]) -> Stepped
+    requires { ⌜ Sized (now pattern) ⌝ }
+    requires { ⌜ q < length (now pattern) ⌝ }
+    ensures { λ r. ⌜ CarriesOne (now (pattern .entry)) q (now (variant .entry)) (r .bits) (r .ends) ⌝ }
+{
+    let m = pattern.len();
+    let n = variant.len();
+    if m - q <= n {
+        return Stepped {
+            bits: 0,
+            ends: prefix(&pattern[q..], variant),
+        };
+    }
+    let end = q + n;
+    if same(variant, &pattern[q..end]) {
+        let bits = 1 << end;
+        Stepped { bits, ends: false }
+    } else {
+        Stepped {
+            bits: 0,
+            ends: false,
+        }
+    }
+}
+
+// Every carried length of a state, one after another; its bit 0 is passed over.
+pub fn carried(pattern: &[u8], state: u64, variant: &[u8]) -> Stepped
+    requires { ⌜ Sized (now pattern) ⌝ }
+    requires { ⌜ state < 2 ^ length (now pattern) ⌝ }
+    ensures { λ r. ⌜ CarriesAll (now (pattern .entry)) state (length (now (pattern .entry))) (now (variant .entry)) (r .bits) (r .ends) ⌝ }
+{
+    let mut bits = 0;
+    let mut ends = false;
+    let mut rest = state / 2;
+    let mut q = 1;
+    while rest != 0 {
+        if rest % 2 == 1 {
+            let one = carried_one(pattern, q, variant);
+            bits = bits | one.bits;
+            ends = ends | one.ends;
+        }
+        rest = rest / 2;
+        q += 1;
+    }
+    Stepped { bits, ends }
+}
