@@ -60,38 +60,32 @@ whole-letters s at l = simp (length-take, length-drop) (omega arith)
 pub whole-length : (s : List ℕ) (at start next : ℕ) → Whole s at start next → length (lettersAt s at) ≡ next - start
 whole-length s at start next w = omega (arith, whole-letters s at (w .inside), w .starts, w .ends)
 
--- the search for a repetition has passed i variants and stands at `at`
-pub record Passing (s : List ℕ) (v : Variant) (k first i at : ℕ) : Type 0 where
-  pub most : i ≤ k
-  pub rest : repeated s v k first ≡ repeated s v (k - i) at
-
-pub passing-none : (s : List ℕ) (v : Variant) (k first : ℕ) → Passing s v k first 0 first
-passing-none s v k first = record { most = omega arith; rest = ap (λ (n : ℕ). repeated s v n first) (let e : k ≡ k - 0 = omega arith in e) }
-
 -- there is nothing behind the end
-pub passing-out : (s : List ℕ) (v : Variant) (k first : ℕ) → length s < first → repeated s v k first ≡ false
+pub repeated-out : (s : List ℕ) (v : Variant) (k first : ℕ) → length s < first → repeated s v k first ≡ false
 unfolding repeated
-passing-out s v zero first l = refl
-passing-out s v (suc k) first l = let cut : length s < behind s first = omega arith in rw (lt-leb (behind s first) (length s) cut)
+repeated-out s v zero first l = refl
+repeated-out s v (suc k) first l = let cut : length s < behind s first = omega arith in rw (lt-leb (behind s first) (length s) cut)
 
 -- the part that a length at `at` states, as the code has it
 pub part-letters : (s : List ℕ) (at n : ℕ) → n ≡ word s at → take (at + 2 + n - (at + 2)) (drop (at + 2) s) ≡ lettersAt s at
 part-letters s at n e = let long : at + 2 + n - (at + 2) ≡ word s at = omega arith in rw long
 
-module _ (s : List ℕ) (v : Variant) (k first i at : ℕ) (p : Passing s v k first i at) where
-  one-more : i < k → repeated s v k first ≡ (leb (behind s at) (length s) && (same v (lettersAt s at) || repeated s v (k - (i + 1)) (behind s at)))
+-- the search for a repetition stands at `at`, with `rest` variants left
+module _ (s : List ℕ) (v : Variant) (rest at : ℕ) (some : rest ≡ 0 → ⊥) where
+  one-more : repeated s v rest at ≡ (leb (behind s at) (length s) && (same v (lettersAt s at) || repeated s v (rest - 1) (behind s at)))
   unfolding repeated
-  one-more l = p .rest ∙ ap (λ (n : ℕ). repeated s v n at) (let e : k - i ≡ suc (k - (i + 1)) = omega (arith, p .most) in e)
+  one-more = ap (λ (n : ℕ). repeated s v n at) (let e : rest ≡ suc (rest - 1) = omega arith in e)
 
-  pub passing-cut : i < k → length s < behind s at → repeated s v k first ≡ false
-  passing-cut l c = one-more l ∙ rw (lt-leb (behind s at) (length s) c)
+  pub repeated-cut : length s < behind s at → repeated s v rest at ≡ false
+  repeated-cut c = one-more ∙ rw (lt-leb (behind s at) (length s) c)
 
-  pub passing-found : i < k → behind s at ≤ length s → same v (lettersAt s at) ≡ true → repeated s v k first ≡ true
-  passing-found l w e = one-more l ∙ rw (le-leb (behind s at) (length s) w, e)
+  module _ (whole : behind s at ≤ length s) where
+    pub repeated-found : same v (lettersAt s at) ≡ true → repeated s v rest at ≡ true
+    repeated-found e = one-more ∙ rw (le-leb (behind s at) (length s) whole, e)
 
-  pub passing-more : i < k → behind s at ≤ length s → same v (lettersAt s at) ≡ false → Passing s v k first (i + 1) (behind s at)
-  passing-more l w e = record { most = omega arith; rest = one-more l ∙ rw (le-leb (behind s at) (length s) w, e) }
+    pub repeated-next : same v (lettersAt s at) ≡ false → repeated s v rest at ≡ repeated s v (rest - 1) (behind s at)
+    repeated-next e = one-more ∙ rw (le-leb (behind s at) (length s) whole, e)
 
-  pub passing-end : k ≤ i → repeated s v k first ≡ false
-  unfolding repeated
-  passing-end l = p .rest ∙ ap (λ (n : ℕ). repeated s v n at) (let e : k - i ≡ 0 = omega arith in e)
+pub repeated-none : (s : List ℕ) (v : Variant) (rest at : ℕ) → rest ≡ 0 → repeated s v rest at ≡ false
+unfolding repeated
+repeated-none s v rest at e = rw e

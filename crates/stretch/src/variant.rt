@@ -55,15 +55,16 @@ pub fn repeated(stretch: &[u8], first: usize, k: usize, variant: &[u8]) -> bool
     if end < first {
         return false;
     }
-    let mut at = first;
-    let mut i = 0;
-    while i < k {
-        let left = end - at;
+    let mut left = end - first;
+    let mut rest = k;
+    while rest != 0 {
         if left < 2 {
             return false;
         }
+        let at = end - left;
         let letters = pair(stretch, at);
-        if left - 2 < letters {
+        let behind = left - 2;
+        if behind < letters {
             return false;
         }
         let start = at + 2;
@@ -71,8 +72,8 @@ pub fn repeated(stretch: &[u8], first: usize, k: usize, variant: &[u8]) -> bool
         if same(variant, &stretch[start..next]) {
             return true;
         }
-        at = next;
-        i += 1;
+        left = behind - letters;
+        rest -= 1;
     }
     false
 }

@@ -1,35 +1,41 @@
--- `stretch::variant::repeated` meets its contract. The loop's invariant, `Passing`: the i variants passed are all different, and
--- the search goes on at the next one. The measure is the number of variants left.
+-- `stretch::variant::repeated` meets its contract. The loop's invariant: the variants passed are all different, and the search goes on
+-- with those left. The measure is their number.
 use Prim.Native.Nat.{_-_, _≤_}
 use borrow.Author.Needs.{needs}
 use native.Mathlib.Omega.{arith}
-use mathlib.Core.Path.{sym, ap, _∙_}
+use mathlib.Core.Path.{_≡_, sym, ap, _∙_}
 use lib.ListN.{length}
 use Rattle.text.specs.Compare.{same}
 use Rattle.stretch.specs.Reading.{behind}
-use Rattle.stretch.proofs.Heads.{part-letters, Passing, passing-none, passing-out, passing-cut, passing-found, passing-more, passing-end}
+use Rattle.stretch.specs.Variants.{repeated}
+use Rattle.stretch.proofs.Heads.{part-letters, repeated-out, repeated-cut, repeated-found, repeated-next, repeated-none}
 use Rattle.stretch.proofs.variant.repeated.Statement.{statement}
 use Rattle.stretch.proofs.variant.repeated.Tie as tie
 
 abbrev Inv-loop : tie.InvT-loop
-Inv-loop stretch first k variant end at₀ i₀ at i = Passing stretch variant k first i at × (at ≤ length stretch)
+Inv-loop stretch first k variant end left₀ rest₀ left rest =
+    (repeated stretch variant k first ≡ repeated stretch variant rest (length stretch - left)) × (left ≤ length stretch)
 
 abbrev μ-loop : tie.MeasureT-loop
-μ-loop stretch first k variant end at₀ i₀ at i = k - i
+μ-loop stretch first k variant end left₀ rest₀ left rest = rest
 
 returns : tie.Need-returns Inv-loop μ-loop
-returns c = sym (passing-out _ _ _ _ (c .if1 .taken))
+returns c = sym (repeated-out _ _ _ _ (c .if1 .taken))
 
 loop-holds : tie.Need-loop-holds Inv-loop μ-loop
-loop-holds c = (passing-none _ _ _ _, c .if1 .left)
-
-sub-left : tie.Need-sub-left Inv-loop μ-loop
-sub-left c = search needs
+loop-holds c =
+    let a = c .before .before .before .args in
+    let s = a .stretch .now in
+    let place : a .first ≡ length s - (length s - a .first) = omega arith in
+    (ap (repeated s (a .variant .now) (a .k)) place, omega arith)
 
 returns-2 : tie.Need-returns-2 Inv-loop μ-loop
 returns-2 c =
     let d = c .before in
-    sym (passing-cut _ _ _ _ _ _ (d .before .loop .inv .0) (d .loop-test .taken) (omega arith))
+    sym (d .before .loop .inv .0 ∙ repeated-cut _ _ _ _ (d .loop-test .taken) (omega arith))
+
+sub-at : tie.Need-sub-at Inv-loop μ-loop
+sub-at c = search needs
 
 pair-requires : tie.Need-pair-requires Inv-loop μ-loop
 pair-requires c κs = search needs
@@ -37,7 +43,7 @@ pair-requires c κs = search needs
 returns-3 : tie.Need-returns-3 Inv-loop μ-loop
 returns-3 c =
     let d = c .before .before .before in
-    sym (passing-cut _ _ _ _ _ _ (d .before .loop .inv .0) (d .loop-test .taken) (omega (arith, c .before .pair .ensures)))
+    sym (d .before .loop .inv .0 ∙ repeated-cut _ _ _ _ (d .loop-test .taken) (omega (arith, c .before .pair .ensures)))
 
 add-start : tie.Need-add-start Inv-loop μ-loop
 add-start c = search needs
@@ -62,12 +68,12 @@ returns-4 c =
     let d = c .before .before .before .before in
     let turn = d .before .before in
     let s = turn .before .before .before .before .before .args .stretch .now in
-    let inside : behind s (turn .before .loop .at) ≤ length s = omega (arith, d .pair .ensures) in
+    let inside : behind s (length s - turn .before .loop .left) ≤ length s = omega (arith, d .pair .ensures) in
     let same = sym (ap (same _) (part-letters _ _ _ (d .pair .ensures))) ∙ sym (c .before .same .ensures) ∙ c .if4 .taken in
-    sym (passing-found _ _ _ _ _ _ (turn .before .loop .inv .0) (turn .loop-test .taken) inside same)
+    sym (turn .before .loop .inv .0 ∙ repeated-found _ _ _ _ (turn .loop-test .taken) inside same)
 
-add-i : tie.Need-add-i Inv-loop μ-loop
-add-i c = search needs
+sub-rest : tie.Need-sub-rest Inv-loop μ-loop
+sub-rest c = search needs
 
 loop-less : tie.Need-loop-less Inv-loop μ-loop
 loop-less c = search needs
@@ -76,15 +82,19 @@ loop-again : tie.Need-loop-again Inv-loop μ-loop
 loop-again c =
     let d = c .before .before .before .before in
     let turn = d .before .before in
-    let s = turn .before .before .before .before .before .args .stretch .now in
-    let inside : behind s (turn .before .loop .at) ≤ length s = omega (arith, d .pair .ensures) in
-    let other = sym (ap (same _) (part-letters _ _ _ (d .pair .ensures))) ∙ sym (c .before .same .ensures) ∙ c .if4 .left in (
-      rw (d .pair .ensures) (passing-more _ _ _ _ _ _ (turn .before .loop .inv .0) (turn .loop-test .taken) inside other),
-      omega (arith, d .pair .ensures),
+    let a = turn .before .before .before .before .before .args in
+    let s = a .stretch .now in
+    let left = turn .before .loop .left in
+    let inside : behind s (length s - left) ≤ length s = omega (arith, d .pair .ensures) in
+    let other = sym (ap (same _) (part-letters _ _ _ (d .pair .ensures))) ∙ sym (c .before .same .ensures) ∙ c .if4 .left in
+    let place : behind s (length s - left) ≡ length s - (left - 2 - d .pair .result) = omega (arith, d .pair .ensures) in (
+      turn .before .loop .inv .0 ∙ repeated-next _ _ _ _ (turn .loop-test .taken) inside other
+          ∙ ap (repeated s (a .variant .now) (turn .before .loop .rest - 1)) place,
+      omega arith,
     )
 
 returns-5 : tie.Need-returns-5 Inv-loop μ-loop
-returns-5 c = sym (passing-end _ _ _ _ _ _ (c .before .loop .inv .0) (c .loop-test .left))
+returns-5 c = sym (c .before .loop .inv .0 ∙ repeated-none _ _ _ _ (c .loop-test .left))
 
 pub repeated-spec : {M : Type 1} → statement M
 repeated-spec =
@@ -94,8 +104,8 @@ repeated-spec =
     μ-loop
     returns
     loop-holds
-    sub-left
     returns-2
+    sub-at
     pair-requires
     returns-3
     add-start
@@ -105,7 +115,7 @@ repeated-spec =
     part-same-end
     same-requires
     returns-4
-    add-i
+    sub-rest
     loop-less
     loop-again
     returns-5)
