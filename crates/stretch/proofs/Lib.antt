@@ -16,3 +16,13 @@ pub mod Skips
 pub mod Places
 pub mod Readings
 pub mod ReadingOn
+pub mod Totals
+pub mod Cuts
+pub mod Repetitions
+pub mod Givens
+pub mod Texts
+pub mod GivenText
+pub mod SegmentBytes
+pub mod TextBytes
+pub mod Writings
+pub mod Writable

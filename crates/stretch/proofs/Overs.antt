@@ -8,6 +8,9 @@ use lib.ListN.{length, take, drop, set, getD, length-append, length-take, length
 use lib.Seq.{take-at, drop-append-add, drop-drop, drop-cons, set-split}
 use Rattle.stretch.specs.Bytes.{over}
 
+drop-behind : (p q : List ℕ) (n m : ℕ) → length p ≡ n → drop (n + m) (p ++ q) ≡ drop m q
+drop-behind p q n m e = rw (← e) (drop-append-add p q m)
+
 module _ (d : List ℕ) (at : ℕ) where
   pub over-none : over d at [] ≡ d
   unfolding over
@@ -29,12 +32,12 @@ module _ (d : List ℕ) (at : ℕ) where
         let n : ℕ = at + length xs in
         let p : List ℕ = take at d ++ xs in
         let q : List ℕ = drop n d in
+        let m : ℕ = length ys in
         let np : length p ≡ n = simp (length-append, length-take) (omega arith) in
         let first : over d at xs ≡ p ++ q = sym (append-assoc (take at d) xs q) in
         let front : take n (p ++ q) ≡ p = take-at p q n np in
-        let behind : drop (n + length ys) (p ++ q) ≡ drop (n + length ys) d =
-        ap (λ (k : ℕ). drop (k + length ys) (p ++ q)) (sym np) ∙ drop-append-add p q (length ys) ∙ drop-drop (length ys) n d in
-        let far : at + length (xs ++ ys) ≡ n + length ys = simp length-append (omega arith) in
+        let behind : drop (n + m) (p ++ q) ≡ drop (n + m) d = drop-behind p q n m np ∙ drop-drop m n d in
+        let far : at + length (xs ++ ys) ≡ n + m = simp length-append (omega arith) in
         rw (first, front, behind, far) (simp append-assoc)
 
 -- two numbers set one after the other
@@ -45,7 +48,8 @@ over-two d at a b l =
     let second : at + 1 < length (over d at (a ∷ [])) = omega (arith, length-over d at (a ∷ []) room) in
     rw (over-set d at a first) (over-set (over d at (a ∷ [])) (at + 1) b second ∙ over-over d at (a ∷ []) room (b ∷ []))
 
--- of `all`, which is to be written over d from place `from` on, the buffer holds what stands before `rest`; that comes next, at place `at`
+-- of `all`, which is to be written over d from place `from` on, the buffer holds what stands before `rest`, which comes next, at
+-- place `at`
 pub record Emitted (d : List ℕ) (from : ℕ) (all out : List ℕ) (at : ℕ) (rest : List ℕ) : Type 0 where
   pub done : List ℕ
   pub split : all ≡ done ++ rest
@@ -53,57 +57,55 @@ pub record Emitted (d : List ℕ) (from : ℕ) (all out : List ℕ) (at : ℕ) (
   pub left : out ≡ over d from done
   pub room : from + length all ≤ length d
 
-module _ (d : List ℕ) (from : ℕ) (all : List ℕ) where
-  pub emitted-none : from + length all ≤ length d → Emitted d from all d from all
-  emitted-none l = record { done = []; split = refl; place = omega arith; left = sym (over-none d from); room = l }
+pub emitted-none : (d : List ℕ) (from : ℕ) (all : List ℕ) → from + length all ≤ length d → Emitted d from all d from all
+emitted-none d from all l = record { done = []; split = refl; place = omega arith; left = sym (over-none d from); room = l }
 
-  module _ (out : List ℕ) (at : ℕ) (rest : List ℕ) (e : Emitted d from all out at rest) where
-    lengths : length all ≡ length (e .done) + length rest
-    lengths = ap length (e .split) ∙ length-append (e .done) rest
+module _ {d : List ℕ} {from : ℕ} {all out : List ℕ} {at : ℕ} {rest : List ℕ} (e : Emitted d from all out at rest) where
+  lengths : length all ≡ length (e .done) + length rest
+  lengths = ap length (e .split) ∙ length-append (e .done) rest
 
-    pub emitted-length : length out ≡ length d
-    emitted-length =
-        let l : from + length (e .done) ≤ length d = omega (arith, lengths) in
-        ap length (e .left) ∙ length-over d from (e .done) l
+  inside : from + length (e .done) ≤ length d
+  inside = omega (arith, lengths, e .room)
 
-    pub emitted-room : at + length rest ≤ length out
-    emitted-room = omega (arith, lengths, emitted-length)
+  pub emitted-length : length out ≡ length d
+  emitted-length = ap length (e .left) ∙ length-over d from (e .done) inside
 
-    -- one more piece
-    pub emitted-more :
-        (piece after more : List ℕ) (next : ℕ) → rest ≡ piece ++ more → after ≡ over out at piece → next ≡ at + length piece →
-        Emitted d from all after next more
-    emitted-more piece after more next s w n =
-        let l : from + length (e .done) ≤ length d = omega (arith, lengths) in
-        record {
-          done = e .done ++ piece;
-          split = e .split ∙ rw s (sym (append-assoc (e .done) piece more));
-          place = omega (arith, length-append (e .done) piece);
-          left = w ∙ rw (e .left, e .place) (over-over d from (e .done) l piece);
-          room = e .room;
-        }
+  pub emitted-room : at + length rest ≤ length out
+  emitted-room = omega (arith, lengths, emitted-length, e .place, e .room)
 
-    pub emitted-end : rest ≡ [] → out ≡ over d from all
-    emitted-end n = e .left ∙ ap (over d from) (sym (e .split ∙ rw n (append-nil (e .done))))
+  -- one more piece
+  pub emitted-more :
+      (piece more : List ℕ) {after : List ℕ} {next : ℕ} → rest ≡ piece ++ more → after ≡ over out at piece → next ≡ at + length piece →
+      Emitted d from all after next more
+  emitted-more piece more s w n =
+      record {
+        done = e .done ++ piece;
+        split = e .split ∙ rw s (sym (append-assoc (e .done) piece more));
+        place = omega (arith, length-append (e .done) piece, e .place);
+        left = w ∙ rw (e .left, e .place) (over-over d from (e .done) inside piece);
+        room = e .room;
+      }
+
+  pub emitted-end : rest ≡ [] → out ≡ over d from all
+  emitted-end n = e .left ∙ ap (over d from) (sym (e .split ∙ rw n (append-nil (e .done))))
 
 -- a list copied member by member: the first i of them are
-abbrev pub Copied : List ℕ → ℕ → List ℕ → List ℕ → ℕ → Type 0
-Copied d from xs out i = Emitted d from xs out (from + i) (drop i xs)
+pub record Copied (d : List ℕ) (from : ℕ) (xs out : List ℕ) (i : ℕ) : Type 0 where
+  pub emitted : Emitted d from xs out (from + i) (drop i xs)
 
-module _ (d : List ℕ) (from : ℕ) (xs : List ℕ) where
-  pub copied-none : from + length xs ≤ length d → Copied d from xs d 0
-  copied-none l = let e : from + 0 ≡ from = omega arith in rw e (emitted-none d from xs l)
+pub copied-none : (d : List ℕ) (from : ℕ) (xs : List ℕ) → from + length xs ≤ length d → Copied d from xs d 0
+copied-none d from xs l = let e : from + 0 ≡ from = omega arith in record { emitted = rw e (emitted-none d from xs l) }
 
-  module _ (out : List ℕ) (i : ℕ) (c : Copied d from xs out i) where
-    pub copied-room : i < length xs → from + i < length out
-    copied-room l = omega (arith, emitted-room d from xs out (from + i) (drop i xs) c, length-drop i xs)
+module _ {d : List ℕ} {from : ℕ} {xs out : List ℕ} {i : ℕ} (c : Copied d from xs out i) where
+  pub copied-room : i < length xs → from + i < length out
+  copied-room l = omega (arith, emitted-room (c .emitted), length-drop i xs)
 
-    pub copied-more : i < length xs → Copied d from xs (set out (from + i) (getD xs i 0)) (i + 1)
-    copied-more l =
-        let a : ℕ = getD xs i 0 in
-        let more : drop i xs ≡ (a ∷ []) ++ drop (i + 1) xs = rw add-one (drop-cons xs i 0 l) in
-        emitted-more d from xs out (from + i) (drop i xs) c (a ∷ []) (set out (from + i) a) (drop (i + 1) xs) (from + (i + 1))
-        more (over-set out (from + i) a (copied-room l)) (let e : from + (i + 1) ≡ from + i + 1 = omega arith in e)
+  pub copied-more : i < length xs → Copied d from xs (set out (from + i) (getD xs i 0)) (i + 1)
+  copied-more l =
+      let a : ℕ = getD xs i 0 in
+      let more : drop i xs ≡ (a ∷ []) ++ drop (i + 1) xs = rw add-one (drop-cons xs i 0 l) in
+      let place : from + (i + 1) ≡ from + i + 1 = omega arith in
+      record { emitted = emitted-more (c .emitted) (a ∷ []) (drop (i + 1) xs) more (over-set out (from + i) a (copied-room l)) place }
 
-    pub copied-end : length xs ≤ i → out ≡ over d from xs
-    copied-end l = emitted-end d from xs out (from + i) (drop i xs) c (drop-of-length-le xs l)
+  pub copied-end : length xs ≤ i → out ≡ over d from xs
+  copied-end l = emitted-end (c .emitted) (drop-of-length-le xs l)

@@ -6,15 +6,21 @@ use lib.ListN.{length}
 use Rattle.text.specs.Text.{Text, total, weight, size}
 use Rattle.text.specs.Refusal.{Outcome, ok, refused, after}
 use Rattle.stretch.specs.Reading.{Taken, segmentAt, stretchOf}
-use Rattle.stretch.specs.Bytes.{word}
+use Rattle.stretch.specs.Bytes.{word, over}
+use Rattle.stretch.specs.Encoding.{encode}
+use Rattle.stretch.specs.Writing.{Spot}
 use Rattle.stretch.specs.Places.{found, end, Reading}
 use Rattle.stretch.specs.Skips.{behindVariants}
 use Rattle.stretch.specs.declared.segment.Walked.{Walked}
 use Rattle.stretch.specs.declared.segment.Walked.the-variants.{To}
 use Rattle.stretch.specs.declared.checking.Checked.{Checked}
 use Rattle.stretch.specs.declared.checking.Checked.the-variants.{Sound}
+use Rattle.stretch.specs.declared.given.Reached.{Reached}
+use Rattle.stretch.specs.declared.given.Reached.the-variants.{Letter}
 use Rattle.stretch.specs.declared.reading.Got.{Got}
 use Rattle.stretch.specs.declared.reading.Got.the-variants.{End}
+use Rattle.stretch.specs.declared.writing.Written.{Written}
+use Rattle.stretch.specs.declared.writing.Written.the-variants.{Bytes}
 
 -- how far a walk over a segment has come, and the segment's size
 abbrev pub toldWalked : Walked → Outcome (Taken ℕ ℕ)
@@ -52,3 +58,24 @@ toldGot (Got.Refused r segment variant) = record { answer = refused (r .number) 
 abbrev pub handedAt : List ℕ → ℕ → ℕ → ℕ → Reading
 handedAt s at j v =
     record { answer = ok (found (behindVariants s v (at + 1) + 2) (word s (behindVariants s v (at + 1)))); segment = j; variant = v + 1 }
+
+-- the number of the first letter behind what a write has checked
+abbrev pub toldReached : Reached → Outcome ℕ
+toldReached (Letter at) = ok at
+toldReached (Reached.Refused r) = refused (r .number) (r .place)
+
+abbrev pub reached : {A : Type 0} → Outcome (Taken A Spot) → Outcome ℕ
+reached o = after o λ x. ok (x .next .letter)
+
+-- the bytes that a write has written
+abbrev pub toldWritten : Written → Outcome ℕ
+toldWritten (Bytes n) = ok n
+toldWritten (Written.Refused r) = refused (r .number) (r .place)
+
+abbrev pub written : Outcome Text → Outcome ℕ
+written o = after o λ t. ok (length (encode t))
+
+-- what a call leaves in the buffer d: the bytes f of its value from the start on; a refused one what was there
+abbrev pub leftBy : {A : Type 0} → (A → List ℕ) → Outcome A → List ℕ → List ℕ
+leftBy f (ok a) d = over d 0 (f a)
+leftBy f (refused n p) d = d

@@ -3,6 +3,7 @@ pub mod Bytes
 pub mod Reading
 pub mod Variants
 pub mod Encoding
+pub mod Cuts
 pub mod Writing
 pub mod Places
 pub mod Skips

@@ -1,0 +1,70 @@
+-- `stretch::emit::put_variant` meets its contract. The loop's invariant, `Copied`: the first i letters stand behind the length. The
+-- measure is the number of letters left.
+use Prim.Native.Nat.{_-_}
+use native.Mathlib.Omega.{arith}
+use borrow.Author.Needs.{needs}
+use lib.ListN.{length}
+use Rattle.stretch.proofs.Overs.{emitted-length, Copied, copied-none, copied-room, copied-more, copied-end}
+use Rattle.stretch.proofs.SegmentBytes.{variant-over}
+use Rattle.stretch.proofs.emit.put_variant.Statement.{statement}
+use Rattle.stretch.proofs.emit.put_variant.Tie as tie
+
+abbrev Inv-loop : tie.InvT-loop
+Inv-loop variant out₀ at start i₀ out i = Copied out₀ start variant out i
+
+abbrev μ-loop : tie.MeasureT-loop
+μ-loop variant out₀ at start i₀ out i = length variant - i
+
+put-word-requires : tie.Need-put-word-requires Inv-loop μ-loop
+put-word-requires c κs = search needs
+
+add-start : tie.Need-add-start Inv-loop μ-loop
+add-start c = search needs
+
+loop-holds : tie.Need-loop-holds Inv-loop μ-loop
+loop-holds c = copied-none _ _ _ (search needs)
+
+shared-slice-read-out : tie.Need-shared-slice-read-out Inv-loop μ-loop
+shared-slice-read-out c = search needs
+
+add-out : tie.Need-add-out Inv-loop μ-loop
+add-out c = search needs
+
+slice-write-out : tie.Need-slice-write-out Inv-loop μ-loop
+slice-write-out c = let d = c .before in copied-room (d .before .loop .inv) (d .loop-test .taken)
+
+add-i : tie.Need-add-i Inv-loop μ-loop
+add-i c = search needs
+
+loop-less : tie.Need-loop-less Inv-loop μ-loop
+loop-less c = search needs
+
+loop-again : tie.Need-loop-again Inv-loop μ-loop
+loop-again c = let d = c .before in copied-more (d .before .loop .inv) (d .loop-test .taken)
+
+same-length : tie.Need-same-length Inv-loop μ-loop
+same-length c = let h = emitted-length (c .before .loop .inv .emitted) in omega arith
+
+returns : tie.Need-returns Inv-loop μ-loop
+returns c =
+    let d = c .before .before .before .before in
+    let s = d .before .before .before .before in
+    variant-over _ (s .args .at) _ (s .pre) (d .put-word .ensures) (copied-end (c .before .loop .inv) (c .loop-test .left))
+
+pub put-variant-spec : {M : Type 1} → statement M
+put-variant-spec =
+    tie.close
+    (tie.spec
+    Inv-loop
+    μ-loop
+    put-word-requires
+    add-start
+    loop-holds
+    shared-slice-read-out
+    add-out
+    slice-write-out
+    add-i
+    loop-less
+    loop-again
+    same-length
+    returns)
