@@ -15,3 +15,4 @@ pub mod BorderChains
 pub mod BorderCarried
 pub mod BorderWalks
 pub mod BorderSteps
+pub mod Calls

@@ -22,7 +22,8 @@ use Rattle.stretch.specs.Bytes.{greatestStretch, over}
 use Rattle.stretch.specs.Reading.{Taken, segmentAt, many, stretchOf, mostInStretch}
 use Rattle.stretch.proofs.Stretches.{InStretch, through-none, through-more, through-refused, segment-bytes, stretch-most}
 use Rattle.search.specs.Step.{Pass, segmentPass}
-use Rattle.search.specs.Answers.{Sums, sumsOf, Marks, stretchInto, searching, leftBy, marked}
+use Rattle.stretch.specs.Answers.{leftBy}
+use Rattle.search.specs.Answers.{Sums, sumsOf, Marks, stretchInto, searching}
 
 -- k segments have been searched
 pub record Searching (P s buffer : List ℕ) (k at size ends st : ℕ) : Type 0 where
@@ -149,7 +150,7 @@ few-found P s n z m e =
 -- what a search answers, and what it leaves in the caller's buffer
 module _ (P s out : List ℕ) where
   abbrev Told : Outcome Text → Outcome Sums → List ℕ → Type 0
-  Told o told left = (told ≡ after o (λ t. ok (sumsOf P t))) × (left ≡ leftBy (marked P) o out)
+  Told o told left = (told ≡ after o (λ t. ok (sumsOf P t))) × (left ≡ leftBy (marks P) o out)
 
   pub into-not : (j p : ℕ) → after (stretchOf s) (λ t. ok (sumsOf P t)) ≡ refused j p → Told (stretchInto s (length out)) (refused j p) out
   unfolding stretchInto

@@ -1,14 +1,14 @@
--- What a search and a feed answer, in document 01's numbers and values, and what they leave in lent slices.
+-- What a search and a feed answer, in document 01's numbers and values.
 use Prim.Native.Nat.{ℕ}
 use mathlib.Core.Path.{_≡_}
 use mathlib.Core.Bool.{Bool}
-use mathlib.Core.List.{List}
+use mathlib.Core.List.{List, [], _∷_}
 use lib.Dec.{leb}
 use lib.ListN.{length, take}
 use Rattle.text.specs.Text.{Text, total, size}
 use Rattle.text.specs.State.{isState, next, ends, marks}
 use Rattle.text.specs.Refusal.{Outcome, ok, refused, demand, after, pattern}
-use Rattle.stretch.specs.Bytes.{over}
+use Rattle.stretch.specs.Encoding.{encodeSegment}
 use Rattle.stretch.specs.Reading.{fits, loneSegment, stretchOf}
 use Rattle.search.specs.declared.state.Fed.{Fed}
 use Rattle.search.specs.declared.walk.Searched.{Searched}
@@ -39,14 +39,9 @@ toldSearched (Searched.Refused r) = refused (r .number) (r .place)
 abbrev pub Marks : List ℕ → Outcome Text → List ℕ → Type 0
 Marks P o buffer = (t : Text) → o ≡ ok t → take (length t) buffer ≡ marks P t
 
--- what a call leaves in a lent slice: something where it accepts, the slice as it was where it refuses
-abbrev pub leftBy : {A : Type 0} → (A → List ℕ → List ℕ) → Outcome A → List ℕ → List ℕ
-leftBy leave (ok a) out = leave a out
-leftBy leave (refused n p) out = out
-
--- a mark buffer with a text's marks in front; further bytes stay
-abbrev pub marked : List ℕ → Text → List ℕ → List ℕ
-marked P t out = over out 0 (marks P t)
+-- what a search writes of a text
+abbrev pub marked : List ℕ → Text → List ℕ
+marked P t = marks P t
 
 -- the next state, and whether an occurrence ends there
 pub record Next : Type 0 where
@@ -65,3 +60,11 @@ feeding P st s =
 abbrev pub toldFed : Fed → Outcome Next
 toldFed (Fed.Next state ends) = ok (record { state = state .bits; ends = ends })
 toldFed (Fed.Refused r) = refused (r .number) (r .place)
+
+-- the segments of a text fed one by one, each as its bytes
+unfoldable pub feeds : List ℕ → ℕ → Text → Outcome (List Next)
+feeds P st [] = ok []
+feeds P st (g ∷ T) =
+    after (feeding P st (encodeSegment g)) λ x.
+    (after (feeds P (x .state) T) λ xs.
+    (ok (x ∷ xs)))

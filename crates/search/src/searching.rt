@@ -14,7 +14,8 @@ ghost use Prim.Native.Nat.{_≤_};
 ghost use lib.ListN.{length};
 ghost use Rattle.text.specs.Refusal.{ok, after};
 ghost use Rattle.stretch.specs.Bytes.{over};
-ghost use Rattle.search.specs.Answers.{stretchInto, searching, sumsOf, toldSearched, leftBy, marked};
+ghost use Rattle.stretch.specs.Answers.{leftBy};
+ghost use Rattle.search.specs.Answers.{stretchInto, searching, sumsOf, toldSearched, marked};
 ghost use Rattle.search.specs.Method.{Founded};
 
 // Copies `from` over the front of `to`.

@@ -23,7 +23,7 @@ shared-slice-read-to : tie.Need-shared-slice-read-to Inv-loop μ-loop
 shared-slice-read-to c = search needs
 
 slice-write-to : tie.Need-slice-write-to Inv-loop μ-loop
-slice-write-to c = omega (arith, copied-room _ 0 _ _ _ (c .before .before .loop .inv .0) (c .before .loop-test .taken))
+slice-write-to c = omega (arith, copied-room (c .before .before .loop .inv .0) (c .before .loop-test .taken))
 
 add-i : tie.Need-add-i Inv-loop μ-loop
 add-i c = search needs
@@ -37,15 +37,15 @@ loop-again c =
     let d = a .before .args .to .now in
     let xs = a .before .args .from .now in (
       subst (λ (n : ℕ). Copied d 0 xs (set (a .loop .to) n (getD xs (a .loop .i) 0)) (a .loop .i + 1)) (zero-add (a .loop .i))
-          (copied-more d 0 xs (a .loop .to) (a .loop .i) (a .loop .inv .0) (c .before .loop-test .taken)),
+          (copied-more (a .loop .inv .0) (c .before .loop-test .taken)),
       omega arith,
     )
 
 same-length : tie.Need-same-length Inv-loop μ-loop
-same-length c = emitted-length _ 0 _ _ _ _ (c .before .loop .inv .0)
+same-length c = emitted-length (c .before .loop .inv .0 .emitted)
 
 returns : tie.Need-returns Inv-loop μ-loop
-returns c = copied-end _ 0 _ _ _ (c .before .loop .inv .0) (c .loop-test .left)
+returns c = copied-end (c .before .loop .inv .0) (c .loop-test .left)
 
 pub copy-spec : {M : Type 1} → statement M
 copy-spec =
