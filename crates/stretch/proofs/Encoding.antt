@@ -22,20 +22,20 @@ use Rattle.stretch.proofs.Rows.{row-many, written-row}
 use Rattle.stretch.proofs.Lengths.{filled, filled-lengths}
 
 -- variants that can stand behind those seen
-record Fresh (seen l : Segment) : Type 0 where
-  letters : all (every letter) l ≡ true
-  once : distinct seen l ≡ true
+pub record Fresh (seen l : Segment) : Type 0 where
+  pub letters : all (every letter) l ≡ true
+  pub once : distinct seen l ≡ true
 
 module _ (seen : Segment) (v : Variant) (l : Segment) (f : Fresh seen (v ∷ l)) where
-  fresh-letters : every letter v ≡ true
+  pub fresh-letters : every letter v ≡ true
   unfolding all
   fresh-letters = and-left (every letter v) (all (every letter) l) (f .letters)
 
-  fresh-once : among v seen ≡ false
+  pub fresh-once : among v seen ≡ false
   unfolding distinct
   fresh-once = not-true (among v seen) (and-left (not (among v seen)) (distinct (seen ++ (v ∷ [])) l) (f .once))
 
-  fresh-rest : Fresh (seen ++ (v ∷ [])) l
+  pub fresh-rest : Fresh (seen ++ (v ∷ [])) l
   unfolding all distinct
   fresh-rest = record {
     letters = and-right (every letter v) (all (every letter) l) (f .letters);
@@ -43,11 +43,11 @@ module _ (seen : Segment) (v : Variant) (l : Segment) (f : Fresh seen (v ∷ l))
   }
 
 -- a segment that can be written has variants, and they can stand there
-record Writable (g : Segment) : Type 0 where
-  some : 0 < length g
-  fresh : Fresh [] g
+pub record Writable (g : Segment) : Type 0 where
+  pub some : 0 < length g
+  pub fresh : Fresh [] g
 
-writable-segment : (g : Segment) → writableSegment g ≡ true → Writable g
+pub writable-segment : (g : Segment) → writableSegment g ≡ true → Writable g
 unfolding writableSegment
 writable-segment g w =
     let some : Bool = ltb 0 (length g) in

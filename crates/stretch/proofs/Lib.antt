@@ -26,3 +26,4 @@ pub mod SegmentBytes
 pub mod TextBytes
 pub mod Writings
 pub mod Writable
+pub mod RoundTrips

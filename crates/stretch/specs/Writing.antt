@@ -2,7 +2,7 @@
 use Prim.Native.Nat.{ℕ, _+_, _*_}
 use mathlib.Core.Path.{_≡_}
 use mathlib.Core.Bool.{not, _&&_}
-use mathlib.Core.List.{List, []}
+use mathlib.Core.List.{List, [], map, flatten}
 use lib.Dec.{leb, ltb, eqb}
 use lib.ListN.{length, getD}
 use Rattle.text.specs.Letter.{letter, every, firstNot}
@@ -61,3 +61,15 @@ writing letters lengths counts room =
     (after (segmentsGiven letters lengths counts) λ x.
     (demand (leb (needed letters lengths counts) room) 15 0
     (ok (x .value)))))
+
+-- a text taken apart: the letters of all its variants in a row
+unfoldable pub lettersOf : Text → List ℕ
+lettersOf T = flatten (flatten T)
+
+-- the length of each of its variants
+unfoldable pub lengthsOf : Text → List ℕ
+lengthsOf T = map length (flatten T)
+
+-- the variant count of each of its segments
+unfoldable pub countsOf : Text → List ℕ
+countsOf T = map length T
