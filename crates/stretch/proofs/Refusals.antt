@@ -1,4 +1,4 @@
--- Every refusal of a reading has a number up to 9 and a place up to 32,768; so 16, "more than 10,922 segments", is never given.
+-- Every refusal of a reading has a number from 4 to 9 and a place up to 32,768; so 16, "more than 10,922 segments", is never given.
 use Prim.Native.Nat.{ℕ, zero, suc, _+_, _*_, _≤_}
 use native.Mathlib.Omega.{arith}
 use mathlib.Core.Path.{_≡_, refl, subst}
@@ -18,6 +18,7 @@ use Rattle.stretch.specs.Reading.{stretchOf, loneSegment, segmentOf}
 
 -- such a number and place
 pub record Low (n p : ℕ) : Type 0 where
+  pub least : 4 ≤ n
   pub number : n ≤ 9
   pub place : p ≤ greatestStretch
 
