@@ -1,0 +1,10 @@
+-- Laws of the definitions in specs/, and the theorems about the calls.
+pub mod Tests
+pub mod Held
+pub mod Gathered
+pub mod Follows
+pub mod Empties
+pub mod Formed
+pub mod Joins
+pub mod Answered
+pub mod Calls

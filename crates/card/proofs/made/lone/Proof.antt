@@ -1,0 +1,52 @@
+-- `card::made::lone` meets its contract. The loop's invariant, `Loning`: the rows below q have their bit. The measure is the number of
+-- rows left.
+use Prim.Native.Nat.{_-_}
+use borrow.Author.Needs.{needs}
+use Rattle.card.proofs.Empties.{Loning, loning-none, loning-more, loning-all}
+use Rattle.card.proofs.made.lone.Statement.{statement}
+use Rattle.card.proofs.made.lone.Tie as tie
+
+abbrev Inv-loop : tie.InvT-loop
+Inv-loop m exits₀ q₀ exits q = Loning m exits q
+
+abbrev μ-loop : tie.MeasureT-loop
+μ-loop m exits₀ q₀ exits q = m - q
+
+loop-holds : tie.Need-loop-holds Inv-loop μ-loop
+loop-holds c = loning-none _
+
+shl-exits : tie.Need-shl-exits Inv-loop μ-loop
+shl-exits c = search needs
+
+mul-exits : tie.Need-mul-exits Inv-loop μ-loop
+mul-exits c = search needs
+
+array-write-exits : tie.Need-array-write-exits Inv-loop μ-loop
+array-write-exits c = search needs
+
+add-q : tie.Need-add-q Inv-loop μ-loop
+add-q c = search needs
+
+loop-less : tie.Need-loop-less Inv-loop μ-loop
+loop-less c = search needs
+
+loop-again : tie.Need-loop-again Inv-loop μ-loop
+loop-again c = loning-more _ _ _ (c .before .loop .inv) (c .before .before .pre) (c .loop-test .taken)
+
+returns : tie.Need-returns Inv-loop μ-loop
+returns c = loning-all _ _ _ (c .before .loop .inv) (c .loop-test .left)
+
+pub lone-spec : {M : Type 1} → statement M
+lone-spec =
+    tie.close
+    (tie.spec
+    Inv-loop
+    μ-loop
+    loop-holds
+    shl-exits
+    mul-exits
+    array-write-exits
+    add-q
+    loop-less
+    loop-again
+    returns)

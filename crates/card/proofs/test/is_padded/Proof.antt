@@ -1,0 +1,59 @@
+-- `card::test::is_padded` meets its contract, by what `check`, `padded` and `same` ensure.
+use mathlib.Core.Path.{sym, ap, _∙_}
+use Rattle.text.specs.Refusal.{toldPattern}
+use Rattle.text.specs.Compare.{same}
+use Rattle.text.proofs.Patterns.{pattern-sound}
+use Rattle.card.proofs.Formed.{head-long, head-short, padded-wrong, padded-right}
+use borrow.Author.Needs.{needs}
+use Rattle.card.proofs.test.is_padded.Statement.{statement}
+use Rattle.card.proofs.test.is_padded.Tie as tie
+
+slice-aggregate-bases : tie.Need-slice-aggregate-bases
+slice-aggregate-bases c = head-long _ _ (c .before .before .pre .0) (c .before .before .pre .1)
+
+check-requires : tie.Need-check-requires
+check-requires c κs = search needs
+
+enum-told : tie.Need-enum-told
+enum-told c = search needs
+
+enum-told-2 : tie.Need-enum-told-2
+enum-told-2 c = search needs
+
+padded-requires : tie.Need-padded-requires
+padded-requires c κs =
+    let s = c .before .before .before .before .before in
+    head-short _ _ (s .pre .0) (s .pre .1)
+
+slice-aggregate-same : tie.Need-slice-aggregate-same
+slice-aggregate-same c = search needs
+
+same-requires : tie.Need-same-requires
+same-requires c κs = search needs
+
+returns : tie.Need-returns
+returns c =
+    let s = c .before .before .before .before .before in
+    padded-wrong _ _ (s .pre .0) (s .pre .1) _ _ (sym (c .before .before .check .ensures) ∙ ap toldPattern (c .enum-told .given .1))
+
+returns-2 : tie.Need-returns-2
+returns-2 c =
+    let p = c .before .before in
+    let d = p .before in
+    let s = d .before .before .before .before .before in
+    let sound = pattern-sound _ (sym (d .before .before .check .ensures) ∙ ap toldPattern (d .enum-told2 .given .1)) in
+    c .same .ensures ∙ ap (same _) (p .padded .ensures) ∙ padded-right _ _ (s .pre .0) (s .pre .1) sound
+
+pub is-padded-spec : {M : Type 1} → statement M
+is-padded-spec =
+    tie.close
+    (tie.spec
+    slice-aggregate-bases
+    check-requires
+    enum-told
+    enum-told-2
+    padded-requires
+    slice-aggregate-same
+    same-requires
+    returns
+    returns-2)

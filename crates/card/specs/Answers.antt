@@ -1,0 +1,26 @@
+-- What the calls on cards answer, in document 01's numbers and values.
+use lib.ListN.{replicate}
+use Rattle.text.specs.Refusal.{Outcome, ok, refused}
+use Rattle.text.specs.Card.{Row, Card}
+use Rattle.card.specs.declared.cards.Card.{Card as Held}
+use Rattle.card.specs.declared.answers.Made.{Made}
+use Rattle.card.specs.declared.answers.Asked.{Asked}
+use Rattle.card.specs.declared.answers.Asked.the-variants.{Told}
+use Rattle.card.specs.Cards.{cardOut}
+
+-- the card of all zeros
+unfoldable pub zeroCard : Held
+zeroCard =
+    record { pattern = replicate 64 0; m = 0; segments = 0; exits = replicate 64 0; firsts = replicate 64 0 }
+
+abbrev pub accepted : Held → Made
+accepted c = record { refusal = record { number = 0; place = 0 }; card = c }
+
+-- the one answer for each outcome: 0 at 0 and the card, or the number, the place and the card of all zeros
+abbrev pub made : Outcome Card → Made
+made (ok c) = accepted (cardOut c)
+made (refused n p) = record { refusal = record { number = n; place = p }; card = zeroCard }
+
+abbrev pub toldAsked : Asked → Outcome Row
+toldAsked (Told state first) = ok (record { exit = state .bits; first = first })
+toldAsked (Asked.Refused r) = refused (r .number) (r .place)

@@ -1,0 +1,3 @@
+-- Cards as the calls have them.
+pub mod Cards
+pub mod Answers

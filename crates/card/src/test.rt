@@ -1,0 +1,122 @@
+// The test of a card: whether it is as document 01 says, or malformed.
+use crate::cards::Card;
+use crate::made::padded;
+use text::compare::same;
+use text::pattern::PatternIs;
+use text::pattern::check;
+ghost use mathlib.Core.Path.{_≡_};
+ghost use Prim.Native.Nat.{_≤_, _<_, _^_};
+ghost use lib.Dec.{ltb};
+ghost use lib.ListN.{length};
+ghost use Rattle.text.specs.State.{isState};
+ghost use Rattle.text.specs.Card.{isRow, areRows, wellFormed, samePattern};
+ghost use Rattle.card.specs.Cards.{cardIn, rowOf, rowsIn, isPadded, Full, Bases};
+
+// Whether a number has no bit from m up.
+fn within(m: usize, bits: u64) -> bool
+    requires { ⌜ Bases m ⌝ }
+    ensures { λ r. ⌜ r ≡ ltb bits (2 ^ m) ⌝ }
+{
+    let low = 0xffff_ffff_ffff_ffff >> (64 - m);
+    bits <= low
+}
+
+// Whether a number is a state for m bases: bit 0 is set, and no bit from m up.
+pub fn is_state(m: usize, bits: u64) -> bool
+    requires { ⌜ Bases m ⌝ }
+    ensures { λ r. ⌜ r ≡ isState m bits ⌝ }
+{
+    if bits % 2 == 0 {
+        return false;
+    }
+    within(m, bits)
+}
+
+// Whether the first m of 64 bytes are a pattern, and the others 0.
+fn is_padded(bytes: &[u8], m: usize) -> bool
+    requires { ⌜ (length (now bytes) ≡ 64) × (m ≤ 64) ⌝ }
+    ensures { λ r. ⌜ r ≡ isPadded (now (bytes .entry)) m ⌝ }
+{
+    let bases = &bytes[..m];
+    match check(bases) {
+        PatternIs::Refused(_) => false,
+        PatternIs::Sound => {
+            let again = padded(bases);
+            same(bytes, &again)
+        }
+    }
+}
+
+// Whether row q of a card of m bases and so many segments is as document 01 says.
+fn is_row(m: usize, segments: u32, q: usize, exit: u64, first: u32) -> bool
+    requires { ⌜ Bases m ⌝ }
+    ensures { λ r. ⌜ r ≡ isRow m segments q (rowOf exit first) ⌝ }
+{
+    if m <= q {
+        if exit != 0 {
+            return false;
+        }
+        return first == Card::NONE;
+    }
+    let fresh = if q == 0 { 1 } else { 0 };
+    if exit % 2 != fresh {
+        return false;
+    }
+    if !within(m, exit) {
+        return false;
+    }
+    if first == Card::NONE {
+        return true;
+    }
+    first < segments
+}
+
+// Whether all 64 rows are.
+fn are_rows(m: usize, segments: u32, exits: &[u64], firsts: &[u32]) -> bool
+    requires { ⌜ Bases m × Full (now exits) (now firsts) ⌝ }
+    ensures { λ r. ⌜ r ≡ areRows m segments 0 (rowsIn (now (exits .entry)) (now (firsts .entry))) ⌝ }
+{
+    let mut q = 0;
+    while q < Card::GREATEST_PATTERN {
+        let exit = exits[q];
+        let first = firsts[q];
+        if !is_row(m, segments, q, exit, first) {
+            return false;
+        }
+        q += 1;
+    }
+    true
+}
+
+// Whether a card is not malformed.
+pub fn well_formed(card: Card) -> bool
+    ensures { λ r. ⌜ r ≡ wellFormed (cardIn card) ⌝ }
+{
+    let m = card.m as usize;
+    if Card::GREATEST_PATTERN < m {
+        return false;
+    }
+    let pattern = card.pattern;
+    if !is_padded(&pattern, m) {
+        return false;
+    }
+    let segments = card.segments;
+    if Card::MOST_SEGMENTS < segments {
+        return false;
+    }
+    let exits = card.exits;
+    let firsts = card.firsts;
+    are_rows(m, segments, &exits, &firsts)
+}
+
+// Whether two cards are of one pattern.
+pub fn same_pattern(left: Card, right: Card) -> bool
+    ensures { λ r. ⌜ r ≡ samePattern (cardIn left) (cardIn right) ⌝ }
+{
+    if left.m != right.m {
+        return false;
+    }
+    let ours = left.pattern;
+    let theirs = right.pattern;
+    same(&ours, &theirs)
+}
