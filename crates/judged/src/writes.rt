@@ -1,0 +1,103 @@
+// Stretches written, and what was written checked.
+use crate::bounds::most_segments;
+use crate::bounds::most_variants;
+use crate::bounds::words;
+use crate::hex::sound;
+use crate::lent::BEFORE;
+use crate::lent::WRONG_BYTES;
+use crate::lent::holds;
+use crate::tally::Answer;
+use crate::tally::Tally;
+use stretch::Written;
+
+// The answer of a write into 32,768 bytes: how many were written, or the refusal. `wanted` is what is to be written.
+pub fn written(letters: &[u8], lengths: &[u16], counts: &[u8], wanted: &[u8]) -> Answer {
+    let mut out = [BEFORE; 32768];
+    let answer = stretch::write(letters, lengths, counts, &mut out);
+    if !holds(&out, wanted) {
+        return Answer::refused(WRONG_BYTES, 0);
+    }
+    match answer {
+        Written::Bytes(bytes) => Answer::told(bytes, 0, 0),
+        Written::Refused(refused) => Answer::refused(refused.number, refused.place),
+    }
+}
+
+// A write that is to be accepted, and the check of its bytes.
+fn writes(tally: Tally, letters: &[u8], lengths: &[u16], counts: &[u8], wanted: &[u8]) -> Tally {
+    let got = written(letters, lengths, counts, wanted);
+    let t = tally.judge(got, Answer::told(wanted.len(), 0, 0));
+    sound(t, wanted, counts.len(), letters.len())
+}
+
+// A write that is to be refused, and to write nothing.
+fn refuses(
+    tally: Tally,
+    letters: &[u8],
+    lengths: &[u16],
+    counts: &[u8],
+    number: u64,
+    place: usize,
+) -> Tally {
+    let got = written(letters, lengths, counts, b"");
+    tally.judge(got, Answer::refused(number, place))
+}
+
+// The writes of small texts, and the refusals of a write.
+fn small(tally: Tally) -> Tally {
+    let mut t = writes(tally, b"", &[], &[], b"\x00\x00");
+    t = writes(t, b"", &[0], &[1], b"\x01\x00\x01\x00\x00");
+    t = writes(
+        t,
+        b"ACGT",
+        &[3, 1],
+        &[2],
+        b"\x01\x00\x02\x03\x00ACG\x01\x00T",
+    );
+    t = refuses(t, b"A", &[1], &[2], 14, 0);
+    t = refuses(t, b"AC", &[1], &[1], 14, 0);
+    t = refuses(t, b"", &[0], &[1, 0], 6, 1);
+    t = refuses(t, b"AN", &[1, 1], &[2], 7, 1);
+    t = refuses(t, b"NN", &[1, 1], &[2], 7, 0);
+    refuses(t, b"AA", &[1, 1], &[2], 8, 1)
+}
+
+// The longest stretch, written, and one letter more.
+fn longest(tally: Tally) -> Tally {
+    let letters = [b'A'; 32764];
+    let mut wanted = [b'A'; 32768];
+    wanted[0] = 1;
+    wanted[1] = 0;
+    wanted[2] = 1;
+    wanted[3] = 0xfb;
+    wanted[4] = 0x7f;
+    let t = writes(tally, &letters[..32763], &[32763], &[1], &wanted);
+    refuses(t, &letters, &[32764], &[1], 4, 0)
+}
+
+// The most segments, written, and one segment more.
+fn segments(tally: Tally) -> Tally {
+    let lengths = [0u16; 10923];
+    let counts = [1u8; 10923];
+    let t = writes(
+        tally,
+        b"",
+        &lengths[..10922],
+        &counts[..10922],
+        &most_segments(),
+    );
+    refuses(t, b"", &lengths, &counts, 4, 0)
+}
+
+// The most variants of a segment, written, and the same words with one letter that makes the last two equal.
+fn variants(tally: Tally) -> Tally {
+    let mut letters = words();
+    let lengths = [4u16; 255];
+    let t = writes(tally, &letters, &lengths, &[255], &most_variants());
+    letters[1019] = b'C';
+    refuses(t, &letters, &lengths, &[255], 8, 254)
+}
+
+pub fn run(tally: Tally) -> Tally {
+    variants(segments(longest(small(tally))))
+}
