@@ -11,7 +11,7 @@ use lib.ListN.{length}
 use Rattle.text.specs.Letter.{base, every}
 use Rattle.text.specs.Text.{Text}
 use Rattle.text.specs.State.{isState}
-use Rattle.text.specs.Refusal.{Outcome, ok, refused, demand, after}
+use Rattle.text.specs.Refusal.{Outcome, ok, refused, after}
 use Rattle.text.specs.Card.{Card, mostSegments, later, padded, ran, cardOf, emptyCard, wellFormed, samePattern, join, ask, empty}
 use Rattle.text.proofs.Outcomes.{SameFate}
 use Rattle.text.proofs.Patterns.{SoundPattern}
@@ -22,6 +22,7 @@ use Rattle.card.specs.declared.answers.Made.{Made}
 use Rattle.card.specs.Cards.{cardIn, cardOut, Full}
 use Rattle.card.specs.Answers.{zeroCard, accepted, made}
 use Rattle.card.proofs.Held.{in-out, out-in}
+use Rattle.card.proofs.Numbers.{Numbered, demand-numbered}
 use Rattle.card.proofs.Answered.{empty-sound, join-left-malformed, join-right-malformed}
 
 -- what the calls answer
@@ -97,15 +98,6 @@ right-fate a (refused n p) = either (wellFormed a) refl
 -- two answers that accept with the same card, or both refuse
 abbrev pub Together : Made → Made → Type 0
 Together r s = ((r .refusal .number ≡ 0) × (r ≡ s)) ⊎ ((r .refusal .number ≡ 0 → ⊥) × (s .refusal .number ≡ 0 → ⊥))
-
--- no refusal has the number of an acceptance
-abbrev Numbered : {A : Type 0} → Outcome A → Type 0
-Numbered (ok a) = Unit {0}
-Numbered (refused n p) = n ≡ 0 → ⊥
-
-demand-numbered : {A : Type 0} (t : Bool) (n p : ℕ) (o : Outcome A) → (n ≡ 0 → ⊥) → Numbered o → Numbered (demand t n p o)
-demand-numbered true n p o h k = k
-demand-numbered false n p o h k = h
 
 join-numbered : (a b : Card) → Numbered (join a b)
 unfolding join

@@ -7,4 +7,6 @@ pub mod Empties
 pub mod Formed
 pub mod Joins
 pub mod Answered
+pub mod Numbers
+pub mod OfStretches
 pub mod Calls

@@ -6,16 +6,19 @@ use crate::answers::refused;
 use crate::follow::follow;
 use crate::made::joined;
 use crate::made::nothing;
+use crate::made::padded;
 use crate::test::is_state;
 use crate::test::same_pattern;
 use crate::test::well_formed;
 use search::State;
+use search::rows;
 use text::Refusal;
 use text::pattern::PatternIs;
 use text::pattern::check;
 use text::refusal;
 ghost use mathlib.Core.Path.{_≡_};
 ghost use Rattle.text.specs.Card.{empty, join, ask};
+ghost use Rattle.search.specs.Rows.{carding};
 ghost use Rattle.card.specs.Cards.{cardIn};
 ghost use Rattle.card.specs.Answers.{made, toldAsked};
 
@@ -46,6 +49,27 @@ impl Card {
             PatternIs::Refused(wrong) => refused(wrong.number, wrong.place),
             PatternIs::Sound => accepted(nothing(pattern)),
         }
+    }
+
+    // The card of a stretch, which is walked once: refusals 1, 2, 3, then those of the stretch.
+    pub fn of(pattern: &[u8], stretch: &[u8]) -> Made
+        ensures { λ r. ⌜ r ≡ made (carding (now (pattern .entry)) (now (stretch .entry))) ⌝ }
+    {
+        let found = rows(pattern, stretch);
+        let wrong = found.refusal;
+        if wrong.number != 0 {
+            return refused(wrong.number, wrong.place);
+        }
+        let bytes = padded(pattern);
+        let exits = found.exits;
+        let firsts = found.firsts;
+        accepted(Card {
+            pattern: bytes,
+            m: pattern.len() as u8,
+            segments: found.segments,
+            exits,
+            firsts,
+        })
     }
 
     // The card of two neighbours: refusals 11 of the left, 11 of the right, 12, 13.

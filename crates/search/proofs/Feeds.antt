@@ -8,19 +8,18 @@ use borrow.Author.Tests.{le-leb, lt-leb, lt-ltb, le-ltb, eq-eqb, ne-eqb}
 use lib.Dec.{eqb, ltb}
 use lib.ListN.{length}
 use lib.Pow.{pow-pos}
-use Rattle.text.specs.Text.{Segment, weight, total}
 use Rattle.text.specs.Bits.{bit}
 use Rattle.text.specs.State.{isState, next, ends}
 use Rattle.text.specs.Refusal.{ok, refused, pattern}
 use Rattle.text.proofs.Truth.{and-false, and-both}
 use Rattle.text.proofs.Bits.{bit-first}
-use Rattle.text.proofs.Outcomes.{told-met, told-refused}
 use Rattle.text.proofs.Patterns.{SoundPattern, pattern-refused, sound-pattern}
 use Rattle.stretch.specs.Bytes.{greatestStretch}
-use Rattle.stretch.specs.Reading.{Taken, segmentAt, loneSegment}
-use Rattle.search.specs.Step.{Pass, segmentPass}
+use Rattle.stretch.specs.Reading.{loneSegment}
+use Rattle.search.specs.Step.{segmentPass}
 use Rattle.search.specs.Answers.{feeding}
 use Rattle.search.proofs.Vectors.{low-ones}
+use Rattle.search.proofs.Passes.{Stepped, segment-met, segment-not}
 
 module _ (P s : List ℕ) (st : ℕ) where
   pub fed-pattern : (j p : ℕ) → pattern P (ok (tt {0})) ≡ refused j p → feeding P st s ≡ refused j p
@@ -63,31 +62,23 @@ module _ (P s : List ℕ) (st : ℕ) where
               let one : st % 2 ≡ 1 = omega (arith, odd) in
               and-both (bit st 0) (ltb st (2 ^ length P)) (bit-first st ∙ ap (λ (n : ℕ). eqb n 1) one) (lt-ltb st (2 ^ length P) fed-small)
 
-          -- what a step over a segment tells
-          pass : Taken Segment ℕ → Pass
-          pass x = record { next = x .next; size = total weight (x .value); state = next P st (x .value); ends = ends P st (x .value) }
-
           pub fed-refused : (j p : ℕ) → segmentPass P st s 0 ≡ refused j p → feeding P st s ≡ refused j p
-          unfolding feeding loneSegment segmentPass pass
+          unfolding feeding loneSegment
           fed-refused j p e =
-              sound-pattern P y _ ∙ rw (le-leb (length s) greatestStretch short, state, told-refused (segmentAt s 0) pass j p e)
+              sound-pattern P y _ ∙ rw (le-leb (length s) greatestStretch short, state, segment-not P st s 0 j p e)
 
           module _ (behind size bits : ℕ) (hit : Bool)
               (e : segmentPass P st s 0 ≡ ok (record { next = behind; size = size; state = bits; ends = hit })) where
-            met : (x : Taken Segment ℕ) × (segmentAt s 0 ≡ ok x) × (pass x ≡ record { next = behind; size = size; state = bits; ends = hit })
-            unfolding segmentPass pass
-            met = told-met (segmentAt s 0) pass (record { next = behind; size = size; state = bits; ends = hit }) e
+            met : Stepped P st s 0 behind size bits hit
+            met = segment-met P st s 0 behind size bits hit e
 
             pub fed-left : (behind ≡ length s → ⊥) → feeding P st s ≡ refused 9 behind
-            unfolding feeding loneSegment pass
-            fed-left l =
-                let far : met .0 .next ≡ behind = ap (λ (x : Pass). x .next) (met .2) in
-                sound-pattern P y _ ∙ rw (le-leb (length s) greatestStretch short, state, met .1, far, ne-eqb behind (length s) l)
+            unfolding feeding loneSegment
+            fed-left l = sound-pattern P y _ ∙ rw (le-leb (length s) greatestStretch short, state, met .read, ne-eqb behind (length s) l)
 
             pub fed-next : behind ≡ length s → feeding P st s ≡ ok (record { state = bits; ends = hit })
-            unfolding feeding loneSegment pass
+            unfolding feeding loneSegment
             fed-next l =
-                let far : met .0 .next ≡ behind = ap (λ (x : Pass). x .next) (met .2) in
                 sound-pattern P y _
-                ∙ rw (le-leb (length s) greatestStretch short, state, met .1, far, eq-eqb behind (length s) l)
-                (ap₂ (λ (n : ℕ) (b : Bool). ok (record { state = n; ends = b })) (ap (λ (x : Pass). x .state) (met .2)) (ap (λ (x : Pass). x .ends) (met .2)))
+                ∙ rw (le-leb (length s) greatestStretch short, state, met .read, eq-eqb behind (length s) l)
+                (ap₂ (λ (n : ℕ) (b : Bool). ok (record { state = n; ends = b })) (met .state) (met .end))

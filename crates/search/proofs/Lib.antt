@@ -1,5 +1,9 @@
 -- Laws of the definitions in specs/, and the theorems about them.
 pub mod Vectors
+pub mod Meets
+pub mod Carries
+pub mod RowSteps
+pub mod RowSegments
 pub mod Carrieds
 pub mod Passes
 pub mod Searches
@@ -16,3 +20,4 @@ pub mod BorderCarried
 pub mod BorderWalks
 pub mod BorderSteps
 pub mod Calls
+pub mod RowWalks

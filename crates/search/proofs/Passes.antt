@@ -9,13 +9,13 @@ use mathlib.Core.List.{List, [], _∷_, _++_}
 use lib.Bits.{bitOr}
 use lib.ListN.{length, take, drop}
 use Rattle.text.specs.Letter.{letter, every, firstNot}
-use Rattle.text.specs.Text.{Segment, counted}
+use Rattle.text.specs.Text.{Segment, counted, weight, total}
 use Rattle.text.specs.State.{next, endsAt, ends}
 use Rattle.text.specs.Refusal.{ok, refused}
 use Rattle.text.proofs.Letters.{first-le, every-first, first-every}
 use Rattle.text.proofs.Outcomes.{told-met, told-refused}
 use Rattle.text.proofs.Folds.{next-none, next-snoc, ends-none, ends-snoc}
-use Rattle.stretch.specs.Reading.{lettersAt, behind, variantAt, many, segmentAt}
+use Rattle.stretch.specs.Reading.{Taken, lettersAt, behind, variantAt, many, segmentAt}
 use Rattle.stretch.specs.Variants.{Span, headAt, repeated, soundAt}
 use Rattle.stretch.proofs.Heads.{Whole, whole-part, whole-length}
 use Rattle.stretch.proofs.Units.{sound-refused, sound-wrong, sound-repeated, sound-ok}
@@ -132,3 +132,34 @@ module _ (P : List ℕ) (st : ℕ) (s : List ℕ) (at : ℕ) where
       → segmentPass P st s at ≡ ok (record { next = behind; size = size; state = state; ends = end })
   unfolding segmentPass
   segment-passed k behind size state end t e = rw (e, t .sum .sum, t .reached, t .ended)
+
+-- the segment that a step over it has read
+pub record Stepped (P : List ℕ) (st : ℕ) (s : List ℕ) (at behind more bits : ℕ) (hit : Bool) : Type 0 where
+  pub segment : Segment
+  pub read : segmentAt s at ≡ ok (record { value = segment; next = behind })
+  pub size : total weight segment ≡ more
+  pub state : next P st segment ≡ bits
+  pub end : ends P st segment ≡ hit
+
+module _ (P : List ℕ) (st : ℕ) (s : List ℕ) (at : ℕ) where
+  -- what a step over a segment tells, of what was read
+  told : Taken Segment ℕ → Pass
+  told x = record { next = x .next; size = total weight (x .value); state = next P st (x .value); ends = ends P st (x .value) }
+
+  pub segment-met : (behind more bits : ℕ) (hit : Bool) → segmentPass P st s at ≡ ok (record { next = behind; size = more; state = bits; ends = hit })
+      → Stepped P st s at behind more bits hit
+  unfolding segmentPass told
+  segment-met behind more bits hit e =
+      let m = told-met (segmentAt s at) told (record { next = behind; size = more; state = bits; ends = hit }) e in
+      let g = m .0 .value in
+      record {
+        segment = g;
+        read = m .1 ∙ ap (λ (n : ℕ). ok (record { value = g; next = n })) (ap (λ (x : Pass). x .next) (m .2));
+        size = ap (λ (x : Pass). x .size) (m .2);
+        state = ap (λ (x : Pass). x .state) (m .2);
+        end = ap (λ (x : Pass). x .ends) (m .2);
+      }
+
+  pub segment-not : (j p : ℕ) → segmentPass P st s at ≡ refused j p → segmentAt s at ≡ refused j p
+  unfolding segmentPass told
+  segment-not j p e = told-refused (segmentAt s at) told j p e

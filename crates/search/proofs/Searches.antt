@@ -19,11 +19,12 @@ use Rattle.text.proofs.Patterns.{pattern-refused, pattern-sound, sound-pattern}
 use Rattle.text.proofs.Runs.{run-lt}
 use Rattle.text.proofs.Folds.{run-snoc, marks-snoc}
 use Rattle.stretch.specs.Bytes.{greatestStretch, over}
-use Rattle.stretch.specs.Reading.{Taken, segmentAt, many, stretchOf, mostInStretch}
+use Rattle.stretch.specs.Reading.{segmentAt, many, stretchOf, mostInStretch}
 use Rattle.stretch.proofs.Stretches.{InStretch, through-none, through-more, through-refused, segment-bytes, stretch-most}
-use Rattle.search.specs.Step.{Pass, segmentPass}
 use Rattle.stretch.specs.Answers.{leftBy}
+use Rattle.search.specs.Step.{segmentPass}
 use Rattle.search.specs.Answers.{Sums, sumsOf, Marks, stretchInto, searching}
+use Rattle.search.proofs.Passes.{Stepped, segment-met, segment-not}
 
 -- k segments have been searched
 pub record Searching (P s buffer : List ℕ) (k at size ends st : ℕ) : Type 0 where
@@ -55,40 +56,31 @@ module _ (P s buffer : List ℕ) (k at size ones st : ℕ) (q : Searching P s bu
   pub searching-small : 0 < length P → st < 2 ^ length P
   searching-small some = rw (q .state) (run-lt P fresh (q .seen) (pow-lt some))
 
-  -- what a step over a segment tells
-  pass : Taken Segment ℕ → Pass
-  pass x = record { next = x .next; size = total weight (x .value); state = next P st (x .value); ends = ends P st (x .value) }
-
   module _ (behind more bits : ℕ) (hit : Bool)
       (e : segmentPass P st s at ≡ ok (record { next = behind; size = more; state = bits; ends = hit })) (short : length s ≤ greatestStretch) where
-    met : (x : Taken Segment ℕ) × (segmentAt s at ≡ ok x) × (pass x ≡ record { next = behind; size = more; state = bits; ends = hit })
-    unfolding segmentPass pass
-    met = told-met (segmentAt s at) pass (record { next = behind; size = more; state = bits; ends = hit }) e
+    met : Stepped P st s at behind more bits hit
+    met = segment-met P st s at behind more bits hit e
 
     g : Segment
-    g = met .0 .value
-
-    read : segmentAt s at ≡ ok (record { value = g; next = behind })
-    unfolding g pass
-    read = met .1 ∙ ap (λ (n : ℕ). ok (record { value = g; next = n })) (ap (λ (x : Pass). x .next) (met .2))
+    g = met .segment
 
     further : InStretch s (k + 1) (q .seen ++ (g ∷ [])) behind (size + more)
-    unfolding g pass
-    further = through-more s k (q .seen) at size (q .sum) g behind more read (ap (λ (x : Pass). x .size) (met .2))
+    unfolding g
+    further = through-more s k (q .seen) at size (q .sum) g behind more (met .read) (met .size)
 
     three : at + 3 ≤ behind
-    three = segment-bytes s at (record { value = g; next = behind }) read
+    unfolding g
+    three = segment-bytes s at (record { value = g; next = behind }) (met .read)
 
     -- there is room for its mark
     pub searching-room : k < mostInStretch
     searching-room = omega (arith, three, q .far, further .inside)
 
     marks-more : marks P (q .seen ++ (g ∷ [])) ≡ marks P (q .seen) ++ (cond hit 1 0 ∷ [])
-    unfolding marks g pass
+    unfolding marks g
     marks-more =
         marks-snoc P fresh (q .seen) g
-        ∙ ap (λ (b : Bool). marksFrom P fresh (q .seen) ++ (cond b 1 0 ∷ []))
-        (ap (λ (n : ℕ). ends P n g) (sym (q .state)) ∙ ap (λ (x : Pass). x .ends) (met .2))
+        ∙ ap (λ (b : Bool). marksFrom P fresh (q .seen) ++ (cond b 1 0 ∷ [])) (ap (λ (n : ℕ). ends P n g) (sym (q .state)) ∙ met .end)
 
     -- the mark that the code writes for the segment
     module _ (mark : ℕ) (is : mark ≡ cond hit 1 0) where
@@ -100,13 +92,13 @@ module _ (P s buffer : List ℕ) (k at size ones st : ℕ) (q : Searching P s bu
           one-more false = omega (arith, q .few)
 
       pub searching-more : Searching P s (set buffer k mark) (k + 1) behind (size + more) (ones + mark) bits
-      unfolding g pass
+      unfolding g
       searching-more =
           record {
             seen = q .seen ++ (g ∷ []);
             sum = further;
             far = omega (arith, three, q .far);
-            state = sym (ap (λ (x : Pass). x .state) (met .2)) ∙ ap (λ (n : ℕ). next P n g) (q .state) ∙ sym (run-snoc P fresh (q .seen) g);
+            state = sym (met .state) ∙ ap (λ (n : ℕ). next P n g) (q .state) ∙ sym (run-snoc P fresh (q .seen) g);
             marked =
                 let inside : k < length buffer = omega (arith, searching-room, q .full) in
                 rw add-one (take-suc-set buffer k mark inside) ∙ ap₂ (λ (l : List ℕ) (x : ℕ). l ++ (x ∷ [])) (q .marked) is ∙ sym marks-more;
@@ -117,8 +109,7 @@ module _ (P s buffer : List ℕ) (k at size ones st : ℕ) (q : Searching P s bu
           }
 
   pub searching-refused : (n : ℕ) → k < n → (j p : ℕ) → segmentPass P st s at ≡ refused j p → many (λ _. segmentAt s) n [] 2 ≡ refused j p
-  unfolding segmentPass pass
-  searching-refused n l j p e = through-refused s k (q .seen) at size (q .sum) n l j p (told-refused (segmentAt s at) pass j p e)
+  searching-refused n l j p e = through-refused s k (q .seen) at size (q .sum) n l j p (segment-not P st s at j p e)
 
 -- what a search tells of a stretch
 module _ (P s : List ℕ) where

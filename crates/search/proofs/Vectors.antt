@@ -107,6 +107,18 @@ filling-all P table k f l =
     let e : k ≡ length P = omega (arith, f .most) in
     record { full = f .full; each = λ c h. f .each c h ∙ ap (fromBits (λ j. eqb (getD P j 0) c)) e }
 
+-- a letter keeps those bits of a word whose base it is
+module _ (P masks : List ℕ) (vectors : Masks P masks) (d c : ℕ) (small : c < 256) where
+  pub kept-bit : (r : ℕ) → r < length P → bit (bitAnd d (getD masks c 0)) r ≡ (bit d r && eqb (getD P r 0) c)
+  unfolding maskOf
+  kept-bit r h =
+      bit-and d (getD masks c 0) r
+      ∙ ap (λ (b : Bool). bit d r && b) (ap (λ (n : ℕ). bit n r) (vectors .each c small) ∙ bit-fromBits (λ k. eqb (getD P k 0) c) (length P) r h)
+
+  pub kept-lt : bitAnd d (getD masks c 0) < 2 ^ length P
+  unfolding maskOf
+  kept-lt = omega (arith, and-le-r d (getD masks c 0), vectors .each c small, fromBits-lt (λ k. eqb (getD P k 0) c) (length P))
+
 -- a byte more is bad where it is no letter
 classed : (bad : ℕ) (b : Bool) → eqb (bitOr bad (cond b 0 1)) 0 ≡ (eqb bad 0 && b)
 classed bad true = ap (λ (n : ℕ). eqb n 0) (or-zero-r bad) ∙ sym (and-true (eqb bad 0))
@@ -139,15 +151,8 @@ module _ (P masks classes : List ℕ) (st : ℕ) (v : Variant) (i d hits bad : �
   longer : take (i + 1) v ≡ take i v ▸ c
   longer = rw add-one (take-suc v i 0 l ∙ ap (λ (x : ℕ). take i v ▸ x) (sym e))
 
-  kept-bit : (r : ℕ) → r < length P → bit (bitAnd d (getD masks c 0)) r ≡ (bit (next P st (take i v ∷ [])) r && eqb (getD P r 0) c)
-  unfolding maskOf
-  kept-bit r h =
-      bit-and d (getD masks c 0) r
-      ∙ ap₂ _&&_ (s .state r h) (ap (λ (n : ℕ). bit n r) (y .vectors .each c small) ∙ bit-fromBits (λ k. eqb (getD P k 0) c) (length P) r h)
-
-  kept-lt : bitAnd d (getD masks c 0) < 2 ^ length P
-  unfolding maskOf
-  kept-lt = omega (arith, and-le-r d (getD masks c 0), y .vectors .each c small, fromBits-lt (λ k. eqb (getD P k 0) c) (length P))
+  kept : (r : ℕ) → r < length P → bit (bitAnd d (getD masks c 0)) r ≡ (bit (next P st (take i v ∷ [])) r && eqb (getD P r 0) c)
+  kept r h = kept-bit P masks (y .vectors) d c small r h ∙ ap (λ (b : Bool). b && eqb (getD P r 0) c) (s .state r h)
 
   shifted : (r : ℕ) → r < length P → bit (bitOr (bitAnd d (getD masks c 0) * 2 ^ 1 % 2 ^ 64) (st % 2)) r ≡ bit (next P st (take (i + 1) v ∷ [])) r
   shifted zero h =
@@ -159,7 +164,7 @@ module _ (P masks classes : List ℕ) (st : ℕ) (v : Variant) (i d hits bad : �
       let before : r < length P = omega arith in
       bit-or _ (st % 2) (suc r)
       ∙ ap₂ _||_
-      (bit-mod (bitAnd d (getD masks c 0) * 2 ^ 1) 64 (suc r) near ∙ rw (← one-add r) (bit-shl (bitAnd d (getD masks c 0)) 1 r) ∙ kept-bit r before)
+      (bit-mod (bitAnd d (getD masks c 0) * 2 ^ 1) 64 (suc r) near ∙ rw (← one-add r) (bit-shl (bitAnd d (getD masks c 0)) 1 r) ∙ kept r before)
       (bit-mod-above st 1 (suc r) (omega arith))
       ∙ or-false _
       ∙ sym (ap (λ (t : List ℕ). bit (next P st (t ∷ [])) (suc r)) longer ∙ scan-state P st (take i v) c r h)
@@ -169,7 +174,7 @@ module _ (P masks classes : List ℕ) (st : ℕ) (v : Variant) (i d hits bad : �
       let long : length P ≡ suc (length P - 1) = omega (arith, y .some) in
       let last : length P - 1 < length P = omega (arith, y .some) in
       bit-or hits _ (length P - 1)
-      ∙ ap₂ _||_ (s .ended) (kept-bit (length P - 1) last)
+      ∙ ap₂ _||_ (s .ended) (kept (length P - 1) last)
       ∙ sym (ap (endsAt P st) longer ∙ scan-ends P st (take i v) c (length P - 1) long)
 
   clean-more : eqb (bitOr bad (getD classes c 0)) 0 ≡ every letter (take (i + 1) v)
@@ -184,7 +189,7 @@ module _ (P masks classes : List ℕ) (st : ℕ) (v : Variant) (i d hits bad : �
       record {
         inside = omega arith;
         state = shifted;
-        fits = or-lt (length P) hits (bitAnd d (getD masks c 0)) (s .fits) kept-lt;
+        fits = or-lt (length P) hits (bitAnd d (getD masks c 0)) (s .fits) (kept-lt P masks (y .vectors) d c small);
         ended = ends-more;
         clean = clean-more;
       }

@@ -6,3 +6,5 @@ pub mod BorderStep
 pub mod Method
 pub mod Answers
 pub mod Carried
+pub mod RowStep
+pub mod Rows

@@ -1,13 +1,19 @@
 // States, and the search of a pattern in a stretch by two methods.
 mod bits;
 mod borders;
+mod carry;
 mod masks;
 mod method;
+mod row;
+mod row_step;
+mod rowing;
 mod searching;
 mod state;
 mod step;
 mod walk;
 
+pub use row::Rows;
+pub use rowing::rows;
 pub use searching::by_bits;
 pub use searching::by_borders;
 pub use state::Carried;
