@@ -1,0 +1,91 @@
+/* Cerantuh's C forms: the two searches and the feed, for x86-64 Linux. Link target/staticlib/libcerantuh.a, which
+   'rt staticlib cerantuh' builds. docs/FORMAT.md has the bytes of a stretch and says when each refusal is given.
+
+   Memory. Every pointer comes with its length in bytes, and lends that many bytes for the time of the call. The caller owns
+   them before and after; nothing is kept, nothing is allocated, nothing is freed. A slice of length 0 may have any pointer,
+   NULL too. The lent slices must not overlap. What is lent as const is only read. The calls have no state of their own, so
+   any number of threads may call at once with slices of their own.
+
+   Answers. Each call returns one number: 0 is accepted, anything else is a refusal with a place. Take it apart by
+
+       cerantuh_number(r)   1 to 10, 16 or 17 (below)
+       cerantuh_place(r)    where: a byte of the pattern (3), of the stretch or lone segment (5 to 9), 0 otherwise
+
+   Only an accepted call writes, and then it writes all its results. A refused call changes no lent byte. */
+#ifndef CERANTUH_H
+#define CERANTUH_H
+
+#include <stddef.h>
+#include <stdint.h>
+
+#ifdef __cplusplus
+extern "C" {
+#endif
+
+#define CERANTUH_GREATEST_PATTERN 64    /* bases of a pattern, at most */
+#define CERANTUH_GREATEST_STRETCH 32768 /* bytes of a stretch or lone segment, at most */
+#define CERANTUH_MOST_SEGMENTS 10922    /* segments of a stretch, at most: a mark buffer of so many bytes always suffices */
+#define CERANTUH_SEARCH_BLOCK 24        /* bytes of a search's results */
+#define CERANTUH_FEED_BLOCK 16          /* bytes of a feed's results */
+#define CERANTUH_FRESH_STATE 1          /* the state before the first segment */
+
+/* The refusals. The first that applies is given, in this order: 1, 2, 3, 4, for the feed 17, then 5 to 8 in the order of the
+   bytes (of one variant 5, then 7, then 8), 9, 16, and 10 last. */
+enum cerantuh_refusal {
+    CERANTUH_ACCEPTED = 0,
+    CERANTUH_PATTERN_EMPTY = 1,
+    CERANTUH_PATTERN_LONG = 2,      /* over 64 bases */
+    CERANTUH_PATTERN_LETTER = 3,    /* a byte that is not A, C, G or T; place: the first such byte */
+    CERANTUH_STRETCH_LONG = 4,      /* over 32,768 bytes */
+    CERANTUH_BYTES_END = 5,         /* inside a count or length, or before the letters it states; place: its start */
+    CERANTUH_NO_VARIANTS = 6,       /* a variant count of 0; place: that count */
+    CERANTUH_LETTER = 7,            /* a letter that is not A, C, G or T; place: that letter */
+    CERANTUH_REPEATED = 8,          /* a variant equal to an earlier one of its segment; place: its length field */
+    CERANTUH_BYTES_LEFT = 9,        /* bytes after the last segment; place: the first of them */
+    CERANTUH_TOO_SHORT = 10,        /* marks_len below the segment count, or block_len below 24 (16 for the feed) */
+    CERANTUH_SEGMENTS = 16,         /* over 10,922 segments; the 32,768 bytes have no room for them, so it never comes */
+    CERANTUH_STATE = 17             /* bit 0 clear, or a bit set from the pattern's length up */
+};
+
+static inline unsigned cerantuh_number(uint64_t r) { return (unsigned)(r & 255); }
+static inline uint64_t cerantuh_place(uint64_t r) { return r >> 8; }
+
+/* The number at index i of a block: 8 bytes, low byte first. */
+static inline uint64_t cerantuh_result(const uint8_t *block, size_t i)
+{
+    uint64_t value = 0;
+    for (size_t k = 8; k > 0; k--) {
+        value = value * 256 + block[8 * i + k - 1];
+    }
+    return value;
+}
+
+/* Searches the pattern in a stretch. Both searches give the same answers; the one by bit-vectors is the faster.
+
+   pattern  the letters of the pattern, 1 to 64 bytes
+   stretch  the bytes of the stretch, from its segment count to the end of its last segment
+   marks    lent for the marks: byte j becomes 1 if an occurrence ends in segment j, and 0 if none does; bytes from the segment
+            count on stay
+   block    lent for the results, 24 bytes: result 0 is the segment count, 1 the size (letters in all variants), 2 the number of
+            segments marked 1; bytes from 24 on stay */
+uint64_t cerantuh_search_bits(const uint8_t *pattern, size_t pattern_len, const uint8_t *stretch, size_t stretch_len,
+                              uint8_t *marks, size_t marks_len, uint8_t *block, size_t block_len);
+uint64_t cerantuh_search_borders(const uint8_t *pattern, size_t pattern_len, const uint8_t *stretch, size_t stretch_len,
+                                 uint8_t *marks, size_t marks_len, uint8_t *block, size_t block_len);
+
+/* Feeds one segment to a search that goes from segment to segment: the first is fed with CERANTUH_FRESH_STATE, each other with
+   the state that the one before gave.
+
+   pattern  the letters of the pattern, the same at each segment
+   state    bit 0 is set; bit r is set if the first r bases of the pattern end where the segment before ended
+   segment  the bytes of a lone segment: those it has in a stretch, without the stretch's segment count
+   block    lent for the results, 16 bytes: result 0 is the next state, 1 is 1 if an occurrence ends in this segment and 0 if none
+            does; bytes from 16 on stay */
+uint64_t cerantuh_feed(const uint8_t *pattern, size_t pattern_len, uint64_t state, const uint8_t *segment, size_t segment_len,
+                       uint8_t *block, size_t block_len);
+
+#ifdef __cplusplus
+}
+#endif
+
+#endif

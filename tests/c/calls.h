@@ -1,0 +1,31 @@
+/* One call of a C form in guarded rooms, compared with the reference in its answer and in every byte that was lent. */
+#ifndef CALLS_H
+#define CALLS_H
+
+#include "guarded.h"
+#include "reference.h"
+
+#include <stdbool.h>
+
+enum form { SEARCH_BITS, SEARCH_BORDERS, FEED, FORMS };
+
+struct call {
+    const uint8_t *pattern;
+    size_t m;
+    uint64_t state; /* only the feed takes it */
+    const uint8_t *bytes;
+    size_t len;
+    size_t marks_len; /* only the searches take it */
+    size_t block_len;
+};
+
+/* What the reference says to the call. */
+void call_expect(enum form form, const struct call *call, struct expected *expected);
+
+/* Calls the form once. Prints a line and the call for the first thing that differs. */
+bool call_agrees(enum form form, const struct call *call, enum placement placement, const struct expected *expected);
+
+/* How many calls of forms were made so far. */
+extern uint64_t calls_made;
+
+#endif

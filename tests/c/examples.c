@@ -1,0 +1,107 @@
+/* Document 01's judged examples on all three forms, and an example for each slip that it names. Their marks, sizes, states and
+   refusals are written here by hand: the reference is held to them as the forms are. */
+#include "braces.h"
+#include "groups.h"
+#include "tally.h"
+
+#include <string.h>
+
+static struct made made;
+
+static struct call call_of(const char *pattern)
+{
+    struct call call = {(const uint8_t *)pattern, strlen(pattern), 1, made.bytes, made.len, MOST_SEGMENTS, 24};
+    return call;
+}
+
+/* The segments of the text, one by one, from the fresh state on. The marks must be those written; if states are written, the
+   states too. */
+static void feed_all(const struct call *search, const char *marks, const uint64_t *states)
+{
+    static struct expected expected;
+    struct call call = *search;
+    call.block_len = 16;
+    for (size_t j = 0; j < made.segment_count; j++) {
+        call.bytes = made.bytes + made.segment_at[j];
+        call.len = made.segment_at[j + 1] - made.segment_at[j];
+        try_call(FEED, &call);
+        call_expect(FEED, &call, &expected);
+        tally_check(expected.results[1] == (uint64_t)(marks[j] - '0'), "a fed segment's end is not the one written here");
+        tally_check(states == NULL || expected.results[0] == states[j], "a state is not the one written here");
+        call.state = expected.results[0];
+    }
+}
+
+static void example(const char *pattern, const char *text, const char *marks, uint64_t size, const uint64_t *states)
+{
+    static struct expected expected;
+    uint64_t ones = 0;
+    tally_test("%s in %.60s", pattern, text);
+    braces(text, &made);
+    struct call call = call_of(pattern);
+    try_searches(&call);
+    call_expect(SEARCH_BITS, &call, &expected);
+    tally_check(expected.mark_count == strlen(marks), "the number of segments is not the one written here");
+    for (size_t j = 0; j < strlen(marks); j++) {
+        tally_check(expected.marks[j] == marks[j] - '0', "a mark is not the one written here");
+        ones += marks[j] == '1';
+    }
+    tally_check(expected.results[1] == size, "the size is not the one written here");
+    tally_check(expected.results[2] == ones, "the number of ends is not the one written here");
+    feed_all(&call, marks, states);
+}
+
+/* The stretch, and, where it has one segment, that segment fed alone: the same refusal, two bytes earlier. */
+static void hex(const char *bytes, size_t len, uint64_t number, uint64_t place, bool fed)
+{
+    tally_test("refusal %d at %d, or none, of %zu bytes", (int)number, (int)place, len);
+    struct call call = {(const uint8_t *)"A", 1, 1, (const uint8_t *)bytes, len, MOST_SEGMENTS, 24};
+    try_refusal(SEARCH_BITS, &call, number, place);
+    try_refusal(SEARCH_BORDERS, &call, number, place);
+    if (fed) {
+        struct call feed = {(const uint8_t *)"A", 1, 1, (const uint8_t *)bytes + 2, len - 2, 0, 16};
+        try_refusal(FEED, &feed, number, place >= 2 ? place - 2 : 0);
+    }
+}
+
+#define A63 "AAAAAAAAAAAAAAAAAAAAAAAAAAAAAAAAAAAAAAAAAAAAAAAAAAAAAAAAAAAAAAA"
+
+static void hexes(void)
+{
+    hex("\x00\x00", 2, 0, 0, false);
+    hex("", 0, 5, 0, false);
+    hex("\x00", 1, 5, 0, false);
+    hex("\x01\x00", 2, 5, 2, true);
+    hex("\x01\x00\x00", 3, 6, 2, true);
+    hex("\x01\x00\x01\x02\x00\x41", 6, 5, 3, true);
+    hex("\x01\x00\x01\x01\x00\x4E", 6, 7, 5, true);
+    hex("\x01\x00\x02\x00\x00\x00\x00", 7, 8, 5, true);
+    hex("\x00\x00\x41", 3, 9, 2, false);
+    hex("\x01\x00\x01\x00\x00", 5, 0, 0, true);
+}
+
+void examples(void)
+{
+    static const uint64_t states_of_d[] = {0x07, 0x0F, 0x09, 0x09, 0x03};
+    tally_group("document 01's examples");
+    example("GATTA", "{CGA,G}{e,T}{TTAC,AT}{TA,e}{A,GATTAG}", "00111", 20, states_of_d);
+    tally_check(made.len == 47, "example D has not 47 bytes");
+    example("A", "{A}", "1", 1, NULL);
+    example("A", "{e}", "0", 0, NULL);
+    example("AC", "{A}{e}{C}", "001", 2, NULL);
+    example("AC", "{A}{C}{e}", "010", 2, NULL);
+    example("AA", "{A,e}", "0", 1, NULL);
+    example("AA", "{A,e}{A,e}{A,e}", "011", 3, NULL);
+    example("AAA", "{AA}{AA}", "01", 4, NULL);
+    example("A" A63, "{" A63 "}", "0", 63, NULL);
+    example("A" A63, "{" A63 "}{A}", "01", 64, NULL);
+    hexes();
+
+    tally_group("slips that look right");
+    example("AC", "{A}{C}{e}{e}", "0100", 2, NULL);              /* only the empty variant follows a finished occurrence */
+    example("AC", "{A}{G,e}{C}", "001", 3, NULL);                /* carried past the empty variant beside another */
+    example("ACGT", "{AC}{G}{T}", "001", 4, NULL);               /* the last base counts */
+    example("ACA", "{A}{CAGGAC}{A}", "011", 8, NULL);            /* a long variant ends one occurrence and starts another */
+    example("GATTA", "{GA}{TTACCC}", "01", 8, NULL);             /* it ends before the variant's last letter */
+    example("ACACA", "{C}{A,C}{AC,ACC,CACA}{C,e}{A,AC}{C}", "001010", 17, NULL); /* the papers' running example */
+}

@@ -1,0 +1,57 @@
+/* Empty slices with pointers that no one may read: a form must not. */
+#include "cerantuh.h"
+#include "groups.h"
+#include "tally.h"
+
+#include <string.h>
+
+static uint8_t *const tried[] = {NULL, (uint8_t *)1, (uint8_t *)UINTPTR_MAX};
+
+typedef uint64_t search_form(const uint8_t *, size_t, const uint8_t *, size_t, uint8_t *, size_t, uint8_t *, size_t);
+
+static void searches(search_form *search, uint8_t *any)
+{
+    static const uint8_t none[] = {0, 0}, one[] = {1, 0, 1, 1, 0, 'A'};
+    const uint8_t *pattern = (const uint8_t *)"A";
+    uint8_t marks[1] = {7}, block[24];
+    memset(block, 7, sizeof block);
+    tally_check(search(any, 0, one, sizeof one, marks, 1, block, 24) == 1, "an empty pattern");
+    tally_check(search(pattern, 1, any, 0, marks, 1, block, 24) == 5, "an empty stretch");
+    tally_check(search(pattern, 1, one, sizeof one, any, 0, block, 24) == 10, "an empty mark buffer for a segment");
+    tally_check(search(pattern, 1, one, sizeof one, marks, 1, any, 0) == 10, "an empty block");
+    tally_check(search(any, 0, any, 0, any, 0, any, 0) == 1, "nothing at all");
+    tally_check(marks[0] == 7 && block[0] == 7 && block[23] == 7, "a refused call wrote");
+    tally_check(search(pattern, 1, none, sizeof none, any, 0, block, 24) == 0, "an empty mark buffer for no segments");
+    tally_check(cerantuh_result(block, 0) == 0 && cerantuh_result(block, 1) == 0 && cerantuh_result(block, 2) == 0,
+                "no segments have results");
+    calls_made += 6;
+}
+
+static void feeds(uint8_t *any)
+{
+    static const uint8_t one[] = {1, 1, 0, 'A'};
+    const uint8_t *pattern = (const uint8_t *)"A";
+    uint8_t block[16];
+    memset(block, 7, sizeof block);
+    tally_check(cerantuh_feed(any, 0, 1, one, sizeof one, block, 16) == 1, "an empty pattern");
+    tally_check(cerantuh_feed(pattern, 1, 1, any, 0, block, 16) == 5, "an empty segment");
+    tally_check(cerantuh_feed(pattern, 1, 1, one, sizeof one, any, 0) == 10, "an empty block");
+    tally_check(cerantuh_feed(any, 0, 0, any, 0, any, 0) == 1, "nothing at all");
+    tally_check(block[0] == 7 && block[15] == 7, "a refused call wrote");
+    tally_check(cerantuh_feed(pattern, 1, CERANTUH_FRESH_STATE, one, sizeof one, block, 16) == 0, "a sound call");
+    tally_check(cerantuh_result(block, 0) == 1 && cerantuh_result(block, 1) == 1, "its results");
+    calls_made += 5;
+}
+
+void pointers(void)
+{
+    tally_group("empty slices with any pointer");
+    for (size_t i = 0; i < sizeof tried / sizeof *tried; i++) {
+        tally_test("pointer %zu in search_bits", i);
+        searches(cerantuh_search_bits, tried[i]);
+        tally_test("pointer %zu in search_borders", i);
+        searches(cerantuh_search_borders, tried[i]);
+        tally_test("pointer %zu in feed", i);
+        feeds(tried[i]);
+    }
+}

@@ -1,0 +1,47 @@
+/* The reference that the C forms are compared with: what document 01 says that each must answer and write. */
+#ifndef REFERENCE_H
+#define REFERENCE_H
+
+#include <stddef.h>
+#include <stdint.h>
+
+#define MOST_BASES 64
+#define MOST_BYTES 32768
+#define MOST_SEGMENTS 10922
+#define MOST_VARIANTS 16384 /* each takes two bytes at least */
+
+struct variant {
+    const uint8_t *letters;
+    size_t len;
+};
+
+struct segment {
+    size_t first, count; /* its variants, in the text's list */
+};
+
+struct text {
+    struct variant variants[MOST_VARIANTS];
+    struct segment segments[MOST_SEGMENTS];
+    size_t variant_count, segment_count;
+};
+
+/* What a call must return, write into its block (8 bytes each) and write into its marks. Refused: nothing is written. */
+struct expected {
+    uint64_t answer;
+    uint64_t results[3];
+    size_t result_count, mark_count;
+    uint8_t marks[MOST_SEGMENTS];
+};
+
+void reference_search(const uint8_t *pattern, size_t m, const uint8_t *stretch, size_t len, size_t marks_len, size_t block_len,
+                      struct expected *out);
+void reference_feed(const uint8_t *pattern, size_t m, uint64_t state, const uint8_t *segment, size_t len, size_t block_len,
+                    struct expected *out);
+
+/* The text of a stretch, or its refusal (number + 256 * place). */
+uint64_t reference_read(const uint8_t *stretch, size_t len, struct text *text);
+
+/* The marks of a text once more, by trying every start of an occurrence by itself: slow, and the definition to the letter. */
+void reference_marks_by_starts(const uint8_t *pattern, size_t m, const struct text *text, uint8_t *marks);
+
+#endif

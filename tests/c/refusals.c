@@ -1,0 +1,123 @@
+/* Every refusal that a C form can give, with its place, and which one is given where several apply. */
+#include "groups.h"
+#include "tally.h"
+
+#include <string.h>
+
+static uint8_t zeros[MOST_BYTES + 1];
+
+/* A search of a stretch that is written as a string; a NULL stretch is one of 32,769 bytes. */
+static void search(uint64_t number, uint64_t place, const char *pattern, const char *stretch, size_t len, size_t marks_len,
+                   size_t block_len)
+{
+    struct call call = {(const uint8_t *)pattern, strlen(pattern), 1, (const uint8_t *)stretch, len, marks_len, block_len};
+    if (stretch == NULL) {
+        call.bytes = zeros;
+        call.len = sizeof zeros;
+    }
+    tally_test("search: %d at %d", (int)number, (int)place);
+    try_refusal(SEARCH_BITS, &call, number, place);
+    try_refusal(SEARCH_BORDERS, &call, number, place);
+}
+
+static void feed(uint64_t number, uint64_t place, const char *pattern, uint64_t state, const char *segment, size_t len,
+                 size_t block_len)
+{
+    struct call call = {(const uint8_t *)pattern, strlen(pattern), state, (const uint8_t *)segment, len, 0, block_len};
+    if (segment == NULL) {
+        call.bytes = zeros;
+        call.len = sizeof zeros;
+    }
+    tally_test("feed: %d at %d", (int)number, (int)place);
+    try_refusal(FEED, &call, number, place);
+}
+
+#define TEN "AAAAAAAAAA"
+#define LONG TEN TEN TEN TEN TEN TEN "AAAAA"
+/* A sound stretch of two segments, {AC,e}{G}, and its segments alone. */
+#define SOUND "\2\0" "\2\2\0AC\0\0" "\1\1\0G"
+#define FIRST "\2\2\0AC\0\0"
+
+static void searches(void)
+{
+    search(1, 0, "", SOUND, 13, 2, 24);
+    search(2, 0, LONG, SOUND, 13, 2, 24);
+    search(3, 0, "N", SOUND, 13, 2, 24);
+    search(3, 3, "ACGaN", SOUND, 13, 2, 24);
+    search(4, 0, "AC", NULL, 0, 2, 24);
+    search(5, 0, "AC", SOUND, 0, 2, 24);
+    search(5, 0, "AC", SOUND, 1, 2, 24);
+    search(5, 2, "AC", SOUND, 2, 2, 24);
+    search(5, 3, "AC", SOUND, 4, 2, 24);
+    search(5, 3, "AC", SOUND, 6, 2, 24);
+    search(5, 7, "AC", SOUND, 8, 2, 24);
+    search(5, 9, "AC", SOUND, 9, 2, 24);
+    search(6, 7, "AC", "\2\0" "\1\2\0AC" "\0", 8, 2, 24);
+    search(7, 6, "AC", "\2\0" "\2\2\0AX\0\0" "\1\1\0G", 13, 2, 24);
+    search(8, 7, "AC", "\1\0" "\2\2\0AC\2\0AC", 11, 1, 24);
+    search(8, 10, "AC", "\1\0" "\3\2\0AC\1\0G\2\0AC", 14, 1, 24);
+    search(9, 13, "AC", SOUND "\0", 14, 2, 24);
+    search(10, 0, "AC", SOUND, 13, 1, 24);
+    search(10, 0, "AC", SOUND, 13, 0, 24);
+    search(10, 0, "AC", SOUND, 13, 2, 23);
+    search(10, 0, "AC", SOUND, 13, 2, 0);
+    search(10, 0, "AC", SOUND, 13, 0, 0);
+    search(0, 0, "AC", SOUND, 13, 2, 24);
+}
+
+static void feeds(void)
+{
+    feed(1, 0, "", 1, FIRST, 7, 16);
+    feed(2, 0, LONG, 1, FIRST, 7, 16);
+    feed(3, 1, "A-C", 1, FIRST, 7, 16);
+    feed(4, 0, "AC", 1, NULL, 0, 16);
+    feed(5, 0, "AC", 1, FIRST, 0, 16);
+    feed(5, 1, "AC", 1, FIRST, 2, 16);
+    feed(5, 1, "AC", 1, FIRST, 4, 16);
+    feed(5, 5, "AC", 1, FIRST, 6, 16);
+    feed(6, 0, "AC", 1, "\0", 1, 16);
+    feed(7, 3, "AC", 1, "\1\1\0N", 4, 16);
+    feed(8, 5, "AC", 1, "\2\2\0AC\2\0AC", 9, 16);
+    feed(9, 7, "AC", 1, FIRST "\1", 8, 16);
+    feed(10, 0, "AC", 1, FIRST, 7, 15);
+    feed(10, 0, "AC", 1, FIRST, 7, 0);
+    feed(17, 0, "AC", 0, FIRST, 7, 16);
+    feed(17, 0, "AC", 2, FIRST, 7, 16);
+    feed(17, 0, "AC", 5, FIRST, 7, 16);
+    feed(17, 0, "A", 3, FIRST, 7, 16);
+    feed(17, 0, "AC", 0x8000000000000001, FIRST, 7, 16);
+    feed(0, 0, "AC", 3, FIRST, 7, 16);
+}
+
+/* Each line has the fault of its number and of every later one that can stand beside it. */
+static void orders(void)
+{
+    search(1, 0, "", NULL, 0, 0, 0);
+    search(2, 0, LONG "N", NULL, 0, 0, 0);
+    search(3, 1, "AN", NULL, 0, 0, 0);
+    search(4, 0, "AC", NULL, 0, 0, 0);
+    search(5, 3, "AC", "\1\0" "\2\5\0NNNN", 9, 0, 0);             /* a length before the letters it states */
+    search(7, 8, "AC", "\1\0" "\3\1\0A\1\0N\1\0A", 12, 0, 0);     /* a letter before a later repetition */
+    search(8, 6, "AC", "\1\0" "\3\1\0A\1\0A\1\0N", 12, 0, 0);     /* a repetition before a later letter */
+    search(8, 6, "AC", "\2\0" "\2\1\0A\1\0A" "\0", 10, 0, 0);     /* and before a later count */
+    search(6, 2, "AC", "\2\0" "\0" "\1\1\0N", 7, 0, 0);           /* a count before a later letter */
+    search(9, 5, "AC", "\1\0" "\1\0\0" "\0", 6, 0, 0);            /* what is left over before a short buffer */
+    feed(1, 0, "", 0, NULL, 0, 0);
+    feed(2, 0, LONG, 0, NULL, 0, 0);
+    feed(3, 0, "N", 0, NULL, 0, 0);
+    feed(4, 0, "AC", 0, NULL, 0, 0);
+    feed(17, 0, "AC", 0, "", 0, 0);
+    feed(17, 0, "AC", 4, "\0", 1, 0);
+    feed(5, 0, "AC", 1, "", 0, 0);
+    feed(9, 3, "AC", 1, "\1\0\0" "\0", 4, 0);
+}
+
+void refusals(void)
+{
+    tally_group("refusals of the searches");
+    searches();
+    tally_group("refusals of the feed");
+    feeds();
+    tally_group("the order of refusals");
+    orders();
+}

@@ -1,0 +1,54 @@
+# What compiles C for x86-64 and runs it on this machine, and the archive of the C forms. Sourced from the top folder.
+# After 'find_tools', $compiler makes programs for x86-64 and $emulator (empty on x86-64) stands before a program to run it.
+
+# The first of these commands that is there.
+first_of() {
+    for name in "$@"; do command -v "$name" && return 0; done
+    return 1
+}
+
+# The toolchain's own emulator, which runs programs on Arm: it stands beside the compiler that rt uses.
+toolchain_emulator() {
+    rt=$(readlink -f "$(command -v rt)") || return 1
+    found=${RATTLE_HOME:-$(dirname "$(dirname "$rt")")}/on/$(uname -m)/toolchain/bin/qemu-x86_64
+    [ -x "$found" ] && echo "$found"
+}
+
+look_for_tools() {
+    case $(uname -m) in
+    x86_64) compiler=$(first_of cc gcc clang) emulator='' ;;
+    *)
+        # nothing of an x86-64 system need be here to run a static program
+        compiler=$(first_of x86_64-linux-gnu-gcc) && compiler="$compiler -static" &&
+            emulator=$(first_of qemu-x86_64-static qemu-x86_64 || toolchain_emulator)
+        ;;
+    esac
+}
+
+install_tools() {
+    [ "$(id -u)" = 0 ] && command -v apt-get >/dev/null || return 1
+    case $(uname -m) in
+    x86_64) wanted='gcc libc6-dev' ;;
+    *) wanted='gcc-x86-64-linux-gnu libc6-dev-amd64-cross qemu-user' ;;
+    esac
+    # shellcheck disable=SC2086
+    { apt-get -q update && DEBIAN_FRONTEND=noninteractive apt-get -q install -y $wanted; } >/dev/null 2>&1
+}
+
+# Ends the script that sourced this, with one line, where C for x86-64 cannot be compiled or run.
+find_tools() {
+    look_for_tools || { install_tools && look_for_tools; } || {
+        echo "skipped: $1 need a C compiler for x86-64 and, on another processor, an emulator; this machine has them not"
+        echo '0 passed, 0 failed'
+        exit 0
+    }
+}
+
+# Proves and builds the C forms, unless the archive is newer than every crate.
+library=target/staticlib/libcerantuh.a
+build_library() {
+    if [ -f "$library" ] && [ -z "$(find crates crates.txt -type f -newer "$library")" ]; then return 0; fi
+    rt staticlib cerantuh
+}
+
+flags='-std=c11 -O2 -Wall -Wextra -Iinclude -Itests/c'
