@@ -74,15 +74,32 @@ static void expect_results(const struct expected *expected)
     }
 }
 
-static bool room_agrees(const char *name, const struct room *room)
+static const struct {
+    const char *name;
+    const struct room *room;
+} lent[] = {{"pattern", &pattern_room}, {"stretch or segment", &bytes_room}, {"marks", &marks_room}, {"block", &block_room}};
+
+enum { LENT = sizeof lent / sizeof *lent, MOST_PRINTED = 20 };
+
+/* Prints what differs and the call, of the first calls that differ. */
+static void print_difference(uint64_t answer, const struct expected *expected)
 {
-    ptrdiff_t at = room_differs(room);
-    if (at == NOWHERE) {
-        return true;
+    static size_t printed;
+    if (printed++ >= MOST_PRINTED) {
+        return;
     }
-    printf("differs: byte %td of the %zu bytes of %s is %02X, not %02X\n", at, room->len, name,
-           room->start[(ptrdiff_t)room->at + at], room->expected[(ptrdiff_t)room->at + at]);
-    return false;
+    if (answer != expected->answer) {
+        printf("differs: refusal %" PRIu64 " at %" PRIu64 ", not %" PRIu64 " at %" PRIu64 "\n", answer & 255, answer >> 8,
+               expected->answer & 255, expected->answer >> 8);
+    }
+    for (size_t i = 0; i < LENT; i++) {
+        ptrdiff_t at = room_differs(lent[i].room);
+        if (at != NOWHERE) {
+            const uint8_t *is = lent[i].room->start + lent[i].room->at, *should = lent[i].room->expected + lent[i].room->at;
+            printf("differs: byte %td of the %s is %02X, not %02X\n", at, lent[i].name, is[at], should[at]);
+        }
+    }
+    print_call();
 }
 
 void call_expect(enum form form, const struct call *call, struct expected *expected)
@@ -120,16 +137,11 @@ bool call_agrees(enum form form, const struct call *call, enum placement placeme
     calls_made++;
     uint64_t answer = run(form, call, placement, expected);
     bool agrees = answer == expected->answer;
-    if (!agrees) {
-        printf("differs: refusal %" PRIu64 " at %" PRIu64 ", not %" PRIu64 " at %" PRIu64 "\n", answer & 255, answer >> 8,
-               expected->answer & 255, expected->answer >> 8);
+    for (size_t i = 0; i < LENT; i++) {
+        agrees = agrees && room_differs(lent[i].room) == NOWHERE;
     }
-    agrees = room_agrees("the pattern", &pattern_room) && agrees;
-    agrees = room_agrees("the stretch or segment", &bytes_room) && agrees;
-    agrees = room_agrees("the marks", &marks_room) && agrees;
-    agrees = room_agrees("the block", &block_room) && agrees;
     if (!agrees) {
-        print_call();
+        print_difference(answer, expected);
     }
     return agrees;
 }

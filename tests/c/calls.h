@@ -22,7 +22,7 @@ struct call {
 /* What the reference says to the call. */
 void call_expect(enum form form, const struct call *call, struct expected *expected);
 
-/* Calls the form once. Prints a line and the call for the first thing that differs. */
+/* Calls the form once. Prints a line for each thing that differs, and the call; after some calls that differ, nothing more. */
 bool call_agrees(enum form form, const struct call *call, enum placement placement, const struct expected *expected);
 
 /* How many calls of forms were made so far. */

@@ -1,0 +1,177 @@
+/* A fuzzer of the C forms: draws calls by construction, so that each refusal and deep texts are as common as we like, and holds
+   every answer and every lent byte to the reference. Arguments: the number of calls, the seed. A call that faults ends the
+   program; differences are counted. The texts, patterns and damage are those of tests/c/making.h. */
+#include "calls.h"
+#include "making.h"
+
+#include <inttypes.h>
+#include <stdio.h>
+#include <stdlib.h>
+#include <string.h>
+
+static struct made made, other;
+static uint8_t pattern[2 * MOST_BASES];
+
+/* What a call is drawn for: a refusal by its number, or one of these. ANY is damage at random, whatever comes of it. */
+enum { ACCEPTED = 0, ANY = 18 };
+
+/* A text and a pattern from it. One in 256 texts is large. Where a segment is needed, one with none is drawn again. */
+static size_t draw(struct random *random, size_t least_segments)
+{
+    struct shape shape = shape_any(random);
+    if (random_below(random, 256) == 0) {
+        shape.segments = 3000;
+    }
+    do {
+        make_text(random, &shape, &made);
+    } while (made.segment_count < least_segments);
+    return make_pattern(random, &made, pattern);
+}
+
+/* Keeps one segment of the text alone. */
+static void keep_one(struct random *random)
+{
+    size_t j = random_below(random, made.segment_count), at = made.segment_at[j], len = made.segment_at[j + 1] - at;
+    memmove(made.bytes + 2, made.bytes + at, len);
+    made.segment_count = 1;
+    made.segment_at[0] = 2;
+    made.len = 2 + len;
+    made_end(&made);
+}
+
+/* The next splice takes from what was damaged before. */
+static void keep_for_splices(void)
+{
+    if (made.len <= 200) {
+        memcpy(other.bytes, made.bytes, made.len);
+        other.len = made.len;
+    }
+}
+
+/* Gives the bytes the fault that is aimed at; a text without letters may stay sound. */
+static void damage(struct random *random, int aim)
+{
+    switch (aim) {
+    case 4: made.len = MOST_BYTES + 1 + random_below(random, 100); break;
+    case 5: (random_below(random, 2) == 0 ? damage_cut : damage_length)(random, &made); break;
+    case 6: damage_count(random, &made); break;
+    case 7: damage_letter(random, &made); break;
+    case 8: damage_repeat(random, &made); break;
+    case 9: damage_more(random, &made); break;
+    case ANY:
+        for (size_t times = 1 + random_below(random, 3); times > 0; times--) {
+            damage_byte(random, &made);
+        }
+        if (random_below(random, 2) == 0) {
+            damage_splice(random, &made, &other);
+        }
+        keep_for_splices();
+        break;
+    default: break;
+    }
+}
+
+static void damage_pattern(struct random *random, int aim, size_t *m)
+{
+    static const uint8_t wrong[] = {0, 'N', 'a', 'B', 'U', '@', 0xC1, 0xFF};
+    if (aim == 1) {
+        *m = 0;
+    } else if (aim == 2) {
+        *m = MOST_BASES + 1 + random_below(random, MOST_BASES);
+    } else if (aim == 3) {
+        pattern[random_below(random, *m)] = wrong[random_below(random, sizeof wrong)];
+    }
+}
+
+static uint64_t draw_state(struct random *random, int aim, size_t m)
+{
+    uint64_t state = random_next(random) & random_next(random);
+    if (aim == 17) {
+        return random_below(random, 2) == 0 ? state & ~(uint64_t)1 : state | (uint64_t)1 << random_below(random, 64);
+    }
+    return (m < 64 ? state % ((uint64_t)1 << m) : state) | 1;
+}
+
+static void draw_lent(struct random *random, int aim, bool feeds, struct call *call)
+{
+    size_t least = feeds ? 16 : 24;
+    call->marks_len = made.segment_count + random_below(random, 3);
+    call->block_len = least + random_below(random, 3);
+    if (aim == 10 && (feeds || random_below(random, 2) == 0)) {
+        call->block_len = random_below(random, least);
+    } else if (aim == 10) {
+        call->marks_len = random_below(random, made.segment_count);
+    }
+}
+
+static struct call draw_call(struct random *random, int aim, bool feeds)
+{
+    struct call call = {pattern, draw(random, feeds || aim != ACCEPTED), 1, made.bytes, 0, 0, 0};
+    if (feeds) {
+        keep_one(random);
+        call.bytes = made.bytes + 2;
+    }
+    call.state = draw_state(random, aim, call.m);
+    draw_lent(random, aim, feeds, &call);
+    damage(random, aim);
+    damage_pattern(random, aim, &call.m);
+    call.len = feeds ? (made.len < 2 ? 0 : made.len - 2) : made.len;
+    return call;
+}
+
+/* 45 of 100 calls are searches to be accepted, 10 feeds to be accepted; the others are spread over the refusals. */
+static void choose(struct random *random, enum form *form, int *aim)
+{
+    size_t choice = random_below(random, 100);
+    *form = random_below(random, 2) == 0 ? SEARCH_BITS : SEARCH_BORDERS;
+    *aim = ACCEPTED;
+    if (choice >= 45 && choice < 55) {
+        *form = FEED;
+    } else if (choice >= 55) {
+        static const int aims[] = {1, 2, 3, 4, 5, 6, 7, 8, 9, 10, 17, ANY};
+        *aim = aims[random_below(random, sizeof aims / sizeof *aims)];
+        if (*aim == 17 || random_below(random, 3) == 0) {
+            *form = FEED;
+        }
+    }
+}
+
+static uint64_t counts[256][FORMS];
+
+static void print_counts(void)
+{
+    printf("%-12s %15s %15s %15s\n", "answer", "search_bits", "search_borders", "feed");
+    for (size_t number = 0; number < 256; number++) {
+        const uint64_t *row = counts[number];
+        if (row[SEARCH_BITS] + row[SEARCH_BORDERS] + row[FEED] > 0) {
+            char name[32];
+            snprintf(name, sizeof name, number == 0 ? "accepted" : "refused %zu", number);
+            printf("%-12s %15" PRIu64 " %15" PRIu64 " %15" PRIu64 "\n", name, row[SEARCH_BITS], row[SEARCH_BORDERS], row[FEED]);
+        }
+    }
+}
+
+int main(int argc, char **argv)
+{
+    static struct expected expected;
+    uint64_t calls = argc > 1 ? strtoull(argv[1], NULL, 10) : 1000, seed = argc > 2 ? strtoull(argv[2], NULL, 10) : 1;
+    uint64_t differences = 0, marked = 0, ends = 0;
+    struct random random = {seed};
+    made_begin(&other);
+    made_end(&other);
+    while (calls_made < calls) {
+        enum form form;
+        int aim;
+        choose(&random, &form, &aim);
+        struct call call = draw_call(&random, aim, form == FEED);
+        call_expect(form, &call, &expected);
+        differences += !call_agrees(form, &call, (enum placement)random_below(&random, PLACEMENTS), &expected);
+        counts[expected.answer & 255][form]++;
+        marked += form != FEED && expected.answer == 0 && expected.results[2] > 0;
+        ends += form == FEED && expected.answer == 0 && expected.results[1] > 0;
+    }
+    print_counts();
+    printf("an occurrence ends in %" PRIu64 " texts and %" PRIu64 " fed segments\n", marked, ends);
+    printf("seed %" PRIu64 ": %" PRIu64 " calls, %" PRIu64 " differences\n", seed, calls_made, differences);
+    return differences > 0;
+}
