@@ -1,0 +1,150 @@
+/* The bench's stretches (data.h): two like real ones and two worked from 001's setting, worst cases, and document 01's D. */
+#include "data.h"
+
+#include "braces.h"
+
+#include <string.h>
+
+static struct random random;
+
+static void letters_of(uint8_t *letters, size_t len)
+{
+    for (size_t k = 0; k < len; k++) {
+        letters[k] = (uint8_t)"ACGT"[random_below(&random, 4)];
+    }
+}
+
+static size_t word(const uint8_t *bytes) { return bytes[0] + 256u * bytes[1]; }
+
+/* Puts a random variant of this length into the open segment, unless it is there already or there is no room. */
+static void put_variant(struct made *made, size_t len, size_t most)
+{
+    static uint8_t letters[MOST_BYTES];
+    letters_of(letters, len);
+    for (size_t at = made->segment_at[made->segment_count - 1] + 1; at < made->len; at += 2 + word(made->bytes + at)) {
+        if (word(made->bytes + at) == len && memcmp(made->bytes + at + 2, letters, len) == 0) {
+            return;
+        }
+    }
+    if (made->len + 2 + len <= most) {
+        made_variant(made, letters, len);
+    }
+}
+
+/* A segment with one variant. */
+static void put_plain(struct made *made, size_t len, size_t most)
+{
+    made_segment(made);
+    put_variant(made, len, most);
+}
+
+/* Like 1000 Genomes: plain runs of some 29 letters; between them sites of two, rarely three variants, nine of ten of them of one
+   letter, the others of none to six. */
+static void kg(struct made *made, size_t most)
+{
+    while (made->len + 80 <= most) {
+        put_plain(made, 1 + random_below(&random, 57), most);
+        made_segment(made);
+        size_t variants = random_below(&random, 25) == 0 ? 3 : 2;
+        while (made->bytes[made->segment_at[made->segment_count - 1]] < variants) {
+            put_variant(made, random_below(&random, 10) > 0 ? 1 : random_below(&random, 7), most);
+        }
+    }
+}
+
+static void degenerate(struct made *made, size_t most)
+{
+    made_segment(made);
+    for (size_t variants = 1 + random_below(&random, 10); variants > 0; variants--) {
+        put_variant(made, random_below(&random, 11), most);
+    }
+}
+
+/* 001's setting: one position of ten is degenerate, with up to 10 variants of up to 10 letters. Plain positions that follow each
+   other are one segment. */
+static void synth(struct made *made, size_t most)
+{
+    while (made->len + 200 <= most) {
+        size_t run = 0;
+        while (random_below(&random, 10) > 0 && run < 50) {
+            run++;
+        }
+        if (run > 0) {
+            put_plain(made, run, most);
+        }
+        degenerate(made, most);
+    }
+}
+
+/* The same to the letter: every plain position is a segment of its own. */
+static void single(struct made *made, size_t most)
+{
+    while (made->len + 200 <= most) {
+        if (random_below(&random, 10) > 0) {
+            put_plain(made, 1, most);
+        } else {
+            degenerate(made, most);
+        }
+    }
+}
+
+/* 255 variants that begin alike, as long as they fit; they differ in their last four letters. */
+static void alike(struct made *made, size_t most)
+{
+    uint8_t letters[MOST_BYTES];
+    size_t len = (most - 3) / 255 - 2;
+    letters_of(letters, len);
+    made_segment(made);
+    for (size_t v = 0; v < 255; v++) {
+        for (size_t k = 0, left = v; k < 4; k++, left /= 4) {
+            letters[len - 1 - k] = (uint8_t)"ACGT"[left % 4];
+        }
+        made_variant(made, letters, len);
+    }
+}
+
+static void empties(struct made *made, size_t most)
+{
+    while (made->len + 3 <= most) {
+        put_plain(made, 0, most);
+    }
+}
+
+static void one(struct made *made, size_t most) { put_plain(made, most - 5, most); }
+
+/* Letters from the middle segment on, by the first variant of each; what is missing is random. */
+static void pattern_of(const struct made *made, size_t m, uint8_t *pattern)
+{
+    size_t have = 0;
+    letters_of(pattern, m);
+    for (size_t j = made->segment_count / 2; j < made->segment_count && have < m; j++) {
+        size_t at = made->segment_at[j] + 1, len = word(made->bytes + at);
+        size_t taken = len < m - have ? len : m - have;
+        memcpy(pattern + have, made->bytes + at + 2, taken);
+        have += taken;
+    }
+}
+
+int data_make(const char *name, size_t most, size_t m, struct made *made, uint8_t pattern[MOST_BASES])
+{
+    static const struct {
+        const char *name;
+        void (*make)(struct made *, size_t);
+    } known[] = {{"kg", kg}, {"synth", synth}, {"single", single}, {"alike", alike}, {"empties", empties}, {"one", one}};
+    random.state = 2017;
+    if (strcmp(name, "D") == 0) {
+        braces("{CGA,G}{e,T}{TTAC,AT}{TA,e}{A,GATTAG}", made);
+        memcpy(pattern, "GATTA", 5);
+        return 1;
+    }
+    for (size_t i = 0; i < sizeof known / sizeof *known; i++) {
+        if (strcmp(name, known[i].name) == 0) {
+            made_begin(made);
+            known[i].make(made, most);
+            made_end(made);
+            pattern_of(made, m, pattern);
+            return 1;
+        }
+    }
+    return 0;
+}
