@@ -31,13 +31,15 @@ void room_open(struct room *room, size_t most)
     }
 }
 
-/* The part that is looked at: the slice and up to a page of the room on either side. */
-static size_t part_start(const struct room *room) { return room->at < page() ? 0 : room->at - page(); }
+/* The part that is looked at: the slice and some bytes of the room on either side. */
+enum { BESIDE = 256 };
+
+static size_t part_start(const struct room *room) { return room->at < BESIDE ? 0 : room->at - BESIDE; }
 
 static size_t part_len(const struct room *room)
 {
     size_t behind = room->size - room->at - room->len;
-    return room->at - part_start(room) + room->len + (behind < page() ? behind : page());
+    return room->at - part_start(room) + room->len + (behind < BESIDE ? behind : BESIDE);
 }
 
 uint8_t *room_lend(struct room *room, enum placement placement, const uint8_t *bytes, size_t len)

@@ -27,8 +27,8 @@ uint8_t *room_lend(struct room *room, enum placement placement, const uint8_t *b
 /* Byte k of the slice is expected to become this one. */
 void room_expect(struct room *room, size_t k, uint8_t byte);
 
-/* The first byte, counted from the slice's start, that is not what is expected, in the slice or up to a page beside it; NOWHERE
-   if there is none. */
+/* The first byte, counted from the slice's start, that is not what is expected, in the slice or in the 256 bytes of the room beside
+   it; NOWHERE if there is none. */
 #define NOWHERE PTRDIFF_MAX
 ptrdiff_t room_differs(const struct room *room);
 

@@ -35,10 +35,16 @@ install_tools() {
     { apt-get -q update && DEBIAN_FRONTEND=noninteractive apt-get -q install -y $wanted; } >/dev/null 2>&1
 }
 
+# Whether they are there and a program that is compiled so runs.
+tools_work() {
+    look_for_tools && mkdir -p target/c && echo 'int main(void) { return 0; }' >target/c/nothing.c &&
+        $compiler target/c/nothing.c -o target/c/nothing >/dev/null 2>&1 && $emulator target/c/nothing >/dev/null 2>&1
+}
+
 # Ends the script that sourced this, with one line, where C for x86-64 cannot be compiled or run.
 find_tools() {
-    look_for_tools || { install_tools && look_for_tools; } || {
-        echo "skipped: $1 need a C compiler for x86-64 and, on another processor, an emulator; this machine has them not"
+    tools_work || { install_tools && tools_work; } || {
+        echo "skipped: $1 need a C compiler for x86-64 and, on another processor, an emulator; this machine has none that works"
         echo '0 passed, 0 failed'
         exit 0
     }
