@@ -44,7 +44,7 @@ tools_work() {
 # Ends the script that sourced this, with one line, where C for x86-64 cannot be compiled or run.
 find_tools() {
     tools_work || { install_tools && tools_work; } || {
-        echo "skipped: $1 need a C compiler for x86-64 and, on another processor, an emulator; this machine has none that works"
+        echo "skipped: $1, since this machine has no C compiler for x86-64 that works, or no emulator to run what it makes"
         echo '0 passed, 0 failed'
         exit 0
     }
