@@ -7,11 +7,9 @@ first_of() {
     return 1
 }
 
-# The toolchain's own emulator, which runs programs on Arm: it stands beside the compiler that rt uses.
-toolchain_emulator() {
-    rt=$(readlink -f "$(command -v rt)") || return 1
-    found=${RATTLE_HOME:-$(dirname "$(dirname "$rt")")}/on/$(uname -m)/toolchain/bin/qemu-x86_64
-    [ -x "$found" ] && echo "$found"
+# The toolchain's folder with its compiler and, on Arm, the emulator and the x86-64 loader that rt runs programs with.
+toolchain() {
+    rt=$(readlink -f "$(command -v rt)") && echo "${RATTLE_HOME:-$(dirname "$(dirname "$rt")")}/on/$(uname -m)/toolchain"
 }
 
 look_for_tools() {
@@ -20,7 +18,7 @@ look_for_tools() {
     *)
         # nothing of an x86-64 system need be here to run a static program
         compiler=$(first_of x86_64-linux-gnu-gcc) && compiler="$compiler -static" &&
-            emulator=$(first_of qemu-x86_64-static qemu-x86_64 || toolchain_emulator)
+            emulator=$(first_of qemu-x86_64-static qemu-x86_64 "$(toolchain)/bin/qemu-x86_64")
         ;;
     esac
 }
