@@ -3,28 +3,51 @@
 #include "checks.h"
 #include "yardsticks.h"
 
-uint64_t shiftand(const uint8_t *pattern, size_t m, const uint8_t *stretch, size_t len, uint8_t *marks, size_t marks_len,
-                  uint8_t *block, size_t block_len)
+/* Refusals 1 to 3; without one, bit k of masks[c] tells whether P[k] is c. */
+static uint64_t set_masks(const uint8_t *pattern, size_t m, uint64_t masks[256])
 {
-    uint64_t masks[256] = {0};
-    uint8_t kept[10922];
     if (m == 0) {
         return refused(1, 0);
     }
     if (m > 64) {
         return refused(2, 0);
     }
+    memset(masks, 0, 256 * sizeof *masks);
     for (size_t k = 0; k < m; k++) {
         if (!right[pattern[k]]) {
             return refused(3, k);
         }
         masks[pattern[k]] |= (uint64_t)1 << k;
     }
-    if (len > 32768) {
-        return refused(4, 0);
+    return 0;
+}
+
+/* Takes the state through some letters, collects what it hit, and tells whether all of them are right. */
+static inline unsigned take(const uint64_t masks[256], const uint8_t *letters, size_t n, uint64_t *state, uint64_t *hits)
+{
+    uint64_t d = *state, h = *hits;
+    unsigned good = 1;
+    for (size_t k = 0; k < n; k++) {
+        uint64_t e = d & masks[letters[k]];
+        good &= right[letters[k]];
+        h |= e;
+        d = e << 1 | 1;
     }
-    if (len < 2) {
-        return refused(5, 0);
+    *state = d;
+    *hits = h;
+    return good;
+}
+
+uint64_t shiftand(const uint8_t *pattern, size_t m, const uint8_t *stretch, size_t len, uint8_t *marks, size_t marks_len,
+                  uint8_t *block, size_t block_len)
+{
+    uint64_t masks[256], refusal = set_masks(pattern, m, masks);
+    uint8_t kept[10922];
+    if (refusal != 0) {
+        return refusal;
+    }
+    if (len > 32768 || len < 2) {
+        return refused(len < 2 ? 5 : 4, 0);
     }
 
     const uint64_t last = (uint64_t)1 << (m - 1), low = last | (last - 1);
@@ -48,17 +71,9 @@ uint64_t shiftand(const uint8_t *pattern, size_t m, const uint8_t *stretch, size
             if (len - at - 2 < n) {
                 return refused(5, at);
             }
-            const uint8_t *letters = stretch + at + 2;
             uint64_t d = state;
-            unsigned good = 1;
-            for (size_t k = 0; k < n; k++) {
-                uint64_t e = d & masks[letters[k]];
-                good &= right[letters[k]];
-                hits |= e;
-                d = e << 1 | 1;
-            }
-            if (!good) {
-                return refused(7, at + 2 + first_wrong(letters));
+            if (!take(masks, stretch + at + 2, n, &d, &hits)) {
+                return refused(7, at + 2 + first_wrong(stretch + at + 2));
             }
             if (repeated(stretch, first, at, n)) {
                 return refused(8, at);
