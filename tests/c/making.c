@@ -136,9 +136,9 @@ static size_t spell(struct random *random, const struct made *made, uint8_t *let
 
 size_t make_pattern(struct random *random, const struct made *made, uint8_t pattern[MOST_BASES])
 {
-    static const size_t most[] = {6, 6, 6, 20, MOST_BASES};
+    static const size_t least[] = {1, 1, 1, 1, 1, MOST_BASES - 1}, most[] = {6, 6, 6, 20, MOST_BASES, MOST_BASES};
     uint8_t letters[3 * MOST_BASES];
-    size_t m = 1 + random_below(random, most[random_below(random, 5)]);
+    size_t kind = random_below(random, 6), m = least[kind] + random_below(random, most[kind] - least[kind] + 1);
     size_t spelt = made->segment_count == 0 ? 0 : spell(random, made, letters, sizeof letters);
     size_t from = spelt == 0 ? 0 : random_below(random, spelt);
     if (spelt - from < m && spelt > from && random_below(random, 2) == 0) {

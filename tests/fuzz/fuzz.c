@@ -83,13 +83,20 @@ static void damage_pattern(struct random *random, int aim, size_t *m)
     }
 }
 
+/* Any state that the pattern allows; or, for refusal 17, one without bit 0, with bit m, or with any bit more. */
 static uint64_t draw_state(struct random *random, int aim, size_t m)
 {
+    const uint64_t one = 1;
     uint64_t state = random_next(random) & random_next(random);
+    state = (m < 64 ? state % (one << m) : state) | one;
     if (aim == 17) {
-        return random_below(random, 2) == 0 ? state & ~(uint64_t)1 : state | (uint64_t)1 << random_below(random, 64);
+        switch (random_below(random, 3)) {
+        case 0: return state & ~one;
+        case 1: return m < 64 ? state | one << m : 0;
+        default: return state | one << random_below(random, 64);
+        }
     }
-    return (m < 64 ? state % ((uint64_t)1 << m) : state) | 1;
+    return state;
 }
 
 static void draw_lent(struct random *random, int aim, bool feeds, struct call *call)
