@@ -20,7 +20,8 @@ int main(void)
     static uint8_t marks[CERANTUH_MOST_SEGMENTS];
     uint8_t block[CERANTUH_SEARCH_BLOCK];
 
-    uint64_t answer = cerantuh_search_bits(pattern, sizeof pattern, stretch, sizeof stretch, marks, sizeof marks, block, sizeof block);
+    uint64_t answer = cerantuh_search_bits(pattern, sizeof pattern, stretch, sizeof stretch,
+                                           marks, sizeof marks, block, sizeof block);
     if (answer != 0) {
         printf("refused %u at %" PRIu64 "\n", cerantuh_number(answer), cerantuh_place(answer));
         return 1;
