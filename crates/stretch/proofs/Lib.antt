@@ -15,6 +15,7 @@ pub mod Refusals
 pub mod Skips
 pub mod Places
 pub mod Readings
+pub mod Readers
 pub mod ReadingOn
 pub mod Totals
 pub mod Cuts

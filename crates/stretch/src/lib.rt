@@ -3,6 +3,7 @@ pub mod bytes;
 mod checking;
 mod emit;
 mod given;
+mod holding;
 mod pair;
 mod reading;
 mod segment;
@@ -13,6 +14,8 @@ mod writing;
 
 pub use checking::Checked;
 pub use checking::check;
+pub use holding::Reader;
+pub use holding::read_from;
 pub use reading::Got;
 pub use reading::letters;
 pub use reading::read;
