@@ -15,7 +15,9 @@ pub mod Refusals
 pub mod Skips
 pub mod Places
 pub mod Readings
+pub mod Calls
 pub mod Readers
+pub mod Passing
 pub mod ReadingOn
 pub mod Totals
 pub mod Cuts
