@@ -9,6 +9,7 @@ use mathlib.Core.List.{List, [], _∷_, _++_}
 use borrow.Author.Tests.{le-leb, lt-leb}
 use lib.ListN.{length, take, set, length-set}
 use lib.Pow.{pow-lt}
+use mir.Val.{boolByte}
 use lib.Seq.{take-suc-set}
 use Rattle.text.specs.Text.{Segment, Text, weight, total, size}
 use Rattle.text.specs.State.{next, ends, run, fresh, marksFrom, marks}
@@ -25,6 +26,11 @@ use Rattle.stretch.specs.Answers.{leftBy}
 use Rattle.search.specs.Step.{segmentPass}
 use Rattle.search.specs.Answers.{Sums, sumsOf, Marks, stretchInto, searching}
 use Rattle.search.proofs.Passes.{Stepped, segment-met, segment-not}
+
+-- a mark as the code writes it
+pub byte-mark : (b : Bool) → boolByte b ≡ cond b 1 0
+byte-mark true = refl
+byte-mark false = refl
 
 -- k segments have been searched
 pub record Searching (P s buffer : List ℕ) (k at size ends st : ℕ) : Type 0 where

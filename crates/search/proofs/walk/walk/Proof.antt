@@ -3,20 +3,13 @@
 use Prim.Native.Nat.{_-_, _≤_}
 use borrow.Author.Needs.{needs}
 use native.Mathlib.Omega.{arith}
-use mir.Val.{boolByte}
-use mathlib.Core.Path.{_≡_, refl, sym, ap, _∙_}
-use mathlib.Core.Bool.{Bool, true, false, cond}
+use mathlib.Core.Path.{sym, ap, _∙_}
 use Rattle.stretch.proofs.Stretches.{stretch-long, stretch-cut, stretch-refused, stretch-left, stretch-many, stretch-sound, stretch-count}
 use Rattle.search.specs.Step.{toldPassed}
 use Rattle.search.proofs.Searches.{Searching, searching-none, searching-small, searching-room, searching-more, searching-refused}
-use Rattle.search.proofs.Searches.{told-not, marks-not, told-marked, marks-all}
+use Rattle.search.proofs.Searches.{byte-mark, told-not, marks-not, told-marked, marks-all}
 use Rattle.search.proofs.walk.walk.Statement.{statement}
 use Rattle.search.proofs.walk.walk.Tie as tie
-
--- a mark as the code writes it
-byte-mark : (b : Bool) → boolByte b ≡ cond b 1 0
-byte-mark true = refl
-byte-mark false = refl
 
 abbrev Inv-loop : tie.InvT-loop
 Inv-loop method pattern table classes stretch marks₀ end segments at₀ size₀ ends₀ bits₀ k₀ marks at size ends bits k =

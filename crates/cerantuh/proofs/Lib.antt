@@ -1,0 +1,6 @@
+-- Laws of the definitions in specs/.
+pub mod Blocks
+pub mod Codes
+pub mod Rooms
+pub mod SearchForms
+pub mod FeedForms

@@ -1,0 +1,60 @@
+-- `cerantuh::cerantuh_feed` meets its contract: what the feed refuses, then the block's room, then the two numbers.
+use Rattle.cerantuh.proofs.FeedForms.{fed-fits, form-not, form-short, form-room}
+use borrow.Author.Needs.{needs}
+use Rattle.cerantuh.proofs.feeding.cerantuh_feed.Statement.{statement}
+use Rattle.cerantuh.proofs.feeding.cerantuh_feed.Tie as tie
+
+feed-requires : tie.Need-feed-requires
+feed-requires c κs = search needs
+
+enum-known-wrong : tie.Need-enum-known-wrong
+enum-known-wrong c = search needs
+
+code-requires : tie.Need-code-requires
+code-requires c κs = fed-fits _ _ _ (c .before .before .before .before .before .before .before .args .block .now) _ (c .before .before .before .feed .ensures) _ (c .before .wrong .given .1)
+
+enum-known-after : tie.Need-enum-known-after
+enum-known-after c = search needs
+
+returns : tie.Need-returns
+returns c = form-short _ _ _ _ _ (c .before .before .before .before .feed .ensures) _ _ (c .before .before .after .given .1) (c .if1 .taken)
+
+put-requires : tie.Need-put-requires
+put-requires c κs = search needs
+
+cast-put : tie.Need-cast-put
+cast-put c = search needs
+
+put-requires-2 : tie.Need-put-requires-2
+put-requires-2 c κs = search needs
+
+returns-2 : tie.Need-returns-2
+returns-2 c = form-not _ _ _ _ _ (c .before .before .before .before .feed .ensures) _ (c .before .before .wrong .given .1) _ (c .code .ensures)
+
+same-length : tie.Need-same-length
+same-length c = search needs
+
+returns-3 : tie.Need-returns-3
+returns-3 c =
+    let second = c .before .before in
+    let first = second .before .before .before .before in
+    let room = first .before .before in
+    let fed = room .before .before .before .before in
+    form-room _ _ _ (fed .before .before .before .before .args .block .now) _ (fed .feed .ensures) _ _ (room .before .before .after .given .1) _ _
+    (room .if1 .left) (first .put .ensures) (second .put2 .ensures)
+
+pub cerantuh-feed-spec : {M : Type 1} → statement M
+cerantuh-feed-spec =
+    tie.close
+    (tie.spec
+    feed-requires
+    enum-known-wrong
+    code-requires
+    enum-known-after
+    returns
+    put-requires
+    cast-put
+    put-requires-2
+    returns-2
+    same-length
+    returns-3)

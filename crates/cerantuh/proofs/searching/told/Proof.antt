@@ -1,0 +1,53 @@
+-- `cerantuh::searching::told` meets its contract: a refusal's code, or the three numbers put one behind the other.
+use Rattle.cerantuh.proofs.SearchForms.{told-not, told-fits, told-put}
+use borrow.Author.Needs.{needs}
+use Rattle.cerantuh.proofs.searching.told.Statement.{statement}
+use Rattle.cerantuh.proofs.searching.told.Tie as tie
+
+enum-known-searched : tie.Need-enum-known-searched
+enum-known-searched c = search needs
+
+code-requires : tie.Need-code-requires
+code-requires c κs = told-fits _ (c .before .before .before .before .args .block .now) _ (c .before .searched .given .1) (c .before .before .before .before .pre .1)
+
+enum-known-searched-2 : tie.Need-enum-known-searched-2
+enum-known-searched-2 c = search needs
+
+put-requires : tie.Need-put-requires
+put-requires c κs = search needs
+
+put-requires-2 : tie.Need-put-requires-2
+put-requires-2 c κs = search needs
+
+put-requires-3 : tie.Need-put-requires-3
+put-requires-3 c κs = search needs
+
+returns : tie.Need-returns
+returns c = told-not _ _ _ _ (c .before .before .searched .given .1) (c .code .ensures)
+
+same-length : tie.Need-same-length
+same-length c = search needs
+
+returns-2 : tie.Need-returns-2
+returns-2 c =
+    let third = c .before .before in
+    let second = third .before .before .before .before in
+    let first = second .before .before .before .before in
+    let marked = first .before .before .before in
+    let start = marked .before .before .before in
+    told-put _ (start .args .block .now) _ _ _ _ _ _ (marked .searched2 .given .1) (start .pre .0) (first .put .ensures) (second .put2 .ensures)
+    (third .put3 .ensures)
+
+pub told-spec : {M : Type 1} → statement M
+told-spec =
+    tie.close
+    (tie.spec
+    enum-known-searched
+    code-requires
+    enum-known-searched-2
+    put-requires
+    put-requires-2
+    put-requires-3
+    returns
+    same-length
+    returns-2)

@@ -1,0 +1,31 @@
+// The feed for C.
+use crate::block::code;
+use crate::block::put;
+use search::Fed;
+use search::State;
+use text::refusal;
+ghost use mathlib.Core.Path.{_≡_};
+ghost use Rattle.cerantuh.specs.Forms.{feedAnswer, feedBlock};
+
+// The bytes of a feed's results.
+const FEED_BLOCK: usize = 16;
+
+// The state after a lone segment, and 1 where an occurrence ends in it. The block's room is asked last.
+#[no_mangle]
+pub extern "C" fn cerantuh_feed(pattern: &[u8], state: u64, segment: &[u8], block: &mut [u8]) -> u64
+    ensures { λ r. ⌜ r ≡ feedAnswer (now (pattern .entry)) state (now (segment .entry)) (now (block .entry)) ⌝ }
+    ensures { λ r. ⌜ now (block .exit) ≡ feedBlock (now (pattern .entry)) state (now (segment .entry)) (now (block .entry)) ⌝ }
+{
+    let before = State { bits: state };
+    match before.feed(pattern, segment) {
+        Fed::Refused(wrong) => code(wrong),
+        Fed::Next { state: after, ends } => {
+            if block.len() < FEED_BLOCK {
+                return refusal::BUFFER_SHORT;
+            }
+            put(after.bits, &mut *block, 0);
+            put(ends as u64, &mut *block, 8);
+            0
+        }
+    }
+}

@@ -1,0 +1,8 @@
+// The C forms of the searches and the feed, for the release tool. include/cerantuh.h is their C side.
+mod block;
+mod feeding;
+mod searching;
+
+pub use feeding::cerantuh_feed;
+pub use searching::cerantuh_search_bits;
+pub use searching::cerantuh_search_borders;

@@ -1,0 +1,91 @@
+// The searches for C. The block's room is asked before the search, since a search that is accepted has written its marks.
+use crate::block::code;
+use crate::block::put;
+use search::Searched;
+use search::by_bits;
+use search::by_borders;
+use stretch::Checked;
+use text::pattern::PatternIs;
+use text::pattern::check;
+use text::refusal;
+ghost use mathlib.Core.Path.{_≡_};
+ghost use Prim.Native.Nat.{_^_, _≤_, _<_};
+ghost use lib.ListN.{length};
+ghost use Rattle.stretch.specs.Answers.{leftBy};
+ghost use Rattle.search.specs.Answers.{toldSearched};
+ghost use Rattle.cerantuh.specs.Forms.{coded, sumsBlock, searchingInto, searchAnswer, searchMarks, searchBlock};
+
+// The bytes of a search's results.
+const SEARCH_BLOCK: usize = 24;
+
+// The answer where there is no room for the results: what the search refuses before 10, else 10. Nothing is written.
+fn roomless(pattern: &[u8], stretch: &[u8]) -> u64
+    ensures { λ r. ⌜ r ≡ coded (searchingInto (now (pattern .entry)) (now (stretch .entry)) 0 0) ⌝ }
+{
+    match check(pattern) {
+        PatternIs::Refused(wrong) => code(wrong),
+        PatternIs::Sound => match stretch::check(stretch) {
+            Checked::Refused(wrong) => code(wrong),
+            Checked::Sound { .. } => refusal::BUFFER_SHORT,
+        },
+    }
+}
+
+// The answer of a search, with its results in a block that has room for them.
+fn told(searched: Searched, block: &mut [u8]) -> u64
+    requires { ⌜ (24 ≤ length (now block)) × (coded (toldSearched searched) < 2 ^ 64) ⌝ }
+    ensures { λ r. ⌜ r ≡ coded (toldSearched searched) ⌝ }
+    ensures { λ r. ⌜ now (block .exit) ≡ leftBy sumsBlock (toldSearched searched) (now (block .entry)) ⌝ }
+{
+    match searched {
+        Searched::Refused(wrong) => code(wrong),
+        Searched::Marked {
+            segments,
+            size,
+            ends,
+        } => {
+            put(segments as u64, &mut *block, 0);
+            put(size as u64, &mut *block, 8);
+            put(ends as u64, &mut *block, 16);
+            0
+        }
+    }
+}
+
+// The search by bit-vectors.
+#[no_mangle]
+pub extern "C" fn cerantuh_search_bits(
+    pattern: &[u8],
+    stretch: &[u8],
+    marks: &mut [u8],
+    block: &mut [u8],
+) -> u64
+    ensures { λ r. ⌜ r ≡ searchAnswer (now (pattern .entry)) (now (stretch .entry)) (now (marks .entry)) (now (block .entry)) ⌝ }
+    ensures { λ r. ⌜ now (marks .exit) ≡ searchMarks (now (pattern .entry)) (now (stretch .entry)) (now (marks .entry)) (now (block .entry)) ⌝ }
+    ensures { λ r. ⌜ now (block .exit) ≡ searchBlock (now (pattern .entry)) (now (stretch .entry)) (now (marks .entry)) (now (block .entry)) ⌝ }
+{
+    if block.len() < SEARCH_BLOCK {
+        return roomless(pattern, stretch);
+    }
+    let searched = by_bits(pattern, stretch, &mut *marks);
+    told(searched, &mut *block)
+}
+
+// The search by border tables: the same promise.
+#[no_mangle]
+pub extern "C" fn cerantuh_search_borders(
+    pattern: &[u8],
+    stretch: &[u8],
+    marks: &mut [u8],
+    block: &mut [u8],
+) -> u64
+    ensures { λ r. ⌜ r ≡ searchAnswer (now (pattern .entry)) (now (stretch .entry)) (now (marks .entry)) (now (block .entry)) ⌝ }
+    ensures { λ r. ⌜ now (marks .exit) ≡ searchMarks (now (pattern .entry)) (now (stretch .entry)) (now (marks .entry)) (now (block .entry)) ⌝ }
+    ensures { λ r. ⌜ now (block .exit) ≡ searchBlock (now (pattern .entry)) (now (stretch .entry)) (now (marks .entry)) (now (block .entry)) ⌝ }
+{
+    if block.len() < SEARCH_BLOCK {
+        return roomless(pattern, stretch);
+    }
+    let searched = by_borders(pattern, stretch, &mut *marks);
+    told(searched, &mut *block)
+}
