@@ -1,14 +1,12 @@
 -- Numbers put into a block, 8 bytes each, low byte first.
 use Prim.Native.Nat.{ℕ, zero, suc, _+_, _-_, _/_, _%_, _≤_, _<_}
 use native.Mathlib.Omega.{arith}
-use mathlib.Core.Path.{_≡_, refl, sym, ap, _∙_}
-use mathlib.Core.Bool.{cond}
+use mathlib.Core.Path.{_≡_, refl, ap, _∙_}
 use mathlib.Core.List.{List, [], _∷_, _++_}
 use lib.ListN.{length, set, length-append}
-use Rattle.search.specs.Answers.{Sums, Next}
 use Rattle.stretch.specs.Bytes.{over}
 use Rattle.stretch.proofs.Overs.{over-set, over-over, Emitted, emitted-none, emitted-more, emitted-room, emitted-length, emitted-end}
-use Rattle.cerantuh.specs.Forms.{lowFirst, sumsBlock, nextBlock}
+use Rattle.cerantuh.specs.Forms.{lowFirst}
 
 pub length-low : (k n : ℕ) → length (lowFirst k n) ≡ k
 unfolding lowFirst

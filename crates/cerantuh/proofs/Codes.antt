@@ -1,15 +1,14 @@
 -- The refusals of the calls have numbers up to 17 and places up to 32,768. So one number holds both, and C takes it apart.
 use Prim.Native.Nat.{ℕ, _+_, _*_, _/_, _%_, _^_, _≤_, _<_}
 use native.Mathlib.Omega.{arith}
-use mathlib.Core.Path.{_≡_, refl, sym, subst}
+use mathlib.Core.Path.{_≡_, refl, subst}
 use mathlib.Core.Bool.{Bool, true, false}
 use mathlib.Core.List.{List}
 use borrow.Author.Tests.{leb-true}
 use lib.Dec.{leb, ltb}
 use lib.ListN.{length}
-use Rattle.text.specs.Text.{Segment, Text}
 use Rattle.text.specs.Letter.{base, every, firstNot}
-use Rattle.text.specs.State.{isState, next, ends}
+use Rattle.text.specs.State.{isState}
 use Rattle.text.specs.Refusal.{Outcome, ok, refused, demand, after, pattern, greatestPattern}
 use Rattle.text.proofs.Letters.{first-le}
 use Rattle.text.proofs.Outcomes.{told-refused}

@@ -1,7 +1,6 @@
 -- `cerantuh::block::put` meets its contract. The loop's invariant, `Putting`: the first i bytes stand in the block. The measure is
 -- the number of bytes left.
 use Prim.Native.Nat.{_-_}
-use native.Mathlib.Omega.{arith}
 use borrow.Author.Needs.{needs}
 use Rattle.cerantuh.proofs.Blocks.{Putting, putting-none, putting-room, putting-length, putting-more, putting-end}
 use Rattle.cerantuh.proofs.block.put.Statement.{statement}
