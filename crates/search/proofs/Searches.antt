@@ -7,7 +7,7 @@ use mathlib.Core.Path.{_≡_, refl, sym, ap, ap₂, subst, _∙_}
 use mathlib.Core.Bool.{Bool, true, false, cond}
 use mathlib.Core.List.{List, [], _∷_, _++_}
 use borrow.Author.Tests.{le-leb, lt-leb}
-use lib.ListN.{length, take, set, length-set}
+use lib.ListN.{length, take, set, length-take}
 use lib.Pow.{pow-lt}
 use mir.Val.{boolByte}
 use lib.Seq.{take-suc-set}
@@ -17,14 +17,15 @@ use Rattle.text.specs.Refusal.{Outcome, ok, refused, after, pattern}
 use Rattle.text.proofs.Sizes.{total-snoc}
 use Rattle.text.proofs.Outcomes.{ok-inj, refused-ok, told-met, told-refused}
 use Rattle.text.proofs.Patterns.{pattern-refused, pattern-sound, sound-pattern}
+use Rattle.text.proofs.Marks.{marks-length}
 use Rattle.text.proofs.Runs.{run-lt}
 use Rattle.text.proofs.Folds.{run-snoc, marks-snoc}
 use Rattle.stretch.specs.Bytes.{greatestStretch, over}
-use Rattle.stretch.specs.Reading.{segmentAt, many, stretchOf, mostInStretch}
-use Rattle.stretch.proofs.Stretches.{InStretch, through-none, through-more, through-refused, segment-bytes, stretch-most}
+use Rattle.stretch.specs.Reading.{segmentAt, many, stretchOf}
+use Rattle.stretch.proofs.Stretches.{InStretch, through-none, through-more, through-refused, segment-bytes}
 use Rattle.stretch.specs.Answers.{leftBy}
 use Rattle.search.specs.Step.{segmentPass}
-use Rattle.search.specs.Answers.{Sums, sumsOf, Marks, stretchInto, searching}
+use Rattle.search.specs.Answers.{Sums, sumsOf, Marks, Roomy, stretchInto, searching}
 use Rattle.search.proofs.Passes.{Stepped, segment-met, segment-not}
 
 -- a mark as the code writes it
@@ -41,11 +42,10 @@ pub record Searching (P s buffer : List ℕ) (k at size ends st : ℕ) : Type 0 
   pub marked : take k buffer ≡ marks P seen
   pub ones : ends ≡ total (λ x. x) (marks P seen)
   pub few : ends ≤ k
-  pub full : length buffer ≡ mostInStretch
 
-pub searching-none : (P s buffer : List ℕ) → 2 ≤ length s → length buffer ≡ mostInStretch → Searching P s buffer 0 2 0 0 1
+pub searching-none : (P s buffer : List ℕ) → 2 ≤ length s → Searching P s buffer 0 2 0 0 1
 unfolding run marks marksFrom total
-searching-none P s buffer l full =
+searching-none P s buffer l =
     record {
       seen = [];
       sum = through-none s l;
@@ -54,7 +54,6 @@ searching-none P s buffer l full =
       marked = refl;
       ones = refl;
       few = omega arith;
-      full = full;
     }
 
 module _ (P s buffer : List ℕ) (k at size ones st : ℕ) (q : Searching P s buffer k at size ones st) where
@@ -79,8 +78,8 @@ module _ (P s buffer : List ℕ) (k at size ones st : ℕ) (q : Searching P s bu
     three = segment-bytes s at (record { value = g; next = behind }) (met .read)
 
     -- there is room for its mark
-    pub searching-room : k < mostInStretch
-    searching-room = omega (arith, three, q .far, further .inside)
+    pub searching-room : Roomy s buffer → k < length buffer
+    searching-room roomy = omega (arith, three, q .far, further .inside)
 
     marks-more : marks P (q .seen ++ (g ∷ [])) ≡ marks P (q .seen) ++ (cond hit 1 0 ∷ [])
     unfolding marks g
@@ -97,21 +96,19 @@ module _ (P s buffer : List ℕ) (k at size ones st : ℕ) (q : Searching P s bu
           one-more true = omega (arith, q .few)
           one-more false = omega (arith, q .few)
 
-      pub searching-more : Searching P s (set buffer k mark) (k + 1) behind (size + more) (ones + mark) bits
+      pub searching-more : Roomy s buffer → Searching P s (set buffer k mark) (k + 1) behind (size + more) (ones + mark) bits
       unfolding g
-      searching-more =
+      searching-more roomy =
           record {
             seen = q .seen ++ (g ∷ []);
             sum = further;
             far = omega (arith, three, q .far);
             state = sym (met .state) ∙ ap (λ (n : ℕ). next P n g) (q .state) ∙ sym (run-snoc P fresh (q .seen) g);
             marked =
-                let inside : k < length buffer = omega (arith, searching-room, q .full) in
-                rw add-one (take-suc-set buffer k mark inside) ∙ ap₂ (λ (l : List ℕ) (x : ℕ). l ++ (x ∷ [])) (q .marked) is ∙ sym marks-more;
+                rw add-one (take-suc-set buffer k mark (searching-room roomy)) ∙ ap₂ (λ (l : List ℕ) (x : ℕ). l ++ (x ∷ [])) (q .marked) is ∙ sym marks-more;
             ones =
                 ap₂ _+_ (q .ones) is ∙ sym (ap (total (λ x. x)) marks-more ∙ total-snoc (λ x. x) (marks P (q .seen)) (cond hit 1 0));
             few = searching-ones;
-            full = length-set buffer k mark ∙ q .full;
           }
 
   pub searching-refused : (n : ℕ) → k < n → (j p : ℕ) → segmentPass P st s at ≡ refused j p → many (λ _. segmentAt s) n [] 2 ≡ refused j p
@@ -137,12 +134,15 @@ module _ (P s : List ℕ) where
         subst (λ (u : Text). take (length u) buffer ≡ marks P u) same
         (ap (λ (m : ℕ). take m buffer) (count ∙ sym done) ∙ q .marked)
 
--- the marks of an accepted stretch fit the walk's buffer
-pub few-found : (P s : List ℕ) (n z m : ℕ) → after (stretchOf s) (λ t. ok (sumsOf P t)) ≡ ok (record { segments = n; size = z; ends = m }) → n ≤ mostInStretch
-unfolding sumsOf
-few-found P s n z m e =
-    let t = told-met (stretchOf s) (sumsOf P) (record { segments = n; size = z; ends = m }) e in
-    omega (arith, ap (λ (x : Sums). x .segments) (t .2), stretch-most s (t .0) (t .1))
+-- the marks of an accepted stretch are in the walk's buffer
+pub few-found : (P s buffer : List ℕ) (n z m : ℕ) → after (stretchOf s) (λ t. ok (sumsOf P t)) ≡ ok (record { segments = n; size = z; ends = m })
+    → Marks P (stretchOf s) buffer → n ≤ length buffer
+unfolding sumsOf marks
+few-found P s buffer n z m e found =
+    let (t, sound, sums) = told-met (stretchOf s) (sumsOf P) (record { segments = n; size = z; ends = m }) e in
+    let count : length t ≡ n = ap (λ (x : Sums). x .segments) sums in
+    let all : length (take (length t) buffer) ≡ length t = ap length (found t sound) ∙ marks-length P fresh t in
+    omega (arith, length-take (length t) buffer)
 
 -- what a search answers, and what it leaves in the caller's buffer
 module _ (P s out : List ℕ) where

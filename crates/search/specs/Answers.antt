@@ -1,5 +1,5 @@
 -- What a search and a feed answer, in document 01's numbers and values.
-use Prim.Native.Nat.{ℕ}
+use Prim.Native.Nat.{ℕ, _+_, _*_, _≤_, min}
 use mathlib.Core.Path.{_≡_}
 use mathlib.Core.Bool.{Bool}
 use mathlib.Core.List.{List, [], _∷_}
@@ -8,6 +8,7 @@ use lib.ListN.{length, take}
 use Rattle.text.specs.Text.{Text, total, size}
 use Rattle.text.specs.State.{isState, next, ends, marks}
 use Rattle.text.specs.Refusal.{Outcome, ok, refused, demand, after, pattern}
+use Rattle.stretch.specs.Bytes.{greatestStretch}
 use Rattle.stretch.specs.Encoding.{encodeSegment}
 use Rattle.stretch.specs.Reading.{fits, loneSegment, stretchOf}
 use Rattle.search.specs.declared.state.Fed.{Fed}
@@ -38,6 +39,10 @@ toldSearched (Searched.Refused r) = refused (r .number) (r .place)
 -- a buffer that holds the marks of an accepted text in front; after a refusal it may hold anything
 abbrev pub Marks : List ℕ → Outcome Text → List ℕ → Type 0
 Marks P o buffer = (t : Text) → o ≡ ok t → take (length t) buffer ≡ marks P t
+
+-- a buffer with a byte for each segment that a stretch can have: a segment has at least 3 bytes
+abbrev pub Roomy : List ℕ → List ℕ → Type 0
+Roomy s buffer = min (length s) greatestStretch ≤ 4 + 3 * length buffer
 
 -- what a search writes of a text
 abbrev pub marked : List ℕ → Text → List ℕ

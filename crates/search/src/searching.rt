@@ -15,7 +15,7 @@ ghost use lib.ListN.{length};
 ghost use Rattle.text.specs.Refusal.{ok, after};
 ghost use Rattle.stretch.specs.Bytes.{over};
 ghost use Rattle.stretch.specs.Answers.{leftBy};
-ghost use Rattle.search.specs.Answers.{stretchInto, searching, sumsOf, toldSearched, marked};
+ghost use Rattle.search.specs.Answers.{stretchInto, searching, sumsOf, toldSearched, marked, Roomy};
 ghost use Rattle.search.specs.Method.{Founded};
 
 // Copies `from` over the front of `to`.
@@ -30,21 +30,23 @@ fn copy(from: &[u8], to: &mut [u8])
     }
 }
 
-// A search of a sound pattern by a method and its table: the refusals of the stretch, then 10.
-fn search(
+// Walks over the stretch into `found`, and copies what it found to the caller's marks once all is accepted.
+fn through(
     method: Method,
     pattern: &[u8],
     table: &[u64; 256],
     stretch: &[u8],
+    found: &mut [u8],
     marks: &mut [u8],
 ) -> Searched
-    requires { ⌜ Founded method (now pattern) (now table) ⌝ }
-    ensures { λ r. ⌜ toldSearched r ≡ after (stretchInto (now (stretch .entry)) (length (now (marks .entry)))) (λ t. ok (sumsOf (now (pattern .entry)) t)) ⌝ }
-    ensures { λ r. ⌜ now (marks .exit) ≡ leftBy (marked (now (pattern .entry))) (stretchInto (now (stretch .entry)) (length (now (marks .entry)))) (now (marks .entry)) ⌝ }
+    requires { ⌜ Founded method (now pattern) (now table) × Roomy (now stretch) (now found) ⌝ }
+    ensures { λ r. ⌜ toldSearched r
+        ≡ after (stretchInto (now (stretch .entry)) (length (now (marks .entry)))) (λ t. ok (sumsOf (now (pattern .entry)) t)) ⌝ }
+    ensures { λ r. ⌜ now (marks .exit)
+        ≡ leftBy (marked (now (pattern .entry))) (stretchInto (now (stretch .entry)) (length (now (marks .entry)))) (now (marks .entry)) ⌝ }
 {
     let letters = classes();
-    let mut found = [0u8; 10922];
-    match walk(method, pattern, table, &letters, stretch, &mut found) {
+    match walk(method, pattern, table, &letters, stretch, &mut *found) {
         Searched::Refused(refused) => Searched::Refused(refused),
         Searched::Marked {
             segments,
@@ -67,11 +69,36 @@ fn search(
     }
 }
 
+// A search of a sound pattern by a method and its table: the refusals of the stretch, then 10. A small stretch takes a small buffer,
+// since clearing one for the most segments costs more than the search of some hundred bytes.
+fn search(
+    method: Method,
+    pattern: &[u8],
+    table: &[u64; 256],
+    stretch: &[u8],
+    marks: &mut [u8],
+) -> Searched
+    requires { ⌜ Founded method (now pattern) (now table) ⌝ }
+    ensures { λ r. ⌜ toldSearched r
+        ≡ after (stretchInto (now (stretch .entry)) (length (now (marks .entry)))) (λ t. ok (sumsOf (now (pattern .entry)) t)) ⌝ }
+    ensures { λ r. ⌜ now (marks .exit)
+        ≡ leftBy (marked (now (pattern .entry))) (stretchInto (now (stretch .entry)) (length (now (marks .entry)))) (now (marks .entry)) ⌝ }
+{
+    if stretch.len() <= 1024 {
+        let mut found = [0u8; 340];
+        return through(method, pattern, table, stretch, &mut found, &mut *marks);
+    }
+    let mut found = [0u8; 10922];
+    through(method, pattern, table, stretch, &mut found, &mut *marks)
+}
+
 // The search by bit-vectors: refusals 1, 2, 3, those of the stretch, then 10. It writes 1 or 0 for each segment; further bytes
 // stay, and a refusal changes nothing.
 pub fn by_bits(pattern: &[u8], stretch: &[u8], marks: &mut [u8]) -> Searched
-    ensures { λ r. ⌜ toldSearched r ≡ after (searching (now (pattern .entry)) (now (stretch .entry)) (length (now (marks .entry)))) (λ t. ok (sumsOf (now (pattern .entry)) t)) ⌝ }
-    ensures { λ r. ⌜ now (marks .exit) ≡ leftBy (marked (now (pattern .entry))) (searching (now (pattern .entry)) (now (stretch .entry)) (length (now (marks .entry)))) (now (marks .entry)) ⌝ }
+    ensures { λ r. ⌜ toldSearched r
+        ≡ after (searching (now (pattern .entry)) (now (stretch .entry)) (length (now (marks .entry)))) (λ t. ok (sumsOf (now (pattern .entry)) t)) ⌝ }
+    ensures { λ r. ⌜ now (marks .exit)
+        ≡ leftBy (marked (now (pattern .entry))) (searching (now (pattern .entry)) (now (stretch .entry)) (length (now (marks .entry)))) (now (marks .entry)) ⌝ }
 {
     match check(pattern) {
         PatternIs::Refused(refused) => Searched::Refused(refused),
@@ -84,8 +111,10 @@ pub fn by_bits(pattern: &[u8], stretch: &[u8], marks: &mut [u8]) -> Searched
 
 // The search by border tables: the same promise.
 pub fn by_borders(pattern: &[u8], stretch: &[u8], marks: &mut [u8]) -> Searched
-    ensures { λ r. ⌜ toldSearched r ≡ after (searching (now (pattern .entry)) (now (stretch .entry)) (length (now (marks .entry)))) (λ t. ok (sumsOf (now (pattern .entry)) t)) ⌝ }
-    ensures { λ r. ⌜ now (marks .exit) ≡ leftBy (marked (now (pattern .entry))) (searching (now (pattern .entry)) (now (stretch .entry)) (length (now (marks .entry)))) (now (marks .entry)) ⌝ }
+    ensures { λ r. ⌜ toldSearched r
+        ≡ after (searching (now (pattern .entry)) (now (stretch .entry)) (length (now (marks .entry)))) (λ t. ok (sumsOf (now (pattern .entry)) t)) ⌝ }
+    ensures { λ r. ⌜ now (marks .exit)
+        ≡ leftBy (marked (now (pattern .entry))) (searching (now (pattern .entry)) (now (stretch .entry)) (length (now (marks .entry)))) (now (marks .entry)) ⌝ }
 {
     match check(pattern) {
         PatternIs::Refused(refused) => Searched::Refused(refused),

@@ -6,10 +6,9 @@ use stretch::bytes::word;
 use text::Refusal;
 use text::refusal;
 ghost use mathlib.Core.Path.{_≡_};
-ghost use lib.ListN.{length};
 ghost use Rattle.text.specs.Refusal.{Outcome, ok, after};
-ghost use Rattle.stretch.specs.Reading.{stretchOf, mostInStretch};
-ghost use Rattle.search.specs.Answers.{sumsOf, toldSearched, Marks};
+ghost use Rattle.stretch.specs.Reading.{stretchOf};
+ghost use Rattle.search.specs.Answers.{sumsOf, toldSearched, Marks, Roomy};
 ghost use Rattle.search.specs.Method.{Tools};
 
 // The segment count, the size and the number of ones among the marks.
@@ -32,7 +31,7 @@ pub fn walk(
     stretch: &[u8],
     marks: &mut [u8],
 ) -> Searched
-    requires { ⌜ Tools method (now pattern) (now table) (now classes) × (length (now marks) ≡ mostInStretch) ⌝ }
+    requires { ⌜ Tools method (now pattern) (now table) (now classes) × Roomy (now stretch) (now marks) ⌝ }
     ensures { λ r. ⌜ toldSearched r ≡ after (stretchOf (now (stretch .entry))) (λ t. ok (sumsOf (now (pattern .entry)) t)) ⌝ }
     ensures { λ r. ⌜ Marks (now (pattern .entry)) (stretchOf (now (stretch .entry))) (now (marks .exit)) ⌝ }
 {

@@ -3,7 +3,9 @@
 use Prim.Native.Nat.{_-_, _≤_}
 use borrow.Author.Needs.{needs}
 use native.Mathlib.Omega.{arith}
-use mathlib.Core.Path.{sym, ap, _∙_}
+use mathlib.Core.Path.{_≡_, refl, sym, ap, _∙_}
+use lib.ListN.{length, length-set}
+use Rattle.search.specs.Answers.{Roomy}
 use Rattle.stretch.proofs.Stretches.{stretch-long, stretch-cut, stretch-refused, stretch-left, stretch-many, stretch-sound, stretch-count}
 use Rattle.search.specs.Step.{toldPassed}
 use Rattle.search.proofs.Searches.{Searching, searching-none, searching-small, searching-room, searching-more, searching-refused}
@@ -13,7 +15,7 @@ use Rattle.search.proofs.walk.walk.Tie as tie
 
 abbrev Inv-loop : tie.InvT-loop
 Inv-loop method pattern table classes stretch marks₀ end segments at₀ size₀ ends₀ bits₀ k₀ marks at size ends bits k =
-    Searching pattern stretch marks k at size ends bits × (k ≤ segments)
+    Searching pattern stretch marks k at size ends bits × (k ≤ segments) × (length marks ≡ length marks₀)
 
 abbrev μ-loop : tie.MeasureT-loop
 μ-loop method pattern table classes stretch marks₀ end segments at₀ size₀ ends₀ bits₀ k₀ marks at size ends bits k = segments - k
@@ -38,7 +40,7 @@ word-requires : tie.Need-word-requires Inv-loop μ-loop
 word-requires c κs = search needs
 
 loop-holds : tie.Need-loop-holds Inv-loop μ-loop
-loop-holds c = (searching-none _ _ _ (c .before .if2 .left) (c .before .before .before .before .before .before .pre .1), omega arith)
+loop-holds c = (searching-none _ _ _ (c .before .if2 .left), omega arith, refl)
 
 segment-by-requires : tie.Need-segment-by-requires Inv-loop μ-loop
 segment-by-requires c κs =
@@ -49,7 +51,7 @@ enum-known-refused : tie.Need-enum-known-refused Inv-loop μ-loop
 enum-known-refused c = search needs
 
 same-length : tie.Need-same-length Inv-loop μ-loop
-same-length c = c .before .before .before .before .before .loop .inv .0 .full ∙ sym (c .before .before .before .before .before .before .before .before .before .before .before .before .pre .1)
+same-length c = c .before .before .before .before .before .loop .inv .2
 
 returns-3 : tie.Need-returns-3 Inv-loop μ-loop
 returns-3 c =
@@ -67,20 +69,27 @@ enum-known-next c = search needs
 cast-mark : tie.Need-cast-mark Inv-loop μ-loop
 cast-mark c = search needs
 
+-- the buffer has a byte for each segment
+roomy : (c : tie.At-loop Inv-loop μ-loop) → Roomy (c .before .before .before .before .before .before .before .args .stretch .now) (c .loop .marks)
+roomy c = let room = c .before .before .before .before .before .before .before .pre .1 in omega (arith, c .loop .inv .2)
+
 slice-write-marks : tie.Need-slice-write-marks Inv-loop μ-loop
 slice-write-marks c =
     let d = c .before .before .before in
     let a = d .before .before in
     let on = sym (d .segment-by .ensures) ∙ ap toldPassed (c .before .next .given .1) in
-    let room = searching-room _ _ _ _ _ _ _ _ (a .loop .inv .0) _ _ _ _ on (a .before .before .before .if1 .left) in
-    omega (arith, a .loop .inv .0 .full)
+    searching-room _ _ _ _ _ _ _ _ (a .loop .inv .0) _ _ _ _ on (a .before .before .before .if1 .left) (roomy a)
 
 loop-again : tie.Need-loop-again Inv-loop μ-loop
 loop-again c =
     let d = c .before .before .before in
     let a = d .before .before in
     let on = sym (d .segment-by .ensures) ∙ ap toldPassed (c .before .next .given .1) in
-    (searching-more _ _ _ _ _ _ _ _ (a .loop .inv .0) _ _ _ _ on (a .before .before .before .if1 .left) _ (byte-mark (c .before .next .given .0 .1 .1 .1 .0)), omega arith)
+    let mark = byte-mark (c .before .next .given .0 .1 .1 .1 .0) in (
+      searching-more _ _ _ _ _ _ _ _ (a .loop .inv .0) _ _ _ _ on (a .before .before .before .if1 .left) _ mark (roomy a),
+      omega arith,
+      length-set (a .loop .marks) (a .loop .k) _ ∙ a .loop .inv .2,
+    )
 
 add-size : tie.Need-add-size Inv-loop μ-loop
 add-size c = let m = loop-again c .0 .sum in omega (arith, m .small, m .inside)
@@ -101,7 +110,7 @@ refused-requires-3 : tie.Need-refused-requires-3 Inv-loop μ-loop
 refused-requires-3 c κs = search needs
 
 same-length-2 : tie.Need-same-length-2 Inv-loop μ-loop
-same-length-2 c = c .before .before .before .loop .inv .0 .full ∙ sym (c .before .before .before .before .before .before .before .before .before .before .pre .1)
+same-length-2 c = c .before .before .before .loop .inv .2
 
 returns-4 : tie.Need-returns-4 Inv-loop μ-loop
 returns-4 c =
@@ -114,7 +123,7 @@ refused-requires-4 : tie.Need-refused-requires-4 Inv-loop μ-loop
 refused-requires-4 c κs = search needs
 
 same-length-3 : tie.Need-same-length-3 Inv-loop μ-loop
-same-length-3 c = c .before .before .before .before .loop .inv .0 .full ∙ sym (c .before .before .before .before .before .before .before .before .before .before .before .pre .1)
+same-length-3 c = c .before .before .before .before .loop .inv .2
 
 returns-5 : tie.Need-returns-5 Inv-loop μ-loop
 returns-5 c =
@@ -126,7 +135,7 @@ returns-5 c =
     (c .refused5 .ensures ∙ sym (told-not _ _ _ _ none), marks-not _ _ _ _ _ none)
 
 same-length-4 : tie.Need-same-length-4 Inv-loop μ-loop
-same-length-4 c = c .before .before .before .loop .inv .0 .full ∙ sym (c .before .before .before .before .before .before .before .before .before .before .pre .1)
+same-length-4 c = c .before .before .before .loop .inv .2
 
 returns-6 : tie.Need-returns-6 Inv-loop μ-loop
 returns-6 c =
