@@ -12,7 +12,7 @@ use Rattle.stretch.specs.Bytes.{greatestStretch}
 use Rattle.stretch.proofs.Stands.{Bytes}
 use Rattle.stretch.proofs.Stretches.{stretch-long}
 use Rattle.search.specs.Answers.{stretchInto, searching}
-use Rattle.screen.specs.Input.{announced, patternIn, stretchIn}
+use Rattle.input.specs.Input.{announced, patternIn, stretchIn}
 
 -- how a stretch is searched, if it is too long
 long : (P s : List ℕ) (room : ℕ) → greatestStretch < length s → (u : List ℕ) → greatestStretch < length u → searching P s room ≡ searching P u room

@@ -1,4 +1,3 @@
 -- Laws of the definitions in specs/.
-pub mod Inputs
 pub mod Found
 pub mod Cuts

@@ -1,5 +1,4 @@
 // Screens a stretch for a pattern. Standard input is a byte with the pattern's length, the pattern, then the stretch to the end.
-mod input;
 mod lines;
 
 use input::pattern_in;

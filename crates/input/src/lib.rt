@@ -2,7 +2,7 @@
 use stretch::bytes::wide;
 ghost use mathlib.Core.Path.{_≡_};
 ghost use Prim.Native.Nat.{_<_};
-ghost use Rattle.screen.specs.Input.{announced, patternIn, stretchIn};
+ghost use Rattle.input.specs.Input.{announced, patternIn, stretchIn};
 
 // The pattern's length, as its byte says it; 0 where there is no input.
 fn announced(input: &[u8]) -> usize

@@ -1,10 +1,10 @@
--- `screen::input::announced` meets its contract: the first byte, or 0.
+-- `input::announced` meets its contract: the first byte, or 0.
 use native.Mathlib.Omega.{arith}
-use Rattle.screen.specs.Input.{announced}
-use Rattle.screen.proofs.Inputs.{none-announced}
+use Rattle.input.specs.Input.{announced}
+use Rattle.input.proofs.Inputs.{none-announced}
 use borrow.Author.Needs.{needs}
-use Rattle.screen.proofs.input.announced.Statement.{statement}
-use Rattle.screen.proofs.input.announced.Tie as tie
+use Rattle.input.proofs.announced.Statement.{statement}
+use Rattle.input.proofs.announced.Tie as tie
 
 returns : tie.Need-returns
 returns c = (none-announced _ (c .if1 .taken), omega arith)

@@ -5,7 +5,7 @@ use mathlib.Core.Path.{_≡_, refl, sym, ap, _∙_}
 use mathlib.Core.List.{List, [], _∷_}
 use lib.ListN.{length, take, drop, length-drop, drop-of-length-le}
 use lib.Seq.{take-all}
-use Rattle.screen.specs.Input.{announced, patternIn, stretchIn}
+use Rattle.input.specs.Input.{announced, patternIn, stretchIn}
 
 -- no input
 pub none-announced : (i : List ℕ) → length i ≡ 0 → 0 ≡ announced i

@@ -1,8 +1,8 @@
--- `screen::input::stretch_in` meets its contract, whether the input goes on behind the pattern or not.
-use Rattle.screen.proofs.Inputs.{no-stretch, whole-stretch}
+-- `input::stretch_in` meets its contract, whether the input goes on behind the pattern or not.
+use Rattle.input.proofs.Inputs.{no-stretch, whole-stretch}
 use borrow.Author.Needs.{needs}
-use Rattle.screen.proofs.input.stretch_in.Statement.{statement}
-use Rattle.screen.proofs.input.stretch_in.Tie as tie
+use Rattle.input.proofs.stretch_in.Statement.{statement}
+use Rattle.input.proofs.stretch_in.Tie as tie
 
 announced-requires : tie.Need-announced-requires
 announced-requires c κs = search needs

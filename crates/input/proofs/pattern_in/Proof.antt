@@ -1,8 +1,8 @@
--- `screen::input::pattern_in` meets its contract, whether there is no input, a part of the pattern or all of it.
-use Rattle.screen.proofs.Inputs.{none-pattern, cut-pattern, whole-pattern}
+-- `input::pattern_in` meets its contract, whether there is no input, a part of the pattern or all of it.
+use Rattle.input.proofs.Inputs.{none-pattern, cut-pattern, whole-pattern}
 use borrow.Author.Needs.{needs}
-use Rattle.screen.proofs.input.pattern_in.Statement.{statement}
-use Rattle.screen.proofs.input.pattern_in.Tie as tie
+use Rattle.input.proofs.pattern_in.Statement.{statement}
+use Rattle.input.proofs.pattern_in.Tie as tie
 
 announced-requires : tie.Need-announced-requires
 announced-requires c κs = search needs
