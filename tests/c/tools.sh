@@ -1,15 +1,11 @@
 # What compiles C for x86-64 and runs it on this machine, and the archive of the C forms. Sourced from the top folder.
 # After 'find_tools', $compiler makes programs for x86-64 and $emulator (empty on x86-64) stands before a program to run it.
+. scripts/rattle.sh
 
 # The first of these commands that is there.
 first_of() {
     for name in "$@"; do command -v "$name" && return 0; done
     return 1
-}
-
-# The toolchain's folder with its compiler and, on Arm, the emulator and the x86-64 loader that rt runs programs with.
-toolchain() {
-    rt=$(readlink -f "$(command -v rt)") && echo "${RATTLE_HOME:-$(dirname "$(dirname "$rt")")}/on/$(uname -m)/toolchain"
 }
 
 look_for_tools() {
@@ -51,8 +47,7 @@ find_tools() {
 # Proves and builds the C forms, unless the archive is newer than every crate.
 library=target/staticlib/libcerantuh.a
 build_library() {
-    if [ -f "$library" ] && [ -z "$(find crates crates.txt -type f -newer "$library")" ]; then return 0; fi
-    rt staticlib cerantuh
+    is_new "$library" || rt staticlib cerantuh
 }
 
 flags='-std=c11 -O2 -Wall -Wextra -Iinclude -Itests/c'
