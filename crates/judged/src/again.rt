@@ -1,10 +1,10 @@
 // Stretches read variant by variant, and what was read written again: the bytes are to be the same.
-use crate::lent::WRONG_BYTES;
-use crate::tally::Answer;
-use crate::tally::Tally;
 use crate::writes::written;
 use std::num::wrapping_add_u8;
 use stretch::Got;
+use tally::Answer;
+use tally::Tally;
+use tally::WRONG_BYTES;
 
 // The most variants that are read, and the most letters.
 const VARIANTS: usize = 16;

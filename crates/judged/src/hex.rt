@@ -1,7 +1,7 @@
 // Document 01's stretches in hex, checked.
-use crate::tally::Answer;
-use crate::tally::Tally;
 use stretch::Checked;
+use tally::Answer;
+use tally::Tally;
 
 // The answer of a check: segment count and size, or the refusal.
 pub fn checked(bytes: &[u8]) -> Answer {

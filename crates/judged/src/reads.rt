@@ -1,9 +1,9 @@
 // Reads of document 01's example D from places on, behind its end, and of a stretch that is refused.
-use crate::lent::WRONG_BYTES;
-use crate::tally::Answer;
-use crate::tally::Tally;
 use check::same;
 use stretch::Got;
+use tally::Answer;
+use tally::Tally;
+use tally::WRONG_BYTES;
 
 // The answer of a read: where the letters start, 0 for the end, and the place; `wanted` is what the letters are to be.
 fn got(bytes: &[u8], segment: usize, variant: usize, wanted: &[u8]) -> Answer {

@@ -1,10 +1,10 @@
 // Document 01's texts, searched by bit-vectors and by border tables.
-use crate::lent::BEFORE;
-use crate::lent::WRONG_BYTES;
-use crate::lent::holds;
-use crate::tally::Answer;
-use crate::tally::Tally;
 use search::Searched;
+use tally::Answer;
+use tally::BEFORE;
+use tally::Tally;
+use tally::WRONG_BYTES;
+use tally::holds;
 
 // The answer of a search: segment count, size and number of ones, or the refusal. `wanted` is what is to stand in the marks.
 fn answered(searched: Searched, marks: &[u8], wanted: &[u8]) -> Answer {
@@ -32,7 +32,7 @@ fn both(tally: Tally, pattern: &[u8], bytes: &[u8], wanted: &[u8], answer: Answe
 }
 
 // Both searches of a text that is to be marked so.
-fn marked(
+pub fn marked(
     tally: Tally,
     pattern: &[u8],
     bytes: &[u8],

@@ -3,12 +3,12 @@ use crate::bounds::most_segments;
 use crate::bounds::most_variants;
 use crate::bounds::words;
 use crate::hex::sound;
-use crate::lent::BEFORE;
-use crate::lent::WRONG_BYTES;
-use crate::lent::holds;
-use crate::tally::Answer;
-use crate::tally::Tally;
 use stretch::Written;
+use tally::Answer;
+use tally::BEFORE;
+use tally::Tally;
+use tally::WRONG_BYTES;
+use tally::holds;
 
 // The answer of a write into 32,768 bytes: how many were written, or the refusal. `wanted` is what is to be written.
 pub fn written(letters: &[u8], lengths: &[u16], counts: &[u8], wanted: &[u8]) -> Answer {
@@ -41,6 +41,32 @@ fn refuses(
 ) -> Tally {
     let got = written(letters, lengths, counts, b"");
     tally.judge(got, Answer::refused(number, place))
+}
+
+// The answer of a write of two segments with one variant each, of two letters and of one, into a buffer: they take 11 bytes.
+fn roomed(letters: &[u8], out: &mut [u8], wanted: &[u8]) -> Answer {
+    let answer = stretch::write(letters, &[2, 1], &[1, 1], &mut *out);
+    if !holds(out, wanted) {
+        return Answer::refused(WRONG_BYTES, 0);
+    }
+    match answer {
+        Written::Bytes(bytes) => Answer::told(bytes, 0, 0),
+        Written::Refused(refused) => Answer::refused(refused.number, refused.place),
+    }
+}
+
+// Refusal 15, behind all others: no bytes at all, one too few, as many as are needed, and one more.
+fn rooms(tally: Tally) -> Tally {
+    let mut ten = [BEFORE; 10];
+    let mut eleven = [BEFORE; 11];
+    let mut twelve = [BEFORE; 12];
+    let wanted = b"\x02\x00\x01\x02\x00AC\x01\x01\x00T";
+    let mut t = tally.judge(roomed(b"ACT", &mut [], b""), Answer::refused(15, 0));
+    t = t.judge(roomed(b"ACT", &mut ten, b""), Answer::refused(15, 0));
+    t = t.judge(roomed(b"ACN", &mut ten, b""), Answer::refused(7, 2));
+    t = t.judge(roomed(b"AC", &mut ten, b""), Answer::refused(14, 0));
+    t = t.judge(roomed(b"ACT", &mut eleven, wanted), Answer::told(11, 0, 0));
+    t.judge(roomed(b"ACT", &mut twelve, wanted), Answer::told(11, 0, 0))
 }
 
 // The writes of small texts, and the refusals of a write.
@@ -99,5 +125,5 @@ fn variants(tally: Tally) -> Tally {
 }
 
 pub fn run(tally: Tally) -> Tally {
-    variants(segments(longest(small(tally))))
+    variants(segments(longest(rooms(small(tally)))))
 }

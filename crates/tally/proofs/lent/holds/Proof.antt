@@ -1,9 +1,9 @@
--- `judged::lent::holds` is safe and ends: the place is within the buffer. The measure is the number of bytes left.
+-- `tally::lent::holds` is safe and ends: the place is within the buffer. The measure is the number of bytes left.
 use Prim.Native.Nat.{_-_, _≤_}
 use lib.ListN.{length}
 use borrow.Author.Needs.{needs}
-use Rattle.judged.proofs.lent.holds.Statement.{statement}
-use Rattle.judged.proofs.lent.holds.Tie as tie
+use Rattle.tally.proofs.lent.holds.Statement.{statement}
+use Rattle.tally.proofs.lent.holds.Tie as tie
 
 abbrev Inv-loop : tie.InvT-loop
 Inv-loop buffer wanted i₀ i = i ≤ length buffer

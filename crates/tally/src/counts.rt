@@ -1,4 +1,4 @@
-// What an example answers, the count of examples that ran and differed, and the lines that are printed.
+// What a call answers, the count of answers that were compared and that differed, and the lines that are printed.
 use std::num::wrapping_add_u64;
 use std::num::wrapping_sub_u64;
 
@@ -53,23 +53,27 @@ impl Answer {
     }
 }
 
-// How many examples ran, and how many of them differ.
+// How many answers were compared, and how many of them differ.
 pub struct Tally {
     pub ran: u64,
     pub differ: u64,
 }
 
 impl Tally {
-    // One example more, whose answer is to be the wanted one. The first that differs is printed.
-    pub fn judge(self, got: Answer, wanted: Answer) -> Tally {
+    // Nothing yet.
+    pub const NONE: Tally = Tally { ran: 0, differ: 0 };
+
+    // One answer more, which is to be the wanted one. The first that differs is printed, with its name and a number that tells where.
+    pub fn compare(self, name: &[u8], number: u64, got: Answer, wanted: Answer) -> Tally {
         let ran = wrapping_add_u64(self.ran, 1);
         let differ = self.differ;
         if got.equals(wanted) {
             return Tally { ran, differ };
         }
         if differ == 0 {
-            io::write_all(1, b"example ");
-            io::print_decimal(1, ran);
+            io::write_all(1, name);
+            io::write_all(1, b" ");
+            io::print_decimal(1, number);
             io::write_all(1, b": got ");
             got.print();
             io::write_all(1, b", wanted ");
@@ -82,7 +86,12 @@ impl Tally {
         }
     }
 
-    // The line of a group: its name, and how many examples ran since `before`.
+    // One example more, known by its number in the row of all.
+    pub fn judge(self, got: Answer, wanted: Answer) -> Tally {
+        self.compare(b"example", wrapping_add_u64(self.ran, 1), got, wanted)
+    }
+
+    // The line of a group: its name, and how many answers were compared since `before`.
     pub fn line(self, name: &[u8], before: Tally) {
         io::write_all(1, name);
         io::write_all(1, b": ");
@@ -90,10 +99,12 @@ impl Tally {
         io::write_all(1, b"\n");
     }
 
-    // The last line.
-    pub fn last(self) {
+    // The last line, which calls them by a name.
+    pub fn last(self, name: &[u8]) {
         io::print_decimal(1, self.ran);
-        io::write_all(1, b" examples, ");
+        io::write_all(1, b" ");
+        io::write_all(1, name);
+        io::write_all(1, b", ");
         io::print_decimal(1, self.differ);
         io::write_all(1, b" differ\n");
     }
