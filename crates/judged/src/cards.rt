@@ -1,39 +1,15 @@
 // Cards: those of document 01's example D, their join, what they answer when asked, the empty card, and what is refused.
 use crate::malformed;
-use card::Asked;
 use card::Card;
 use card::Made;
 use search::State;
 use tally::Answer;
 use tally::Tally;
-use tally::WRONG_BYTES;
-
-// The answer of a call that makes a card: a row's exit and first end, and the segment count, or the refusal beside the card of zeros.
-fn made(answer: Made, q: usize) -> Answer {
-    let refusal = answer.refusal;
-    let card = answer.card;
-    let exits = card.exits;
-    let firsts = card.firsts;
-    if 64 <= q {
-        return Answer::refused(WRONG_BYTES, q);
-    }
-    let exit = exits[q] as usize;
-    let first = firsts[q] as usize;
-    Answer {
-        number: refusal.number,
-        place: refusal.place,
-        first: exit,
-        second: first,
-        third: card.segments as usize,
-    }
-}
+use tally::row;
 
 // A card whose row q is to be so, of so many segments.
 fn rowed(tally: Tally, answer: Made, q: usize, exit: usize, first: u32, segments: usize) -> Tally {
-    tally.judge(
-        made(answer, q),
-        Answer::told(exit, first as usize, segments),
-    )
+    tally.judge(row(answer, q), Answer::told(exit, first as usize, segments))
 }
 
 // A join whose row q is to be so, of so many segments.
@@ -51,20 +27,14 @@ pub fn joins(
 
 // A call that is to be refused, with the card of zeros beside it.
 pub fn refused(tally: Tally, answer: Made, number: u64, place: usize) -> Tally {
-    let t = tally.judge(made(answer, 0), Answer::refused(number, place));
-    t.judge(made(answer, 63), Answer::refused(number, place))
+    let t = tally.judge(row(answer, 0), Answer::refused(number, place));
+    t.judge(row(answer, 63), Answer::refused(number, place))
 }
 
 // The answer of asking: the bits of the state and the first end, or the refusal.
 pub fn asked(card: Card, bits: u64) -> Answer {
     let state = State { bits };
-    match card.ask(state) {
-        Asked::Told { state: next, first } => {
-            let next_bits = next.bits as usize;
-            Answer::told(next_bits, first as usize, 0)
-        }
-        Asked::Refused(refusal) => Answer::refused(refusal.number, refusal.place),
-    }
+    tally::asked(card.ask(state))
 }
 
 // A card that is to make that of a state.
@@ -111,7 +81,7 @@ fn whole(tally: Tally, d: &[u8]) -> Tally {
     let mut t = tally;
     let mut q = 0;
     while q < 64 {
-        t = t.judge(made(joined, q), made(all, q));
+        t = t.judge(row(joined, q), row(all, q));
         q += 1;
     }
     t

@@ -1,5 +1,4 @@
 // States: the states of document 01's example D, segment by segment, what states carry, and states that are refused.
-use search::Fed;
 use search::State;
 use tally::Answer;
 use tally::Tally;
@@ -7,16 +6,7 @@ use tally::Tally;
 // The answer of a feed: the bits of the next state and whether an occurrence ends, or the refusal.
 fn fed(pattern: &[u8], bits: u64, segment: &[u8]) -> Answer {
     let state = State { bits };
-    match state.feed(pattern, segment) {
-        Fed::Next { state: next, ends } => {
-            let next_bits = next.bits as usize;
-            if ends {
-                return Answer::told(next_bits, 1, 0);
-            }
-            Answer::told(next_bits, 0, 0)
-        }
-        Fed::Refused(refused) => Answer::refused(refused.number, refused.place),
-    }
+    tally::fed(state.feed(pattern, segment))
 }
 
 // A segment that is to lead from one state to another.

@@ -7,18 +7,11 @@ use tally::WRONG_BYTES;
 use tally::holds;
 
 // The answer of a search: segment count, size and number of ones, or the refusal. `wanted` is what is to stand in the marks.
-fn answered(searched: Searched, marks: &[u8], wanted: &[u8]) -> Answer {
+fn answered(answer: Searched, marks: &[u8], wanted: &[u8]) -> Answer {
     if !holds(marks, wanted) {
         return Answer::refused(WRONG_BYTES, 0);
     }
-    match searched {
-        Searched::Marked {
-            segments,
-            size,
-            ends,
-        } => Answer::told(segments, size, ends),
-        Searched::Refused(refused) => Answer::refused(refused.number, refused.place),
-    }
+    tally::searched(answer)
 }
 
 // Both searches, each of which is to answer and to mark the same.

@@ -3,7 +3,6 @@ use crate::bounds::most_segments;
 use crate::bounds::most_variants;
 use crate::bounds::words;
 use crate::hex::sound;
-use stretch::Written;
 use tally::Answer;
 use tally::BEFORE;
 use tally::Tally;
@@ -17,10 +16,7 @@ pub fn written(letters: &[u8], lengths: &[u16], counts: &[u8], wanted: &[u8]) ->
     if !holds(&out, wanted) {
         return Answer::refused(WRONG_BYTES, 0);
     }
-    match answer {
-        Written::Bytes(bytes) => Answer::told(bytes, 0, 0),
-        Written::Refused(refused) => Answer::refused(refused.number, refused.place),
-    }
+    tally::written(answer)
 }
 
 // A write that is to be accepted, and the check of its bytes.
@@ -49,10 +45,7 @@ fn roomed(letters: &[u8], out: &mut [u8], wanted: &[u8]) -> Answer {
     if !holds(out, wanted) {
         return Answer::refused(WRONG_BYTES, 0);
     }
-    match answer {
-        Written::Bytes(bytes) => Answer::told(bytes, 0, 0),
-        Written::Refused(refused) => Answer::refused(refused.number, refused.place),
-    }
+    tally::written(answer)
 }
 
 // Refusal 15, behind all others: no bytes at all, one too few, as many as are needed, and one more.

@@ -91,6 +91,14 @@ impl Tally {
         self.compare(b"example", wrapping_add_u64(self.ran, 1), got, wanted)
     }
 
+    // Both together.
+    pub fn and(self, other: Tally) -> Tally {
+        Tally {
+            ran: wrapping_add_u64(self.ran, other.ran),
+            differ: wrapping_add_u64(self.differ, other.differ),
+        }
+    }
+
     // The line of a group: its name, and how many answers were compared since `before`.
     pub fn line(self, name: &[u8], before: Tally) {
         io::write_all(1, name);

@@ -28,11 +28,11 @@ join-requires c κs = search needs
 loop-holds : tie.Need-loop-holds Inv-loop μ-loop
 loop-holds c = search needs
 
-made-requires : tie.Need-made-requires Inv-loop μ-loop
-made-requires c κs = search needs
+row-requires : tie.Need-row-requires Inv-loop μ-loop
+row-requires c κs = search needs
 
-made-requires-2 : tie.Need-made-requires-2 Inv-loop μ-loop
-made-requires-2 c κs = search needs
+row-requires-2 : tie.Need-row-requires-2 Inv-loop μ-loop
+row-requires-2 c κs = search needs
 
 judge-requires : tie.Need-judge-requires Inv-loop μ-loop
 judge-requires c κs = search needs
@@ -61,8 +61,8 @@ whole-spec =
     of-requires
     join-requires
     loop-holds
-    made-requires
-    made-requires-2
+    row-requires
+    row-requires-2
     judge-requires
     add-q
     loop-less

@@ -1,16 +1,16 @@
--- `judged::again::gather` is safe and ends: the lent slices keep their lengths. The measure is the number of turns left.
+-- `tally::gathering::gather` is safe and ends: the lent slices keep their lengths. The measure is the number of lengths that there is room for.
 use Prim.Native.Nat.{_-_}
 use mathlib.Core.Path.{_≡_}
 use lib.ListN.{length}
 use borrow.Author.Needs.{needs}
-use Rattle.judged.proofs.again.gather.Statement.{statement}
-use Rattle.judged.proofs.again.gather.Tie as tie
+use Rattle.tally.proofs.gathering.gather.Statement.{statement}
+use Rattle.tally.proofs.gathering.gather.Tie as tie
 
 abbrev Inv-loop : tie.InvT-loop
 Inv-loop bytes letters₀ lengths₀ counts₀ place₀ turns₀ letters lengths counts place turns = (length letters ≡ length letters₀) × (length lengths ≡ length lengths₀) × (length counts ≡ length counts₀)
 
 abbrev μ-loop : tie.MeasureT-loop
-μ-loop bytes letters₀ lengths₀ counts₀ place₀ turns₀ letters lengths counts place turns = 16 - turns
+μ-loop bytes letters₀ lengths₀ counts₀ place₀ turns₀ letters lengths counts place turns = length lengths₀ - turns
 
 loop-holds : tie.Need-loop-holds Inv-loop μ-loop
 loop-holds c = search needs

@@ -1,10 +1,10 @@
--- `judged::again::put` is safe and ends: the letters keep their length. The measure is the number of letters left of the part.
+-- `tally::gathering::put` is safe and ends: the letters keep their length. The measure is the number of letters left of the part.
 use Prim.Native.Nat.{_-_}
 use mathlib.Core.Path.{_≡_}
 use lib.ListN.{length}
 use borrow.Author.Needs.{needs}
-use Rattle.judged.proofs.again.put.Statement.{statement}
-use Rattle.judged.proofs.again.put.Tie as tie
+use Rattle.tally.proofs.gathering.put.Statement.{statement}
+use Rattle.tally.proofs.gathering.put.Tie as tie
 
 abbrev Inv-loop : tie.InvT-loop
 Inv-loop part letters₀ from at₀ i₀ letters at i = length letters ≡ length letters₀
