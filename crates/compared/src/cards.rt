@@ -1,11 +1,12 @@
 // The card of a text: its pattern, and each of its rows, compared with what the third search finds.
 use crate::naive::Found;
-use crate::naive::row;
+use crate::naive::alone;
 use crate::parts::byte_at;
 use card::Card;
 use card::Made;
 use tally::Answer;
 use tally::Tally;
+use tally::row;
 
 // A card's m, and whether its pattern is P and behind it 0: 1 if so.
 fn named(made: Made, p: &[u8]) -> Answer {
@@ -42,28 +43,32 @@ fn wanted(
     if p.len() <= q {
         return Answer::told(0, Card::NONE as usize, n);
     }
-    let lone = row(p, letters, lengths, counts, q);
+    let lone = alone(p, letters, lengths, counts, q);
     Answer::told(lone.exit as usize, lone.first as usize, n)
+}
+
+// Row q of a card is to be so.
+fn compare_row(before: Tally, number: u64, made: Made, q: usize, wanted: Answer) -> Tally {
+    before.compare(b"row of a card, text", number, row(made, q), wanted)
 }
 
 // Two cards are to have the same rows, and the pattern P.
 pub fn same(before: Tally, number: u64, p: &[u8], made: Made, other: Made) -> Tally {
     let mut t = before.compare(
-        b"pattern of a join, text",
+        b"pattern of a card, text",
         number,
         named(made, p),
         named(other, p),
     );
     let mut q = 0;
     while q < Card::GREATEST_PATTERN {
-        let got = tally::row(made, q);
-        t = t.compare(b"row of a join, text", number, got, tally::row(other, q));
+        t = compare_row(t, number, made, q, row(other, q));
         q += 1;
     }
     t
 }
 
-// The card of the text is to have these rows, and the pattern P.
+// The card of a text is to have the rows that are found, and the pattern P.
 pub fn compare(
     before: Tally,
     number: u64,
@@ -78,9 +83,8 @@ pub fn compare(
     let mut t = before.compare(b"pattern of a card, text", number, named(made, p), pattern);
     let mut q = 0;
     while q < Card::GREATEST_PATTERN {
-        let got = tally::row(made, q);
-        let row = wanted(p, letters, lengths, counts, q, found);
-        t = t.compare(b"row of a card, text", number, got, row);
+        let lone = wanted(p, letters, lengths, counts, q, found);
+        t = compare_row(t, number, made, q, lone);
         q += 1;
     }
     t

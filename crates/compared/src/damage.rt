@@ -1,5 +1,6 @@
 // Stretches damaged at random: bytes changed, cut off, appended, taken out, or put over others.
 use crate::parts::byte_at;
+use crate::parts::put;
 use crate::random::Random;
 use crate::texts::letter;
 use std::num::wrapping_add_usize;
@@ -21,13 +22,6 @@ fn byte(kind: Random, random: Random) -> u8 {
         3 => b'N',
         4 => (random.below(256) % 256) as u8,
         _ => letter(random, 4),
-    }
-}
-
-// Puts a byte, where there is room.
-fn put(bytes: &mut [u8], at: usize, byte: u8) {
-    if at < bytes.len() {
-        bytes[at] = byte;
     }
 }
 
@@ -54,20 +48,26 @@ fn copy(bytes: &mut [u8], from: usize, to: usize, n: usize) {
     }
 }
 
+// Another byte for one that stands there: mostly a letter for a letter.
+fn other(old: u8, kind: Random, random: Random) -> u8 {
+    if b'A' <= old && kind.below(8) != 0 {
+        return letter(random, 4);
+    }
+    byte(kind.next(), random)
+}
+
 // One byte, the first ones more often, is another.
 fn change(bytes: &mut [u8], kind: Random, len: usize) -> Damaged {
     let place = kind.next();
-    let near = place.next();
-    let at = if near.below(4) == 0 {
+    let random = place.next();
+    let at = if kind.below(8) == 0 {
         place.below(8)
     } else {
         place.below(len)
     };
-    let n = if at < len { 1 } else { 0 };
-    Damaged {
-        random: scatter(&mut *bytes, at, n, near),
-        len,
-    }
+    let byte = other(byte_at(bytes, at), place, random);
+    put(&mut *bytes, at, byte);
+    Damaged { random, len }
 }
 
 // Up to four bytes stand behind the end, where there is room.
@@ -118,7 +118,7 @@ fn splice(bytes: &mut [u8], kind: Random, len: usize) -> Damaged {
 }
 
 // Damages the first `len` bytes in one of these ways.
-pub fn damage(bytes: &mut [u8], before: Random, len: usize) -> Damaged {
+fn hurt(bytes: &mut [u8], before: Random, len: usize) -> Damaged {
     let way = before.next();
     let kind = way.next();
     let number = way.below(16);
@@ -132,4 +132,22 @@ pub fn damage(bytes: &mut [u8], before: Random, len: usize) -> Damaged {
         4 | 5 | 6 => splice(&mut *bytes, kind, len),
         _ => change(&mut *bytes, kind, len),
     }
+}
+
+// Damages them so many times.
+fn hurt_times(bytes: &mut [u8], before: Damaged, times: usize) -> Damaged {
+    let mut damaged = before;
+    let mut i = 0;
+    while i < times {
+        damaged = hurt(&mut *bytes, damaged.random, damaged.len);
+        i += 1;
+    }
+    damaged
+}
+
+// Damages them once, or in one case of four twice.
+pub fn damage(bytes: &mut [u8], before: Random, len: usize) -> Damaged {
+    let random = before.next();
+    let times = if random.below(4) == 0 { 2 } else { 1 };
+    hurt_times(&mut *bytes, Damaged { random, len }, times)
 }

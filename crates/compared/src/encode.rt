@@ -5,10 +5,11 @@ use std::num::wrapping_add_usize;
 
 // Puts a byte, as far as there is room, and tells the next place.
 fn put(out: &mut [u8], at: usize, byte: u8) -> usize {
-    if at < out.len() {
-        out[at] = byte;
+    if out.len() <= at {
+        return at;
     }
-    wrapping_add_usize(at, 1)
+    out[at] = byte;
+    at + 1
 }
 
 // Puts a number, low byte first.

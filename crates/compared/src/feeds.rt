@@ -1,10 +1,9 @@
-// The feed, segment by segment from the fresh state on, compared with the marks and the states of the third search.
+// The feed, segment by segment, compared with the marks and the states of the third search.
 use crate::naive::Found;
 use crate::parts::letters_before;
 use crate::parts::variants_before;
 use search::State;
 use std::num::wrapping_add_usize;
-use tally::Answer;
 use tally::Tally;
 use tally::fed;
 use tally::part;
@@ -17,7 +16,27 @@ fn place(lengths: &[u16], counts: &[u8], segment: usize) -> usize {
     wrapping_add_usize(wrapping_add_usize(2, fields), letters)
 }
 
-// Each lone segment is to lead to the state and to have the mark that were found.
+// A lone segment is to lead from the state that was found before it to the one behind it, and to have the mark that was found.
+fn compare_one(
+    before: Tally,
+    number: u64,
+    pattern: &[u8],
+    bytes: &[u8],
+    lengths: &[u16],
+    counts: &[u8],
+    found: Found,
+    segment: usize,
+) -> Tally {
+    let start = place(lengths, counts, segment);
+    let end = place(lengths, counts, wrapping_add_usize(segment, 1));
+    let state = State {
+        bits: found.state_behind(segment),
+    };
+    let got = fed(state.feed(pattern, part(bytes, start, end)));
+    before.compare(b"feed, text", number, got, found.step(segment))
+}
+
+// Each segment of a text.
 pub fn compare(
     before: Tally,
     number: u64,
@@ -28,16 +47,9 @@ pub fn compare(
     found: Found,
 ) -> Tally {
     let mut t = before;
-    let mut bits: u64 = 1;
     let mut j = 0;
     while j < counts.len() {
-        let start = place(lengths, counts, j);
-        let end = place(lengths, counts, wrapping_add_usize(j, 1));
-        let state = State { bits };
-        let got = fed(state.feed(pattern, part(bytes, start, end)));
-        bits = found.state_behind(wrapping_add_usize(j, 1));
-        let wanted = Answer::told(bits as usize, found.mark_at(j), 0);
-        t = t.compare(b"feed, text", number, got, wanted);
+        t = compare_one(t, number, pattern, bytes, lengths, counts, found, j);
         j += 1;
     }
     t

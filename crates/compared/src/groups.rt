@@ -7,7 +7,6 @@ use crate::searches;
 use card::Card;
 use tally::Answer;
 use tally::Tally;
-use tally::part;
 use tally::row;
 
 pub struct Groups {
@@ -78,17 +77,15 @@ impl Groups {
         cut: usize,
         found: Found,
     ) -> Groups {
-        let n = counts.len();
-        let marks = found.marks;
-        let answer = Answer::told(n, letters.len(), found.ends());
         let whole = Card::of(p, bytes);
-        let searched = searches::compare(
+        let searched = searches::compare_found(
             self.searches,
             number,
             p,
             bytes,
-            part(&marks, 0, n),
-            answer,
+            letters.len(),
+            counts.len(),
+            found,
         );
         let fed = feeds::compare(self.feeds, number, p, bytes, lengths, counts, found);
         let carded = cards::compare(

@@ -8,6 +8,8 @@ use crate::segments::holds;
 use crate::segments::passes;
 use crate::segments::starts;
 use card::Card;
+use std::num::wrapping_add_usize;
+use tally::Answer;
 
 // The most segments of a text that it takes.
 pub const MOST: usize = 16;
@@ -37,14 +39,13 @@ impl Found {
         Found { marks, states }
     }
 
-    // The mark of a segment.
-    pub fn mark_at(self, segment: usize) -> usize {
+    // What a feed of a segment is to answer: the state behind it, and its mark.
+    pub fn step(self, segment: usize) -> Answer {
         let marks = self.marks;
-        if segment < MOST {
-            marks[segment] as usize
-        } else {
-            0
-        }
+        let states = self.states;
+        let j = segment % MOST;
+        let state = states[j] as usize;
+        Answer::told(state, marks[j] as usize, 0)
     }
 
     // The state behind so many segments.
@@ -79,9 +80,7 @@ impl Found {
         let mut sum = 0;
         let mut j = 0;
         while j < MOST {
-            if marks[j] == 1 {
-                sum += 1;
-            }
+            sum = wrapping_add_usize(sum, marks[j] as usize);
             j += 1;
         }
         sum
@@ -117,7 +116,7 @@ fn follow(
 }
 
 // The marks and the states of a text.
-pub fn found(p: &[u8], letters: &[u8], lengths: &[u16], counts: &[u8]) -> Found {
+pub fn search(p: &[u8], letters: &[u8], lengths: &[u16], counts: &[u8]) -> Found {
     let mut found = Found {
         marks: [0; 16],
         states: [1; 16],
@@ -136,7 +135,7 @@ pub struct Row {
     pub first: u32,
 }
 
-pub fn row(p: &[u8], letters: &[u8], lengths: &[u16], counts: &[u8], q: usize) -> Row {
+pub fn alone(p: &[u8], letters: &[u8], lengths: &[u16], counts: &[u8], q: usize) -> Row {
     let mut set = Lengths::none().with(q);
     let mut end = Card::NONE;
     let mut j = 0;

@@ -8,15 +8,27 @@ pub fn byte_at(bytes: &[u8], i: usize) -> u8 {
     if i < bytes.len() { bytes[i] } else { 0 }
 }
 
+// Puts a byte at a place, where there is room.
+pub fn put(bytes: &mut [u8], i: usize, byte: u8) {
+    if i < bytes.len() {
+        bytes[i] = byte;
+    }
+}
+
 // The number of variants of a segment.
 pub fn count_at(counts: &[u8], segment: usize) -> usize {
     byte_at(counts, segment) as usize
 }
 
+// A length as a number.
+fn wide(length: u16) -> usize {
+    length as usize
+}
+
 // The number of letters of a variant.
 pub fn length_at(lengths: &[u16], variant: usize) -> usize {
     if variant < lengths.len() {
-        lengths[variant] as usize
+        wide(lengths[variant])
     } else {
         0
     }

@@ -1,5 +1,6 @@
 // Random patterns: read out of the text along random variants, or of random bases.
 use crate::parts::count_at;
+use crate::parts::put;
 use crate::parts::variant;
 use crate::parts::variants_before;
 use crate::random::Random;
@@ -41,7 +42,33 @@ fn append(pattern: &mut [u8], m: usize, s: &[u8], from: usize, wanted: usize) ->
     at
 }
 
-// Spells up to `wanted` bases out of the text: from a random place of a random segment on, with a random variant of each.
+// Spells on with a random variant of a segment, up to `wanted` bases: the whole of it, or from a random place on where it is the first.
+fn read_on(
+    letters: &[u8],
+    lengths: &[u16],
+    counts: &[u8],
+    segment: usize,
+    wanted: usize,
+    spelt: Spelt,
+    pattern: &mut [u8],
+) -> Spelt {
+    let pick = spelt.random.next();
+    let place = pick.next();
+    let number = pick.below(count_at(counts, segment));
+    let first = variants_before(counts, segment);
+    let s = variant(letters, lengths, wrapping_add_usize(first, number));
+    let from = if spelt.m == 0 {
+        place.below(s.len())
+    } else {
+        0
+    };
+    Spelt {
+        random: place,
+        m: append(&mut *pattern, spelt.m, s, from, wanted),
+    }
+}
+
+// Spells up to `wanted` bases out of the text, from a random segment on.
 fn read_out(
     letters: &[u8],
     lengths: &[u16],
@@ -50,42 +77,34 @@ fn read_out(
     wanted: usize,
     pattern: &mut [u8],
 ) -> Spelt {
-    let mut random = before.next();
-    let start = random.below(counts.len());
-    let mut m = 0;
-    let mut j = start;
+    let random = before.next();
+    let mut spelt = Spelt { random, m: 0 };
+    let mut j = random.below(counts.len());
     while j < counts.len() {
-        random = random.next();
-        let pick = random.below(count_at(counts, j));
-        let s = variant(
-            letters,
-            lengths,
-            wrapping_add_usize(variants_before(counts, j), pick),
-        );
-        random = random.next();
-        let from = if j == start { random.below(s.len()) } else { 0 };
-        m = append(&mut *pattern, m, s, from, wanted);
+        spelt = read_on(letters, lengths, counts, j, wanted, spelt, &mut *pattern);
         j += 1;
     }
-    Spelt { random, m }
+    spelt
 }
 
-// One of the m bases is another, in one case of four.
+// Makes one of the m bases another, in one case of four.
 fn slip(pattern: &mut [u8], spelt: Spelt) -> Spelt {
     let kind = spelt.random.next();
     let place = kind.next();
     let base = place.next();
-    let at = place.below(spelt.m);
-    if kind.below(4) == 0 && at < pattern.len() {
-        pattern[at] = letter(base, 4);
-    }
+    let at = if kind.below(4) == 0 {
+        place.below(spelt.m)
+    } else {
+        pattern.len()
+    };
+    put(&mut *pattern, at, letter(base, 4));
     Spelt {
         random: base,
         m: spelt.m,
     }
 }
 
-// Makes a pattern: half of them are read out of the text, where it has letters.
+// Makes a pattern: half of them are read out of the text, where it has letters, and the others are spelt at random.
 pub fn make(
     letters: &[u8],
     lengths: &[u16],
@@ -97,18 +116,13 @@ pub fn make(
     let number = kind.next();
     let way = number.next();
     let wanted = bases(kind, number);
-    if way.below(2) == 0 {
-        let spelt = read_out(letters, lengths, counts, way, wanted, &mut *pattern);
-        if spelt.m != 0 {
-            return slip(&mut *pattern, spelt);
-        }
-    }
-    let kinds = way.next();
-    let last = spell(&mut *pattern, 0, wanted, alphabet(kinds), kinds);
-    Spelt {
-        random: last,
-        m: wanted,
-    }
+    let asked = if way.below(2) == 0 { wanted } else { 0 };
+    let spelt = read_out(letters, lengths, counts, way, asked, &mut *pattern);
+    let missing = if spelt.m == 0 { wanted } else { 0 };
+    let kinds = spelt.random.next();
+    let random = spell(&mut *pattern, 0, missing, alphabet(kinds), kinds);
+    let m = wrapping_add_usize(spelt.m, missing);
+    slip(&mut *pattern, Spelt { random, m })
 }
 
 // Puts the pattern, in one case of eight spoilt: none of it, one base too many, or a byte that is no base.
@@ -116,17 +130,20 @@ pub fn spoil(pattern: &mut [u8], p: &[u8], random: Random) -> Spelt {
     let kind = random.next();
     let place = kind.next();
     let m = append(&mut *pattern, 0, p, 0, 64);
-    let at = place.below(m);
     let number = kind.below(32);
-    if number < 2 && at < pattern.len() {
-        pattern[at] = b'N';
-    }
+    let at = if number < 2 {
+        place.below(m)
+    } else {
+        pattern.len()
+    };
+    put(&mut *pattern, at, b'N');
+    let spoilt = match number {
+        2 => 0,
+        3 => 65,
+        _ => m,
+    };
     Spelt {
         random: place,
-        m: match number {
-            2 => 0,
-            3 => 65,
-            _ => m,
-        },
+        m: spoilt,
     }
 }

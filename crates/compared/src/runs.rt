@@ -40,23 +40,22 @@ impl Run {
         let mut letters = [0u8; 1024];
         let mut lengths = [0u16; 64];
         let mut counts = [0u8; 12];
-        let mut pattern = [0u8; 65];
         let made = texts::make(&mut letters, &mut lengths, &mut counts, self.random);
-        let spelt = patterns::make(
-            part(&letters, 0, made.letters),
-            lengths_part(&lengths, 0, made.variants),
-            part(&counts, 0, made.segments),
-            made.random,
-            &mut pattern,
-        );
-        let run = self.at(spelt.random);
-        run.written(
+        let run = self.at(made.random);
+        run.spelt(
             number,
-            part(&pattern, 0, spelt.m),
             part(&letters, 0, made.letters),
             lengths_part(&lengths, 0, made.variants),
             part(&counts, 0, made.segments),
         )
+    }
+
+    // A text, and a pattern for it.
+    fn spelt(self, number: u64, letters: &[u8], lengths: &[u16], counts: &[u8]) -> Run {
+        let mut pattern = [0u8; 64];
+        let spelt = patterns::make(letters, lengths, counts, self.random, &mut pattern);
+        let run = self.at(spelt.random);
+        run.written(number, part(&pattern, 0, spelt.m), letters, lengths, counts)
     }
 
     // The same with another random number.
@@ -72,61 +71,70 @@ impl Run {
         }
     }
 
-    // A text, written and compared.
+    // A text, written and compared, and if it is accepted searched.
     fn written(self, number: u64, p: &[u8], letters: &[u8], lengths: &[u16], counts: &[u8]) -> Run {
         let mut own = [BEFORE; 2048];
         let groups = self.groups;
         let wrote = writes::compare(groups.writes, number, letters, lengths, counts, &mut own);
         let answer = wrote.answer;
-        let random = self.random.next();
-        let more = groups.of_bytes(wrote.tally, groups.checks, groups.reads);
-        let seen = self.whole.told(answer.number);
         let damaged = self.damaged;
+        let run = Run {
+            random: self.random.next(),
+            groups: groups.of_bytes(wrote.tally, groups.checks, groups.reads),
+            whole: self.whole.told(answer.number),
+            damaged,
+        };
         if answer.number != 0 {
-            return Run {
-                random,
-                groups: more,
-                whole: seen,
-                damaged,
-            };
+            return run;
         }
-        let bytes = answer.first;
+        run.searched(number, p, &mut own, answer.first, letters, lengths, counts)
+    }
+
+    // A text of so many bytes, searched as it is, and then damaged.
+    fn searched(
+        self,
+        number: u64,
+        p: &[u8],
+        own: &mut [u8],
+        bytes: usize,
+        letters: &[u8],
+        lengths: &[u16],
+        counts: &[u8],
+    ) -> Run {
+        let random = self.random;
+        let groups = self.groups;
+        let damaged = self.damaged;
         let cut = random.below(wrapping_add_usize(counts.len(), 1));
-        let found = naive::found(p, letters, lengths, counts);
+        let found = naive::search(p, letters, lengths, counts);
         let run = Run {
             random,
-            groups: more.accepted(
+            groups: groups.accepted(
                 number,
                 p,
-                part(&own, 0, bytes),
+                part(own, 0, bytes),
                 letters,
                 lengths,
                 counts,
                 cut,
                 found,
             ),
-            whole: seen.marked(counts.len(), found.ends()),
+            whole: self.whole.marked(counts.len(), found.ends()),
             damaged,
         };
-        run.spoilt(number, p, &mut own, bytes)
+        run.spoilt(number, p, &mut *own, bytes)
     }
 
     // Its bytes, damaged once or twice, and the pattern as it is or spoilt.
     fn spoilt(self, number: u64, p: &[u8], bytes: &mut [u8], len: usize) -> Run {
         let mut pattern = [0u8; 65];
         let spelt = patterns::spoil(&mut pattern, p, self.random);
-        let mut random = spelt.random.next();
-        let times = if random.below(4) == 0 { 2 } else { 1 };
-        let mut left = len;
-        let mut i = 0;
-        while i < times {
-            let damaged = damage(&mut *bytes, random, left);
-            random = damaged.random;
-            left = damaged.len;
-            i += 1;
-        }
-        let run = self.at(random);
-        run.judged(number, part(&pattern, 0, spelt.m), part(bytes, 0, left))
+        let damaged = damage(&mut *bytes, spelt.random, len);
+        let run = self.at(damaged.random);
+        run.judged(
+            number,
+            part(&pattern, 0, spelt.m),
+            part(bytes, 0, damaged.len),
+        )
     }
 
     // A damaged stretch, compared with the own reader, and as a text where it is accepted.
@@ -193,7 +201,7 @@ impl Run {
         let more = groups.of_bytes(groups.writes, groups.checks, reads);
         let random = self.random.next();
         let cut = random.below(wrapping_add_usize(counts.len(), 1));
-        let found = naive::found(p, letters, lengths, counts);
+        let found = naive::search(p, letters, lengths, counts);
         let whole = self.whole;
         Run {
             random,

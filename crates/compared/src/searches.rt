@@ -1,4 +1,5 @@
 // Both searches, each compared with what is wanted.
+use crate::naive::Found;
 use search::Searched;
 use search::by_bits;
 use search::by_borders;
@@ -7,9 +8,7 @@ use tally::BEFORE;
 use tally::Tally;
 use tally::WRONG_BYTES;
 use tally::holds;
-
-// How many marks a search is lent.
-pub const MARKS: usize = 24;
+use tally::part;
 
 // The answer of a search, where the marks hold what is wanted.
 fn answered(answer: Searched, marks: &[u8], wanted: &[u8]) -> Answer {
@@ -36,4 +35,26 @@ pub fn compare(
     let borders = by_borders(pattern, bytes, &mut others);
     let other = answered(borders, &others, wanted);
     t.compare(b"search by border tables, text", number, other, answer)
+}
+
+// Each is to mark what is found in a text of so many letters and segments.
+pub fn compare_found(
+    before: Tally,
+    number: u64,
+    pattern: &[u8],
+    bytes: &[u8],
+    size: usize,
+    segments: usize,
+    found: Found,
+) -> Tally {
+    let marks = found.marks;
+    let answer = Answer::told(segments, size, found.ends());
+    compare(
+        before,
+        number,
+        pattern,
+        bytes,
+        part(&marks, 0, segments),
+        answer,
+    )
 }

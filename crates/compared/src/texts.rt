@@ -1,5 +1,7 @@
 // Random texts: up to 12 segments of up to 5 variants, mostly short, now and then empty or longer than any pattern.
 use crate::agree::equal;
+use crate::parts::count_at;
+use crate::parts::put;
 use crate::parts::variant;
 use crate::random::Random;
 use std::num::wrapping_add_usize;
@@ -51,10 +53,11 @@ pub fn spell(bytes: &mut [u8], from: usize, n: usize, alphabet: usize, before: R
     let mut i = 0;
     while i < n {
         random = random.next();
-        let at = wrapping_add_usize(from, i);
-        if at < bytes.len() {
-            bytes[at] = letter(random, alphabet);
-        }
+        put(
+            &mut *bytes,
+            wrapping_add_usize(from, i),
+            letter(random, alphabet),
+        );
         i += 1;
     }
     random
@@ -71,6 +74,13 @@ pub fn repeated(letters: &[u8], lengths: &[u16], first: usize, number: usize) ->
         k += 1;
     }
     false
+}
+
+// Puts the length of a variant, where there is room.
+fn put_length(lengths: &mut [u16], variant: usize, length: usize) {
+    if variant < lengths.len() {
+        lengths[variant] = (length % 65536) as u16;
+    }
 }
 
 // Makes one variant more of the segment that begins with variant `first`, if there is room. Of the repeated ones, few are kept.
@@ -95,7 +105,7 @@ fn add_variant(
             segments: making.segments,
         };
     }
-    lengths[k] = (n % 65536) as u16;
+    put_length(&mut *lengths, k, n);
     let spelt = spell(&mut *letters, at, n, alphabet, drawn);
     let random = spelt.next();
     let dropped = repeated(letters, lengths, first, k) && random.below(64) != 0;
@@ -116,13 +126,14 @@ fn add_segment(
     alphabet: usize,
 ) -> Making {
     let first = before.variants;
+    let random = before.random.next();
+    let tries = wrapping_add_usize(random.below(5), 1);
     let mut making = Making {
-        random: before.random.next(),
+        random,
         letters: before.letters,
         variants: first,
         segments: before.segments,
     };
-    let tries = wrapping_add_usize(making.random.below(5), 1);
     let mut i = 0;
     while i < tries {
         making = add_variant(&mut *letters, &mut *lengths, making, first, alphabet);
@@ -139,8 +150,9 @@ fn close_segment(counts: &mut [u8], making: Making, first: usize) -> Making {
         return making;
     }
     counts[segment] = (count % 256) as u8;
+    let random = making.random;
     Making {
-        random: making.random,
+        random,
         letters: making.letters,
         variants: making.variants,
         segments: wrapping_add_usize(segment, 1),
@@ -186,7 +198,7 @@ pub fn first_repeat(letters: &[u8], lengths: &[u16], counts: &[u8]) -> usize {
     let mut first = 0;
     let mut segment = 0;
     while segment < counts.len() {
-        let count = counts[segment] as usize;
+        let count = count_at(counts, segment);
         let number = repeat_in(letters, lengths, first, count, none);
         if number < none {
             return number;
