@@ -1,11 +1,16 @@
 // Sets of lengths of P, 1 to 63.
 pub struct Lengths {
     pub has: [bool; 64],
+    // Whether there is any: most sets are empty.
+    pub any: bool,
 }
 
 impl Lengths {
     pub fn none() -> Lengths {
-        Lengths { has: [false; 64] }
+        Lengths {
+            has: [false; 64],
+            any: false,
+        }
     }
 
     pub fn with(self, r: usize) -> Lengths {
@@ -13,7 +18,7 @@ impl Lengths {
         if r < 64 {
             has[r] = true;
         }
-        Lengths { has }
+        Lengths { has, any: true }
     }
 
     pub fn holds(self, r: usize) -> bool {

@@ -68,6 +68,9 @@ pub fn passes(
     from: Lengths,
 ) -> Lengths {
     let mut set = Lengths::none();
+    if !from.any {
+        return set;
+    }
     let mut k = 0;
     while k < count {
         let s = variant(letters, lengths, wrapping_add_usize(first, k));
@@ -86,6 +89,9 @@ pub fn ends(
     count: usize,
     from: Lengths,
 ) -> bool {
+    if !from.any {
+        return false;
+    }
     let mut k = 0;
     while k < count {
         let s = variant(letters, lengths, wrapping_add_usize(first, k));

@@ -38,11 +38,12 @@ pub fn alphabet(random: Random) -> usize {
 
 // The length of a variant.
 fn length(kind: Random, random: Random) -> usize {
-    let number = kind.below(32);
+    let number = kind.below(128);
     match number {
-        0 | 1 | 2 | 3 => 0,
-        4 => random.below(71),
-        5 | 6 | 7 | 8 | 9 | 10 => random.below(9),
+        0 => random.below(320),
+        1..=3 => random.below(71),
+        4..=19 => 0,
+        20..=43 => random.below(9),
         _ => random.below(4),
     }
 }

@@ -10,6 +10,9 @@ Inv-loop p letters lengths first count from k₀ k = k ≤ count
 abbrev μ-loop : tie.MeasureT-loop
 μ-loop p letters lengths first count from k₀ k = count - k
 
+returns : tie.Need-returns Inv-loop μ-loop
+returns c = search needs
+
 loop-holds : tie.Need-loop-holds Inv-loop μ-loop
 loop-holds c = search needs
 
@@ -22,8 +25,8 @@ variant-requires c κs = search needs
 end-requires : tie.Need-end-requires Inv-loop μ-loop
 end-requires c κs = search needs
 
-returns : tie.Need-returns Inv-loop μ-loop
-returns c = search needs
+returns-2 : tie.Need-returns-2 Inv-loop μ-loop
+returns-2 c = search needs
 
 add-k : tie.Need-add-k Inv-loop μ-loop
 add-k c = search needs
@@ -34,8 +37,8 @@ loop-less c = search needs
 loop-again : tie.Need-loop-again Inv-loop μ-loop
 loop-again c = search needs
 
-returns-2 : tie.Need-returns-2 Inv-loop μ-loop
-returns-2 c = search needs
+returns-3 : tie.Need-returns-3 Inv-loop μ-loop
+returns-3 c = search needs
 
 pub ends-spec : {M : Type 1} → statement M
 ends-spec =
@@ -43,12 +46,13 @@ ends-spec =
     (tie.spec
     Inv-loop
     μ-loop
+    returns
     loop-holds
     wrapping-add-usize-requires
     variant-requires
     end-requires
-    returns
+    returns-2
     add-k
     loop-less
     loop-again
-    returns-2)
+    returns-3)

@@ -13,6 +13,9 @@ abbrev μ-loop : tie.MeasureT-loop
 none-requires : tie.Need-none-requires Inv-loop μ-loop
 none-requires c κs = search needs
 
+returns : tie.Need-returns Inv-loop μ-loop
+returns c = search needs
+
 loop-holds : tie.Need-loop-holds Inv-loop μ-loop
 loop-holds c = search needs
 
@@ -34,8 +37,8 @@ loop-less c = search needs
 loop-again : tie.Need-loop-again Inv-loop μ-loop
 loop-again c = search needs
 
-returns : tie.Need-returns Inv-loop μ-loop
-returns c = search needs
+returns-2 : tie.Need-returns-2 Inv-loop μ-loop
+returns-2 c = search needs
 
 pub passes-spec : {M : Type 1} → statement M
 passes-spec =
@@ -44,6 +47,7 @@ passes-spec =
     Inv-loop
     μ-loop
     none-requires
+    returns
     loop-holds
     wrapping-add-usize-requires
     variant-requires
@@ -51,4 +55,4 @@ passes-spec =
     add-k
     loop-less
     loop-again
-    returns)
+    returns-2)
