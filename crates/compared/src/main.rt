@@ -1,5 +1,5 @@
-// Compares the library's calls with a third search, an own reader and an own writer, all straight from the definitions, on random texts and
-// on damaged stretches. Prints what was compared and how often, and the first difference of each group.
+// Compares the library's calls with a third search, an own reader and an own writer, all straight from the definitions, on
+// random texts and on damaged stretches. Prints what was compared and how often, and the first difference of each group.
 mod agree;
 mod cards;
 mod damage;

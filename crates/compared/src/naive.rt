@@ -1,5 +1,5 @@
-// The third search, straight from the definition of an occurrence: for each segment where one may start, the lengths that start there are
-// followed to the end of the text. It has neither a table nor a state.
+// The third search, straight from the definition of an occurrence: for each segment where one may start, the lengths that start
+// there are followed to the end of the text. It has neither a table nor a state.
 use crate::lengths::Lengths;
 use crate::parts::count_at;
 use crate::parts::variants_before;

@@ -1,5 +1,5 @@
-// Parts of a text that is given as letters in a row, variant lengths and variant counts. A place behind an end has the byte, length or
-// part that is nothing.
+// Parts of a text that is given as letters in a row, variant lengths and variant counts. A place behind an end has the byte,
+// length or part that is nothing.
 use std::num::wrapping_add_usize;
 use tally::part;
 

@@ -27,7 +27,8 @@ fn bases(kind: Random, random: Random) -> usize {
     }
 }
 
-// Puts the letters of a variant from a place on behind the m bases that are there, up to `wanted`, and tells how many there are then.
+// Puts the letters of a variant from a place on behind the m bases that are there, up to `wanted`, and tells how many there are
+// then.
 fn append(pattern: &mut [u8], m: usize, s: &[u8], from: usize, wanted: usize) -> usize {
     let mut at = m;
     let mut i = from;
@@ -42,7 +43,8 @@ fn append(pattern: &mut [u8], m: usize, s: &[u8], from: usize, wanted: usize) ->
     at
 }
 
-// Spells on with a random variant of a segment, up to `wanted` bases: the whole of it, or from a random place on where it is the first.
+// Spells on with a random variant of a segment, up to `wanted` bases: the whole of it, or from a random place on where it is the
+// first.
 fn read_on(
     letters: &[u8],
     lengths: &[u16],

@@ -1,5 +1,5 @@
-// What a segment does, by the definition of an occurrence: each variant is tried at each length. A segment is its variants' numbers: the
-// first, and how many there are.
+// What a segment does, by the definition of an occurrence: each variant is tried at each length. A segment is its variants'
+// numbers: the first, and how many there are.
 use crate::agree::inside;
 use crate::agree::next;
 use crate::agree::rest;

@@ -1,5 +1,5 @@
-// Runs document 01's examples, and more at the limits of its formats, once each on the proved calls. Prints a line for each group, a
-// line for the first example that differs, and the counts.
+// Runs document 01's examples, and more at the limits of its formats, once each on the proved calls. Prints a line for each
+// group, a line for the first example that differs, and the counts.
 mod again;
 mod bounds;
 mod cards;

@@ -55,8 +55,8 @@ fn with_row(card: Card, q: usize, exit: u64, first: u32) -> Card {
     }
 }
 
-// A card that is to be malformed: on the left of a join, on the right, on both sides, and asked. The left one is refused first, and a
-// state that is none is not asked for.
+// A card that is to be malformed: on the left of a join, on the right, on both sides, and asked. The left one is refused first,
+// and a state that is none is not asked for.
 fn malformed(tally: Tally, sound: Card, card: Card) -> Tally {
     let mut t = refused(tally, card.join(sound), 11, 0);
     t = refused(t, sound.join(card), 11, 1);

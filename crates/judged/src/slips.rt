@@ -12,7 +12,8 @@ fn behind_the_end(tally: Tally) -> Tally {
     marked(t, b"AC", across, b"\x00\x01\x00", 3, 1)
 }
 
-// Dropping what was carried when a segment has an empty variant beside others: ACG in {A}{e,T}{CG}, with the empty one first and last.
+// Dropping what was carried when a segment has an empty variant beside others: ACG in {A}{e,T}{CG}, with the empty one first and
+// last.
 fn beside_the_empty(tally: Tally) -> Tally {
     let first = b"\x03\x00\x01\x01\x00A\x02\x00\x00\x01\x00T\x01\x02\x00CG";
     let t = marked(tally, b"ACG", first, b"\x00\x00\x01", 4, 1);
@@ -49,8 +50,8 @@ fn last_base(tally: Tally) -> Tally {
     )
 }
 
-// Looking only inside variants of m or more letters: GATTA in {GAT}{TACCGAT}{TA} and in {GAT}{TAGAT}{TA}. The middle one has no GATTA
-// inside, but ends one that was carried and starts another.
+// Looking only inside variants of m or more letters: GATTA in {GAT}{TACCGAT}{TA} and in {GAT}{TAGAT}{TA}. The middle one has no
+// GATTA inside, but ends one that was carried and starts another.
 fn long_variants(tally: Tally) -> Tally {
     let longer = b"\x03\x00\x01\x03\x00GAT\x01\x07\x00TACCGAT\x01\x02\x00TA";
     let t = marked(tally, b"GATTA", longer, b"\x00\x01\x01", 12, 2);

@@ -63,7 +63,8 @@ impl Tally {
     // Nothing yet.
     pub const NONE: Tally = Tally { ran: 0, differ: 0 };
 
-    // One answer more, which is to be the wanted one. The first that differs is printed, with its name and a number that tells where.
+    // One answer more, which is to be the wanted one. The first that differs is printed, with its name and a number that tells
+    // where.
     pub fn compare(self, name: &[u8], number: u64, got: Answer, wanted: Answer) -> Tally {
         let ran = wrapping_add_u64(self.ran, 1);
         let differ = self.differ;

@@ -2,8 +2,8 @@
 use crate::counts::Answer;
 use card::Made;
 
-// The answer of a call that makes a card, at row q modulo 64: the row's exit and first end, and the segment count. Beside a refusal all of
-// them are to be 0.
+// The answer of a call that makes a card, at row q modulo 64: the row's exit and first end, and the segment count. Beside a
+// refusal all of them are to be 0.
 pub fn row(answer: Made, q: usize) -> Answer {
     let refusal = answer.refusal;
     let card = answer.card;

@@ -1,4 +1,5 @@
--- `tally::gathering::gather` is safe and ends: the lent slices keep their lengths. The measure is the number of lengths that there is room for.
+-- `tally::gathering::gather` is safe and ends: the lent slices keep their lengths. The measure is the room left for
+-- lengths.
 use Prim.Native.Nat.{_-_}
 use mathlib.Core.Path.{_≡_}
 use lib.ListN.{length}
