@@ -100,7 +100,7 @@ fn asks(tally: Tally) -> Tally {
     t.judge(asked(card, 33), Answer::refused(17, 0))
 }
 
-// The empty card, whose join with another is that one; and the refusals of a pattern and a stretch.
+// The empty card, whose join with another is that one.
 fn empty(tally: Tally) -> Tally {
     let right = back();
     let nothing = Card::empty(b"GATTA");
@@ -109,8 +109,12 @@ fn empty(tally: Tally) -> Tally {
     t = rowed(t, nothing, 5, 0, Card::NONE, 0);
     t = joins(t, nothing.card, right.card, 1, 0, 1, 3);
     t = joins(t, right.card, nothing.card, 1, 0, 1, 3);
-    t = tells(t, nothing.card, 21, 21, Card::NONE);
-    t = refused(t, Card::empty(b""), 1, 0);
+    tells(t, nothing.card, 21, 21, Card::NONE)
+}
+
+// The refusals of a pattern and of a stretch.
+fn refusals(tally: Tally) -> Tally {
+    let mut t = refused(tally, Card::empty(b""), 1, 0);
     t = refused(t, Card::empty(&[b'A'; 65]), 2, 0);
     t = refused(t, Card::empty(b"GANTA"), 3, 2);
     t = refused(t, Card::of(b"", b""), 1, 0);
@@ -121,5 +125,5 @@ fn empty(tally: Tally) -> Tally {
 // `d` is the bytes of D.
 pub fn run(tally: Tally, d: &[u8]) -> Tally {
     let right = back();
-    malformed::run(empty(asks(whole(rows(tally), d))), right.card)
+    malformed::run(refusals(empty(asks(whole(rows(tally), d)))), right.card)
 }

@@ -63,13 +63,17 @@ fn refusals(tally: Tally) -> Tally {
     let mut t = refused(tally, b"", 0, b"", 1, 0);
     t = refused(t, b"AN", 0, b"", 3, 1);
     t = refused(t, b"AC", 0, b"", 17, 0);
-    t = refused(t, b"AC", 5, b"", 17, 0);
-    t = refused(t, b"AC", 3, b"", 5, 0);
+    refused(t, b"AC", 5, b"", 17, 0)
+}
+
+// Those of the segment.
+fn segments(tally: Tally) -> Tally {
+    let mut t = refused(tally, b"AC", 3, b"", 5, 0);
     t = refused(t, b"AC", 3, b"\x00", 6, 0);
     t = refused(t, b"AC", 3, b"\x02\x00\x00\x00\x00", 8, 3);
     refused(t, b"AC", 3, b"\x01\x00\x00A", 9, 3)
 }
 
 pub fn run(tally: Tally) -> Tally {
-    refusals(states(tally))
+    segments(refusals(states(tally)))
 }

@@ -62,21 +62,29 @@ fn rooms(tally: Tally) -> Tally {
     t.judge(roomed(b"ACT", &mut twelve, wanted), Answer::told(11, 0, 0))
 }
 
-// The writes of small texts, and the refusals of a write.
+// The writes of small texts.
 fn small(tally: Tally) -> Tally {
     let mut t = writes(tally, b"", &[], &[], b"\x00\x00");
     t = writes(t, b"", &[0], &[1], b"\x01\x00\x01\x00\x00");
-    t = writes(
+    writes(
         t,
         b"ACGT",
         &[3, 1],
         &[2],
         b"\x01\x00\x02\x03\x00ACG\x01\x00T",
-    );
-    t = refuses(t, b"A", &[1], &[2], 14, 0);
+    )
+}
+
+// Refusal 14: the counts, and the lengths, do not sum up. Refusal 6 at the segment.
+fn sums(tally: Tally) -> Tally {
+    let mut t = refuses(tally, b"A", &[1], &[2], 14, 0);
     t = refuses(t, b"AC", &[1], &[1], 14, 0);
-    t = refuses(t, b"", &[0], &[1, 0], 6, 1);
-    t = refuses(t, b"AN", &[1, 1], &[2], 7, 1);
+    refuses(t, b"", &[0], &[1, 0], 6, 1)
+}
+
+// Refusals 7 and 8, at the letter and at the variant.
+fn letters(tally: Tally) -> Tally {
+    let mut t = refuses(tally, b"AN", &[1, 1], &[2], 7, 1);
     t = refuses(t, b"NN", &[1, 1], &[2], 7, 0);
     refuses(t, b"AA", &[1, 1], &[2], 8, 1)
 }
@@ -118,5 +126,5 @@ fn variants(tally: Tally) -> Tally {
 }
 
 pub fn run(tally: Tally) -> Tally {
-    variants(segments(longest(rooms(small(tally)))))
+    variants(segments(longest(rooms(letters(sums(small(tally)))))))
 }
