@@ -1,7 +1,7 @@
 // Stretches at the limits of their format, checked.
 use crate::hex::refused;
 use crate::hex::sound;
-use crate::tally::Tally;
+use tally::Tally;
 ghost use mathlib.Core.Path.{_≡_};
 ghost use lib.ListN.{length};
 

@@ -1,24 +1,17 @@
 // Document 01's stretches in hex, checked.
-use crate::tally::Answer;
-use crate::tally::Tally;
-use stretch::Checked;
-
-// The answer of a check: segment count and size, or the refusal.
-pub fn checked(bytes: &[u8]) -> Answer {
-    match stretch::check(bytes) {
-        Checked::Sound { segments, size } => Answer::told(segments, size, 0),
-        Checked::Refused(refused) => Answer::refused(refused.number, refused.place),
-    }
-}
+use stretch::check;
+use tally::Answer;
+use tally::Tally;
+use tally::checked;
 
 // A stretch that is to be sound.
 pub fn sound(tally: Tally, bytes: &[u8], segments: usize, size: usize) -> Tally {
-    tally.judge(checked(bytes), Answer::told(segments, size, 0))
+    tally.judge(checked(check(bytes)), Answer::told(segments, size, 0))
 }
 
 // A stretch that is to be refused.
 pub fn refused(tally: Tally, bytes: &[u8], number: u64, place: usize) -> Tally {
-    tally.judge(checked(bytes), Answer::refused(number, place))
+    tally.judge(checked(check(bytes)), Answer::refused(number, place))
 }
 
 pub fn run(tally: Tally) -> Tally {

@@ -1,24 +1,17 @@
 // Document 01's texts, searched by bit-vectors and by border tables.
-use crate::lent::BEFORE;
-use crate::lent::WRONG_BYTES;
-use crate::lent::holds;
-use crate::tally::Answer;
-use crate::tally::Tally;
 use search::Searched;
+use tally::Answer;
+use tally::BEFORE;
+use tally::Tally;
+use tally::WRONG_BYTES;
+use tally::holds;
 
 // The answer of a search: segment count, size and number of ones, or the refusal. `wanted` is what is to stand in the marks.
-fn answered(searched: Searched, marks: &[u8], wanted: &[u8]) -> Answer {
+fn answered(answer: Searched, marks: &[u8], wanted: &[u8]) -> Answer {
     if !holds(marks, wanted) {
         return Answer::refused(WRONG_BYTES, 0);
     }
-    match searched {
-        Searched::Marked {
-            segments,
-            size,
-            ends,
-        } => Answer::told(segments, size, ends),
-        Searched::Refused(refused) => Answer::refused(refused.number, refused.place),
-    }
+    tally::searched(answer)
 }
 
 // Both searches, each of which is to answer and to mark the same.
@@ -32,7 +25,7 @@ fn both(tally: Tally, pattern: &[u8], bytes: &[u8], wanted: &[u8], answer: Answe
 }
 
 // Both searches of a text that is to be marked so.
-fn marked(
+pub fn marked(
     tally: Tally,
     pattern: &[u8],
     bytes: &[u8],
@@ -54,7 +47,7 @@ fn refused(tally: Tally, pattern: &[u8], bytes: &[u8], number: u64, place: usize
     both(tally, pattern, bytes, b"", Answer::refused(number, place))
 }
 
-// The example D and the short ones.
+// The example D and the shortest ones.
 fn texts(tally: Tally, d: &[u8]) -> Tally {
     let d = d;
     let mut t = marked(tally, b"GATTA", d, b"\x00\x00\x01\x01\x01", 20, 3);
@@ -68,15 +61,26 @@ fn texts(tally: Tally, d: &[u8]) -> Tally {
         2,
         1,
     );
-    t = marked(
+    marked(
         t,
         b"AC",
         b"\x03\x00\x01\x01\x00A\x01\x01\x00C\x01\x00\x00",
         b"\x00\x01\x00",
         2,
         1,
+    )
+}
+
+// Those of one letter again and again.
+fn repeats(tally: Tally) -> Tally {
+    let mut t = marked(
+        tally,
+        b"AA",
+        b"\x01\x00\x02\x01\x00A\x00\x00",
+        b"\x00",
+        1,
+        0,
     );
-    t = marked(t, b"AA", b"\x01\x00\x02\x01\x00A\x00\x00", b"\x00", 1, 0);
     let again = b"\x03\x00\x02\x01\x00A\x00\x00\x02\x01\x00A\x00\x00\x02\x01\x00A\x00\x00";
     t = marked(t, b"AA", again, b"\x00\x01\x01", 3, 2);
     marked(
@@ -107,18 +111,22 @@ fn longest(tally: Tally) -> Tally {
     refused(t, &pattern, &bytes, 2, 0)
 }
 
-// The refusals of a pattern, before those of the stretch; the stretch's; nine segments and eight marks.
+// The refusals of a pattern, before those of the stretch, and the stretch's.
 fn refusals(tally: Tally) -> Tally {
     let mut t = refused(tally, b"", b"", 1, 0);
     t = refused(t, b"ANN", b"", 3, 1);
     t = refused(t, b"A", b"", 5, 0);
-    t = refused(t, b"A", b"\x01\x00\x02\x00\x00\x00\x00", 8, 5);
+    refused(t, b"A", b"\x01\x00\x02\x00\x00\x00\x00", 8, 5)
+}
+
+// Nine segments and eight marks.
+fn marks_short(tally: Tally) -> Tally {
     let nine =
         b"\x09\x00\x01\x00\x00\x01\x00\x00\x01\x00\x00\x01\x00\x00\x01\x00\x00\x01\x00\x00\x01\x00\x00\x01\x00\x00\x01\x00\x00";
-    refused(t, b"A", nine, 10, 0)
+    refused(tally, b"A", nine, 10, 0)
 }
 
 // `d` is the bytes of D.
 pub fn run(tally: Tally, d: &[u8]) -> Tally {
-    refusals(longest(texts(tally, d)))
+    marks_short(refusals(longest(repeats(texts(tally, d)))))
 }

@@ -3,12 +3,11 @@ use crate::bounds::most_segments;
 use crate::bounds::most_variants;
 use crate::bounds::words;
 use crate::hex::sound;
-use crate::lent::BEFORE;
-use crate::lent::WRONG_BYTES;
-use crate::lent::holds;
-use crate::tally::Answer;
-use crate::tally::Tally;
-use stretch::Written;
+use tally::Answer;
+use tally::BEFORE;
+use tally::Tally;
+use tally::WRONG_BYTES;
+use tally::holds;
 
 // The answer of a write into 32,768 bytes: how many were written, or the refusal. `wanted` is what is to be written.
 pub fn written(letters: &[u8], lengths: &[u16], counts: &[u8], wanted: &[u8]) -> Answer {
@@ -17,10 +16,7 @@ pub fn written(letters: &[u8], lengths: &[u16], counts: &[u8], wanted: &[u8]) ->
     if !holds(&out, wanted) {
         return Answer::refused(WRONG_BYTES, 0);
     }
-    match answer {
-        Written::Bytes(bytes) => Answer::told(bytes, 0, 0),
-        Written::Refused(refused) => Answer::refused(refused.number, refused.place),
-    }
+    tally::written(answer)
 }
 
 // A write that is to be accepted, and the check of its bytes.
@@ -43,21 +39,52 @@ fn refuses(
     tally.judge(got, Answer::refused(number, place))
 }
 
-// The writes of small texts, and the refusals of a write.
+// The answer of a write of two segments with one variant each, of two letters and of one, into a buffer: they take 11 bytes.
+fn roomed(letters: &[u8], out: &mut [u8], wanted: &[u8]) -> Answer {
+    let answer = stretch::write(letters, &[2, 1], &[1, 1], &mut *out);
+    if !holds(out, wanted) {
+        return Answer::refused(WRONG_BYTES, 0);
+    }
+    tally::written(answer)
+}
+
+// Refusal 15, behind all others: no bytes at all, one too few, as many as are needed, and one more.
+fn rooms(tally: Tally) -> Tally {
+    let mut ten = [BEFORE; 10];
+    let mut eleven = [BEFORE; 11];
+    let mut twelve = [BEFORE; 12];
+    let wanted = b"\x02\x00\x01\x02\x00AC\x01\x01\x00T";
+    let mut t = tally.judge(roomed(b"ACT", &mut [], b""), Answer::refused(15, 0));
+    t = t.judge(roomed(b"ACT", &mut ten, b""), Answer::refused(15, 0));
+    t = t.judge(roomed(b"ACN", &mut ten, b""), Answer::refused(7, 2));
+    t = t.judge(roomed(b"AC", &mut ten, b""), Answer::refused(14, 0));
+    t = t.judge(roomed(b"ACT", &mut eleven, wanted), Answer::told(11, 0, 0));
+    t.judge(roomed(b"ACT", &mut twelve, wanted), Answer::told(11, 0, 0))
+}
+
+// The writes of small texts.
 fn small(tally: Tally) -> Tally {
     let mut t = writes(tally, b"", &[], &[], b"\x00\x00");
     t = writes(t, b"", &[0], &[1], b"\x01\x00\x01\x00\x00");
-    t = writes(
+    writes(
         t,
         b"ACGT",
         &[3, 1],
         &[2],
         b"\x01\x00\x02\x03\x00ACG\x01\x00T",
-    );
-    t = refuses(t, b"A", &[1], &[2], 14, 0);
+    )
+}
+
+// Refusal 14: the counts, and the lengths, do not sum up. Refusal 6 at the segment.
+fn sums(tally: Tally) -> Tally {
+    let mut t = refuses(tally, b"A", &[1], &[2], 14, 0);
     t = refuses(t, b"AC", &[1], &[1], 14, 0);
-    t = refuses(t, b"", &[0], &[1, 0], 6, 1);
-    t = refuses(t, b"AN", &[1, 1], &[2], 7, 1);
+    refuses(t, b"", &[0], &[1, 0], 6, 1)
+}
+
+// Refusals 7 and 8, at the letter and at the variant.
+fn letters(tally: Tally) -> Tally {
+    let mut t = refuses(tally, b"AN", &[1, 1], &[2], 7, 1);
     t = refuses(t, b"NN", &[1, 1], &[2], 7, 0);
     refuses(t, b"AA", &[1, 1], &[2], 8, 1)
 }
@@ -99,5 +126,5 @@ fn variants(tally: Tally) -> Tally {
 }
 
 pub fn run(tally: Tally) -> Tally {
-    variants(segments(longest(small(tally))))
+    variants(segments(longest(rooms(letters(sums(small(tally)))))))
 }
