@@ -20,7 +20,8 @@ pub told-code : {A B : Type 0} (o : Outcome A) (g : A → B) → coded (after o 
 told-code (ok a) g = refl
 told-code (refused n p) g = refl
 
-pub told-left : {A B : Type 0} (o : Outcome A) (g : A → B) (f : B → List ℕ) (d : List ℕ) → leftBy f (after o (λ a. ok (g a))) d ≡ leftBy (λ a. f (g a)) o d
+pub told-left : {A B : Type 0} (o : Outcome A) (g : A → B) (f : B → List ℕ) (d : List ℕ) →
+    leftBy f (after o (λ a. ok (g a))) d ≡ leftBy (λ a. f (g a)) o d
 told-left (ok a) g f d = refl
 told-left (refused n p) g f d = refl
 

@@ -21,10 +21,6 @@ same-bounds x y a b h =
     let q : y ≤ x = h y b .1 (omega arith) in
     omega arith
 
-pub later-least : (n x e : ℕ) → e ≤ none → (e ≤ later n x) ↔ (e ≤ n + x)
-unfolding later
-later-least n x e l = (λ h. omega arith, λ h. omega arith)
-
 pub later-le : (n x : ℕ) → later n x ≤ none
 unfolding later
 later-le n x = omega arith

@@ -32,7 +32,8 @@ marks-length P st [] = refl
 marks-length P st (g ∷ T) = ap suc (marks-length P (next P st g) T)
 
 -- mark j looks at segment j with the state after those before it
-pub mark-at : (P : List ℕ) (st : ℕ) (T : Text) (j : ℕ) → j < length T → getD (marksFrom P st T) j 0 ≡ cond (ends P (run P st (take j T)) (segment T j)) 1 0
+pub mark-at : (P : List ℕ) (st : ℕ) (T : Text) (j : ℕ) → j < length T →
+    getD (marksFrom P st T) j 0 ≡ cond (ends P (run P st (take j T)) (segment T j)) 1 0
 unfolding run marksFrom
 mark-at P st [] j l = absurd (let z : ⊥ = omega arith in z)
 mark-at P st (g ∷ T) zero l = refl
@@ -42,7 +43,8 @@ marked : (b : Bool) → _≡_ {A = ℕ} (cond b 1 0) 1 → b ≡ true
 marked true e = refl
 marked false e = absurd (let z : ⊥ = omega arith in z)
 
-pub mark-ends : (P : List ℕ) (st : ℕ) (T : Text) (j : ℕ) → getD (marksFrom P st T) j 0 ≡ 1 → (j < length T) × (ends P (run P st (take j T)) (segment T j) ≡ true)
+pub mark-ends : (P : List ℕ) (st : ℕ) (T : Text) (j : ℕ) → getD (marksFrom P st T) j 0 ≡ 1 →
+    (j < length T) × (ends P (run P st (take j T)) (segment T j) ≡ true)
 mark-ends P st T j e =
     by-cases (decLt j (length T))
     (λ (l : j < length T). (l, marked (ends P (run P st (take j T)) (segment T j)) (sym (mark-at P st T j l) ∙ e)))

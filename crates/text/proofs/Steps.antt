@@ -71,7 +71,8 @@ pub data From (P : List ℕ) (st : ℕ) (A : Type 0) (B : ℕ → Type 0) : Type
   afresh : bit st 0 ≡ true → A → From P st A B
   carrying : (q : ℕ) → Carries P st q → B q → From P st A B
 
-pub from-map : (P : List ℕ) (st : ℕ) {A C : Type 0} {B D : ℕ → Type 0} → (A → C) → ((q : ℕ) → Carries P st q → B q → D q) → From P st A B → From P st C D
+pub from-map : (P : List ℕ) (st : ℕ) {A C : Type 0} {B D : ℕ → Type 0} → (A → C) → ((q : ℕ) → Carries P st q → B q → D q) → From P st A B →
+    From P st C D
 from-map P st f g (afresh e a) = afresh e (f a)
 from-map P st f g (carrying q c b) = carrying q c (g q c b)
 

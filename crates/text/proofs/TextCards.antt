@@ -39,13 +39,15 @@ ran-append P st T U = λ i. record { exit = run-append P st T U i; first = ends 
     ends = rw (marks-append, firstEnd-append, marks-length)
 
 -- what a card's rows make of a state is what running the text makes of it
-pub follow-text : (P : List ℕ) (st : ℕ) (T : Text) → 0 < length P → length P ≤ greatestPattern → st < 2 ^ length P → follow (length P) (cardOf P T .rows) st ≡ ran P st T
+pub follow-text : (P : List ℕ) (st : ℕ) (T : Text) → 0 < length P → length P ≤ greatestPattern → st < 2 ^ length P →
+    follow (length P) (cardOf P T .rows) st ≡ ran P st T
 unfolding cardOf ran
 follow-text P st T some short small =
     follow-rowsOf (length P) (λ q. ran P (2 ^ q) T) st short ∙ λ i. record { exit = run-linear P st T some small i; first = first-linear P st T some i }
 
 -- rows sent through a map that keeps dead rows dead
-map-rowsOf : (m : ℕ) (f g : ℕ → Row) (h : Row → Row) → m ≤ greatestPattern → h dead ≡ dead → ((q : ℕ) → q < m → h (f q) ≡ g q) → map h (rowsOf m f) ≡ rowsOf m g
+map-rowsOf : (m : ℕ) (f g : ℕ → Row) (h : Row → Row) → m ≤ greatestPattern → h dead ≡ dead → ((q : ℕ) → q < m → h (f q) ≡ g q) →
+    map h (rowsOf m f) ≡ rowsOf m g
 map-rowsOf m f g h short kept e =
     ext-getD dead (map h (rowsOf m f)) (rowsOf m g)
     (length-map (rowsOf m f) h ∙ length-rowsOf m f ∙ sym (length-rowsOf m g))
@@ -162,7 +164,8 @@ module _ (P : List ℕ) (T : Text) (s : SoundPattern P) where
       rw (well (cardOf P T) .1 (card-well long), e) (ap ok (follow-text P st T (s .some) (s .short) small))
 
 -- joining the cards of two texts gives the card of the texts end to end
-pub join-text : (P : List ℕ) (T U : Text) → SoundPattern P → length T + length U ≤ mostSegments → join (cardOf P T) (cardOf P U) ≡ ok (cardOf P (T ++ U))
+pub join-text : (P : List ℕ) (T U : Text) → SoundPattern P → length T + length U ≤ mostSegments →
+    join (cardOf P T) (cardOf P U) ≡ ok (cardOf P (T ++ U))
 unfolding cardOf
 join-text P T U s long =
     join-ok (cardOf P T) (cardOf P U)

@@ -11,7 +11,8 @@ enum-known-wrong : tie.Need-enum-known-wrong
 enum-known-wrong c = search needs
 
 code-requires : tie.Need-code-requires
-code-requires c κs = fed-fits _ _ _ (c .before .before .before .before .before .before .before .args .block .now) _ (c .before .before .before .feed .ensures) _ (c .before .wrong .given .1)
+code-requires c κs =
+    fed-fits _ _ _ (c .before .before .before .before .before .before .before .args .block .now) _ (c .before .before .before .feed .ensures) _ (c .before .wrong .given .1)
 
 enum-known-after : tie.Need-enum-known-after
 enum-known-after c = search needs

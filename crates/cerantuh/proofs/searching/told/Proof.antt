@@ -8,7 +8,8 @@ enum-known-searched : tie.Need-enum-known-searched
 enum-known-searched c = search needs
 
 code-requires : tie.Need-code-requires
-code-requires c κs = told-fits _ (c .before .before .before .before .args .block .now) _ (c .before .searched .given .1) (c .before .before .before .before .pre .1)
+code-requires c κs =
+    told-fits _ (c .before .before .before .before .args .block .now) _ (c .before .searched .given .1) (c .before .before .before .before .pre .1)
 
 enum-known-searched-2 : tie.Need-enum-known-searched-2
 enum-known-searched-2 c = search needs

@@ -7,7 +7,8 @@ use Rattle.compared.proofs.texts.add_segment.Statement.{statement}
 use Rattle.compared.proofs.texts.add_segment.Tie as tie
 
 abbrev Inv-loop : tie.InvT-loop
-Inv-loop letters₀ lengths₀ counts alphabet first tries making₀ i₀ letters lengths making i = (length letters ≡ length letters₀) × (length lengths ≡ length lengths₀)
+Inv-loop letters₀ lengths₀ counts alphabet first tries making₀ i₀ letters lengths making i =
+    (length letters ≡ length letters₀) × (length lengths ≡ length lengths₀)
 
 abbrev μ-loop : tie.MeasureT-loop
 μ-loop letters₀ lengths₀ counts alphabet first tries making₀ i₀ letters lengths making i = tries - i

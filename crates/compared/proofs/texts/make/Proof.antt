@@ -7,7 +7,8 @@ use Rattle.compared.proofs.texts.make.Statement.{statement}
 use Rattle.compared.proofs.texts.make.Tie as tie
 
 abbrev Inv-loop : tie.InvT-loop
-Inv-loop letters₀ lengths₀ counts₀ alphabet segments making₀ i₀ letters lengths counts making i = (length letters ≡ length letters₀) × (length lengths ≡ length lengths₀) × (length counts ≡ length counts₀)
+Inv-loop letters₀ lengths₀ counts₀ alphabet segments making₀ i₀ letters lengths counts making i =
+    (length letters ≡ length letters₀) × (length lengths ≡ length lengths₀) × (length counts ≡ length counts₀)
 
 abbrev μ-loop : tie.MeasureT-loop
 μ-loop letters₀ lengths₀ counts₀ alphabet segments making₀ i₀ letters lengths counts making i = segments - i

@@ -8,7 +8,8 @@ use Rattle.tally.proofs.gathering.gather.Statement.{statement}
 use Rattle.tally.proofs.gathering.gather.Tie as tie
 
 abbrev Inv-loop : tie.InvT-loop
-Inv-loop bytes letters₀ lengths₀ counts₀ place₀ turns₀ letters lengths counts place turns = (length letters ≡ length letters₀) × (length lengths ≡ length lengths₀) × (length counts ≡ length counts₀)
+Inv-loop bytes letters₀ lengths₀ counts₀ place₀ turns₀ letters lengths counts place turns =
+    (length letters ≡ length letters₀) × (length lengths ≡ length lengths₀) × (length counts ≡ length counts₀)
 
 abbrev μ-loop : tie.MeasureT-loop
 μ-loop bytes letters₀ lengths₀ counts₀ place₀ turns₀ letters lengths counts place turns = length lengths₀ - turns
