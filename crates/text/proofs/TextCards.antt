@@ -10,9 +10,8 @@ use mathlib.Core.Bool.{true}
 use mathlib.Core.List.{List, [], _++_, map}
 use borrow.Author.Tests.{ltb-true}
 use lib.Dec.{ltb}
-use lib.ListN.{length, getD, length-append, length-map}
+use lib.ListN.{length, getD, length-append}
 use lib.Pow.{pow-lt}
-use lib.Seq.{ext-getD}
 use Rattle.text.specs.Text.{Text}
 use Rattle.text.specs.Occurrence.{EndsIn, Passes, Finishes}
 use Rattle.text.specs.Bits.{bit}
@@ -26,7 +25,7 @@ use Rattle.text.proofs.Steps.{Carries, afresh, carrying}
 use Rattle.text.proofs.Runs.{Begun, run-open, run-lt, run-is, is-run}
 use Rattle.text.proofs.Marks.{run-append, marks-append, marks-length, mark-is, is-mark}
 use Rattle.text.proofs.Ends.{firstEnd-le, firstEnd-append, firstEnd-least, firstEnd-mark, firstEnd-end}
-use Rattle.text.proofs.Rows.{through-dead, row-map, length-rowsOf, rowsOf-below, rowsOf-from, follow-rowsOf}
+use Rattle.text.proofs.Rows.{through-dead, map-rows, length-rowsOf, rowsOf-below, rowsOf-from, follow-rowsOf}
 use Rattle.text.proofs.Cards.{LiveRow, WellFormed, well, join-ok, take-padded}
 use Rattle.text.proofs.Linear.{run-linear, first-linear, lone-fresh, lone-carried}
 
@@ -49,9 +48,7 @@ follow-text P st T some short small =
 map-rowsOf : (m : ℕ) (f g : ℕ → Row) (h : Row → Row) → m ≤ greatestPattern → h dead ≡ dead → ((q : ℕ) → q < m → h (f q) ≡ g q) →
     map h (rowsOf m f) ≡ rowsOf m g
 map-rowsOf m f g h short kept e =
-    ext-getD dead (map h (rowsOf m f)) (rowsOf m g)
-    (length-map (rowsOf m f) h ∙ length-rowsOf m f ∙ sym (length-rowsOf m g))
-    (λ q l. row-map h (rowsOf m f) q kept ∙ each q)
+    map-rows h (rowsOf m f) (rowsOf m g) kept (length-rowsOf m f ∙ sym (length-rowsOf m g)) each
   where
     each : (q : ℕ) → h (row (rowsOf m f) q) ≡ row (rowsOf m g) q
     each q =
