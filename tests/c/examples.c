@@ -14,21 +14,14 @@ static struct call call_of(const char *pattern)
     return call;
 }
 
-/* The segments of the text, one by one, from the fresh state on. The marks must be those written; if states are written, the
-   states too. */
+/* The segments of the text, one by one. The marks must be those written; if states are written, the states too. */
 static void feed_all(const struct call *search, const char *marks, const uint64_t *states)
 {
-    static struct expected expected;
-    struct call call = *search;
-    call.block_len = 16;
+    static struct fed fed[MOST_SEGMENTS];
+    try_feeds(search, &made, fed);
     for (size_t j = 0; j < made.segment_count; j++) {
-        call.bytes = made.bytes + made.segment_at[j];
-        call.len = made.segment_at[j + 1] - made.segment_at[j];
-        try_call(FEED, &call);
-        call_expect(FEED, &call, &expected);
-        tally_check(expected.results[1] == (uint64_t)(marks[j] - '0'), "a fed segment's end is not the one written here");
-        tally_check(states == NULL || expected.results[0] == states[j], "a state is not the one written here");
-        call.state = expected.results[0];
+        tally_check(fed[j].ends == (uint64_t)(marks[j] - '0'), "a fed segment's end is not the one written here");
+        tally_check(states == NULL || fed[j].state == states[j], "a state is not the one written here");
     }
 }
 

@@ -11,19 +11,13 @@ enum { TEXTS = 4000, DAMAGED = 8000, FEEDS = 8000 };
 static struct made made, other;
 static uint8_t pattern[MOST_BASES];
 
-/* The segments from the fresh state on, each with the state that the one before gave. Their ends must be the search's marks. */
+/* The segments from the fresh state on. Their ends must be the search's marks. */
 static void feed_all(const struct call *search, const uint8_t *marks)
 {
-    static struct expected expected;
-    struct call call = *search;
-    call.block_len = 16;
+    static struct fed fed[MOST_SEGMENTS];
+    try_feeds(search, &made, fed);
     for (size_t j = 0; j < made.segment_count; j++) {
-        call.bytes = made.bytes + made.segment_at[j];
-        call.len = made.segment_at[j + 1] - made.segment_at[j];
-        try_call(FEED, &call);
-        call_expect(FEED, &call, &expected);
-        tally_check(expected.results[1] == marks[j], "fed segments end other occurrences than the search marks");
-        call.state = expected.results[0];
+        tally_check(fed[j].ends == marks[j], "fed segments end other occurrences than the search marks");
     }
 }
 

@@ -78,6 +78,21 @@ void try_searches(const struct call *call)
     try_call(SEARCH_BORDERS, call);
 }
 
+void try_feeds(const struct call *search, const struct made *made, struct fed fed[MOST_SEGMENTS])
+{
+    static struct expected expected;
+    struct call call = *search;
+    call.block_len = 16;
+    for (size_t j = 0; j < made->segment_count; j++) {
+        call.bytes = made->bytes + made->segment_at[j];
+        call.len = made->segment_at[j + 1] - made->segment_at[j];
+        try_call(FEED, &call);
+        call_expect(FEED, &call, &expected);
+        fed[j] = (struct fed){expected.results[0], expected.results[1]};
+        call.state = fed[j].state;
+    }
+}
+
 void try_refusal(enum form form, const struct call *call, uint64_t number, uint64_t place)
 {
     tally_check(try_call(form, call) == number + 256 * place, "the reference does not give the refusal that is written here");

@@ -3,6 +3,7 @@
 #define TALLY_H
 
 #include "calls.h"
+#include "making.h"
 
 void tally_group(const char *name);
 void tally_test(const char *format, ...);
@@ -15,7 +16,14 @@ int tally_end(void);
 uint64_t try_call(enum form form, const struct call *call);
 void try_searches(const struct call *call);
 
-/* The same of a call that is known to be refused so. */
+/* Feeds the segments of a text one by one, the first with the search's state, each other with the state that the one before gave.
+   Tells the state behind each of them and whether an occurrence ends there. */
+struct fed {
+    uint64_t state, ends;
+};
+void try_feeds(const struct call *search, const struct made *made, struct fed fed[MOST_SEGMENTS]);
+
+/* A call that is known to be refused so. */
 void try_refusal(enum form form, const struct call *call, uint64_t number, uint64_t place);
 
 #endif
