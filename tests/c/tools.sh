@@ -47,7 +47,11 @@ find_tools() {
 # Proves and builds the C forms, unless the archive is newer than every crate.
 library=target/staticlib/libcerantuh.a
 build_library() {
-    is_new "$library" || rt staticlib cerantuh
+    is_new "$library" && return 0
+    rt staticlib cerantuh >target/c/library.log 2>&1 || {
+        cat target/c/library.log
+        return 1
+    }
 }
 
 flags='-std=c11 -O2 -Wall -Wextra -Iinclude -Itests/c'
