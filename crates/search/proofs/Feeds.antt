@@ -1,25 +1,60 @@
 -- What a feed answers, from the tests that lead there.
-use Prim.Native.Nat.{ℕ, _-_, _/_, _%_, _^_, _≤_, _<_}
+use Prim.Native.Nat.{ℕ, _+_, _-_, _/_, _%_, _^_, _≤_, _<_}
 use native.Mathlib.Omega.{arith}
-use mathlib.Core.Path.{_≡_, ap, ap₂, _∙_}
-use mathlib.Core.Bool.{Bool, true, false, _&&_}
-use mathlib.Core.List.{List}
+use mathlib.Core.Path.{_≡_, refl, ap, ap₂, _∙_}
+use mathlib.Core.Bool.{Bool, true, false, not, _&&_, cond}
+use mathlib.Core.List.{List, [], _∷_}
 use borrow.Author.Tests.{le-leb, lt-leb, lt-ltb, le-ltb, eq-eqb, ne-eqb}
 use lib.Dec.{eqb, ltb}
 use lib.ListN.{length}
 use lib.Pow.{pow-pos}
+use Rattle.text.specs.Text.{Segment, Text, total}
 use Rattle.text.specs.Bits.{bit}
-use Rattle.text.specs.State.{isState, next, ends}
-use Rattle.text.specs.Refusal.{ok, refused, pattern}
+use Rattle.text.specs.State.{isState, next, ends, run, marksFrom}
+use Rattle.text.specs.Refusal.{ok, refused, after, pattern}
 use Rattle.text.proofs.Truth.{and-false, and-both}
 use Rattle.text.proofs.Bits.{bit-first}
+use Rattle.text.proofs.Outcomes.{told-met, told-refused}
 use Rattle.text.proofs.Patterns.{SoundPattern, pattern-refused, sound-pattern}
 use Rattle.stretch.specs.Bytes.{greatestStretch}
-use Rattle.stretch.specs.Reading.{loneSegment}
-use Rattle.search.specs.Step.{segmentPass}
-use Rattle.search.specs.Answers.{feeding}
+use Rattle.stretch.specs.Reading.{Taken, many, segmentAt, loneSegment}
+use Rattle.search.specs.Answers.{Course, courseOf, feeding}
 use Rattle.search.proofs.Vectors.{low-ones}
-use Rattle.search.proofs.Passes.{Stepped, segment-met, segment-not}
+
+-- the segment that a run over one segment has read
+record Lone (P s : List ℕ) (st behind bits ones : ℕ) : Type 0 where
+  segment : Segment
+  read : segmentAt s 0 ≡ ok (record { value = segment; next = behind })
+  state : next P st segment ≡ bits
+  end : ends P st segment ≡ not (eqb ones 0)
+
+module _ (P s : List ℕ) (st : ℕ) where
+  alone : Taken Segment ℕ → Taken Text ℕ
+  alone x = record { value = x .value ∷ []; next = x .next }
+
+  lone-not : (j p : ℕ) → after (many (λ _. segmentAt s) 1 [] 0) (λ x. ok (courseOf P st x)) ≡ refused j p → segmentAt s 0 ≡ refused j p
+  unfolding many alone
+  lone-not j p e = told-refused (segmentAt s 0) alone j p (told-refused (many (λ _. segmentAt s) 1 [] 0) (courseOf P st) j p e)
+
+  lone-met : (behind size bits ones : ℕ)
+      → after (many (λ _. segmentAt s) 1 [] 0) (λ x. ok (courseOf P st x)) ≡ ok (record { next = behind; size = size; state = bits; ends = ones })
+      → Lone P s st behind bits ones
+  unfolding many alone courseOf run marksFrom total
+  lone-met behind size bits ones e =
+      let m = told-met (many (λ _. segmentAt s) 1 [] 0) (courseOf P st) (record { next = behind; size = size; state = bits; ends = ones }) e in
+      let x = told-met (segmentAt s 0) alone (m .0) (m .1) in
+      let all = ap (courseOf P st) (x .2) ∙ m .2 in
+      let one : cond (ends P st (x .0 .value)) 1 0 + 0 ≡ ones = ap (λ (c : Course). c .ends) all in
+      record {
+        segment = x .0 .value;
+        read = x .1 ∙ ap (λ (n : ℕ). ok (record { value = x .0 .value; next = n })) (ap (λ (c : Course). c .next) all);
+        state = ap (λ (c : Course). c .state) all;
+        end = counts (ends P st (x .0 .value)) ∙ ap (λ (n : ℕ). not (eqb n 0)) one;
+      }
+    where
+      counts : (b : Bool) → b ≡ not (eqb (cond b 1 0 + 0) 0)
+      counts true = refl
+      counts false = refl
 
 module _ (P s : List ℕ) (st : ℕ) where
   pub fed-pattern : (j p : ℕ) → pattern P (ok (tt {0})) ≡ refused j p → feeding P st s ≡ refused j p
@@ -62,21 +97,20 @@ module _ (P s : List ℕ) (st : ℕ) where
               let one : st % 2 ≡ 1 = omega (arith, odd) in
               and-both (bit st 0) (ltb st (2 ^ length P)) (bit-first st ∙ ap (λ (n : ℕ). eqb n 1) one) (lt-ltb st (2 ^ length P) fed-small)
 
-          pub fed-refused : (j p : ℕ) → segmentPass P st s 0 ≡ refused j p → feeding P st s ≡ refused j p
+          pub fed-refused : (j p : ℕ) → after (many (λ _. segmentAt s) 1 [] 0) (λ x. ok (courseOf P st x)) ≡ refused j p → feeding P st s ≡ refused j p
           unfolding feeding loneSegment
-          fed-refused j p e =
-              sound-pattern P y _ ∙ rw (le-leb (length s) greatestStretch short, state, segment-not P st s 0 j p e)
+          fed-refused j p e = sound-pattern P y _ ∙ rw (le-leb (length s) greatestStretch short, state, lone-not P s st j p e)
 
-          module _ (behind size bits : ℕ) (hit : Bool)
-              (e : segmentPass P st s 0 ≡ ok (record { next = behind; size = size; state = bits; ends = hit })) where
-            met : Stepped P st s 0 behind size bits hit
-            met = segment-met P st s 0 behind size bits hit e
+          module _ (behind size bits hits : ℕ)
+              (e : after (many (λ _. segmentAt s) 1 [] 0) (λ x. ok (courseOf P st x)) ≡ ok (record { next = behind; size = size; state = bits; ends = hits })) where
+            met : Lone P s st behind bits hits
+            met = lone-met P s st behind size bits hits e
 
             pub fed-left : (behind ≡ length s → ⊥) → feeding P st s ≡ refused 9 behind
             unfolding feeding loneSegment
             fed-left l = sound-pattern P y _ ∙ rw (le-leb (length s) greatestStretch short, state, met .read, ne-eqb behind (length s) l)
 
-            pub fed-next : behind ≡ length s → feeding P st s ≡ ok (record { state = bits; ends = hit })
+            pub fed-next : behind ≡ length s → feeding P st s ≡ ok (record { state = bits; ends = not (eqb hits 0) })
             unfolding feeding loneSegment
             fed-next l =
                 sound-pattern P y _

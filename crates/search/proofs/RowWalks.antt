@@ -69,7 +69,7 @@ module _ (P : List ℕ) (t : Text) (exits firsts : List ℕ) (some : 0 < length 
 pub record Rowing (P s exits firsts : List ℕ) (live at k : ℕ) : Type 0 where
   pub seen : Text
   pub size : ℕ
-  pub sum : InStretch s k seen at size
+  pub sum : InStretch s 2 k seen at size
   pub far : 2 + 3 * k ≤ at
   pub rows : Rowed P seen exits firsts
   pub covers : Covers (length P) live exits
@@ -91,7 +91,7 @@ module _ (P s exits firsts : List ℕ) (some : 0 < length P) (short : length P �
       (record {
         seen = [];
         size = 0;
-        sum = through-none s l;
+        sum = through-none s 2 l;
         far = omega arith;
         rows = w;
         covers = record { full = w .states; each = covered };
@@ -107,7 +107,7 @@ module _ (P s exits firsts : List ℕ) (some : 0 < length P) (short : length P �
 
 module _ (P s exits firsts : List ℕ) (live at k : ℕ) (q : Rowing P s exits firsts live at k) where
   pub rowing-refused : (n : ℕ) → k < n → (j p : ℕ) → segmentPass P (getD exits 0 0) s at ≡ refused j p → many (λ _. segmentAt s) n [] 2 ≡ refused j p
-  rowing-refused n l j p e = through-refused s k (q .seen) at (q .size) (q .sum) n l j p (segment-not P (getD exits 0 0) s at j p e)
+  rowing-refused n l j p e = through-refused s 2 k (q .seen) at (q .size) (q .sum) n l j p (segment-not P (getD exits 0 0) s at j p e)
 
   module _ (behind more bits : ℕ) (hit : Bool)
       (e : segmentPass P (getD exits 0 0) s at ≡ ok (record { next = behind; size = more; state = bits; ends = hit })) where
@@ -121,9 +121,9 @@ module _ (P s exits firsts : List ℕ) (live at k : ℕ) (q : Rowing P s exits f
     unfolding g
     rowing-sound = record { read = record { value = g; next = behind }; is = met .read }
 
-    further : InStretch s (k + 1) (q .seen ++ (g ∷ [])) behind (q .size + more)
+    further : InStretch s 2 (k + 1) (q .seen ++ (g ∷ [])) behind (q .size + more)
     unfolding g
-    further = through-more s k (q .seen) at (q .size) (q .sum) g behind more (met .read) (met .size)
+    further = through-more s 2 k (q .seen) at (q .size) (q .sum) g behind more (met .read) (met .size)
 
     three : at + 3 ≤ behind
     unfolding g
@@ -213,8 +213,8 @@ module _ (s : List ℕ) where
   pub rows-not : (P : List ℕ) (j p : ℕ) (exits firsts : List ℕ) → stretchOf s ≡ refused j p → RowsOf P (stretchOf s) exits firsts
   rows-not P j p exits firsts e t h = absurd (refused-ok j p t (sym e ∙ h))
 
-  pub through-all : (t : Text) (n : ℕ) → stretchOf s ≡ ok t → length t ≡ n → after (stretchOf s) (λ t. ok (length t)) ≡ ok n
-  through-all t n e count = rw e (ap ok count)
+  pub through-count : (t : Text) (n : ℕ) → stretchOf s ≡ ok t → length t ≡ n → after (stretchOf s) (λ t. ok (length t)) ≡ ok n
+  through-count t n e count = rw e (ap ok count)
 
   pub rows-all : (P : List ℕ) (t : Text) (exits firsts : List ℕ) → stretchOf s ≡ ok t → Rowed P t exits firsts → RowsOf P (stretchOf s) exits firsts
   rows-all P t exits firsts e w u h = subst (λ (x : Text). Rowed P x exits firsts) (ok-inj (sym e ∙ h)) w

@@ -1,5 +1,4 @@
--- The walk of a search over the segments of a stretch: state, marks and number of ones are those of the segments read; and what a
--- search answers.
+-- The run of a search over segments: state, marks and number of ones are those of the segments read; and what a search answers.
 use Prim.Native.Nat.{ℕ, _+_, _*_, _^_, _≤_, _<_}
 use native.Mathlib.Numerals.{add-one}
 use native.Mathlib.Omega.{arith}
@@ -20,12 +19,13 @@ use Rattle.text.proofs.Patterns.{pattern-refused, pattern-sound, sound-pattern}
 use Rattle.text.proofs.Marks.{marks-length}
 use Rattle.text.proofs.Runs.{run-lt}
 use Rattle.text.proofs.Folds.{run-snoc, marks-snoc}
-use Rattle.stretch.specs.Bytes.{greatestStretch, over}
-use Rattle.stretch.specs.Reading.{segmentAt, many, stretchOf}
-use Rattle.stretch.proofs.Stretches.{InStretch, through-none, through-more, through-refused, segment-bytes}
+use Rattle.stretch.specs.Bytes.{over}
+use Rattle.stretch.specs.Reading.{Taken, segmentAt, many, stretchOf}
+use Rattle.stretch.proofs.Walks.{walk-length}
+use Rattle.stretch.proofs.Stretches.{InStretch, through-none, through-more, through-refused, through-all, segment-bytes}
 use Rattle.stretch.specs.Answers.{leftBy}
 use Rattle.search.specs.Step.{segmentPass}
-use Rattle.search.specs.Answers.{Sums, sumsOf, Marks, Roomy, stretchInto, searching}
+use Rattle.search.specs.Answers.{Course, courseOf, MarksFrom, RoomyFrom, Sums, sumsOf, Marks, stretchInto, searching}
 use Rattle.search.proofs.Passes.{Stepped, segment-met, segment-not}
 
 -- a mark as the code writes it
@@ -33,22 +33,22 @@ pub byte-mark : (b : Bool) → boolByte b ≡ cond b 1 0
 byte-mark true = refl
 byte-mark false = refl
 
--- k segments have been searched
-pub record Searching (P s buffer : List ℕ) (k at size ends st : ℕ) : Type 0 where
+-- k segments from `from` on have been searched, from the state st on
+pub record Searching (P : List ℕ) (st : ℕ) (s : List ℕ) (from : ℕ) (buffer : List ℕ) (k at size ends bits : ℕ) : Type 0 where
   pub seen : Text
-  pub sum : InStretch s k seen at size
-  pub far : 2 + 3 * k ≤ at
-  pub state : st ≡ run P fresh seen
-  pub marked : take k buffer ≡ marks P seen
-  pub ones : ends ≡ total (λ x. x) (marks P seen)
+  pub sum : InStretch s from k seen at size
+  pub far : from + 3 * k ≤ at
+  pub state : bits ≡ run P st seen
+  pub marked : take k buffer ≡ marksFrom P st seen
+  pub ones : ends ≡ total (λ x. x) (marksFrom P st seen)
   pub few : ends ≤ k
 
-pub searching-none : (P s buffer : List ℕ) → 2 ≤ length s → Searching P s buffer 0 2 0 0 1
-unfolding run marks marksFrom total
-searching-none P s buffer l =
+pub searching-none : (P : List ℕ) (st : ℕ) (s : List ℕ) (from : ℕ) (buffer : List ℕ) → from ≤ length s → Searching P st s from buffer 0 from 0 0 st
+unfolding run marksFrom total
+searching-none P st s from buffer l =
     record {
       seen = [];
-      sum = through-none s l;
+      sum = through-none s from l;
       far = omega arith;
       state = refl;
       marked = refl;
@@ -56,36 +56,37 @@ searching-none P s buffer l =
       few = omega arith;
     }
 
-module _ (P s buffer : List ℕ) (k at size ones st : ℕ) (q : Searching P s buffer k at size ones st) where
+module _ (P : List ℕ) (st : ℕ) (s : List ℕ) (from : ℕ) (buffer : List ℕ) (k at size ones bits : ℕ)
+    (q : Searching P st s from buffer k at size ones bits) where
   -- the state is one of the pattern's
-  pub searching-small : 0 < length P → st < 2 ^ length P
-  searching-small some = rw (q .state) (run-lt P fresh (q .seen) (pow-lt some))
+  pub searching-small : st < 2 ^ length P → bits < 2 ^ length P
+  searching-small small = rw (q .state) (run-lt P st (q .seen) small)
 
-  module _ (behind more bits : ℕ) (hit : Bool)
-      (e : segmentPass P st s at ≡ ok (record { next = behind; size = more; state = bits; ends = hit })) (short : length s ≤ greatestStretch) where
-    met : Stepped P st s at behind more bits hit
-    met = segment-met P st s at behind more bits hit e
+  module _ (behind more reached : ℕ) (hit : Bool)
+      (e : segmentPass P bits s at ≡ ok (record { next = behind; size = more; state = reached; ends = hit })) where
+    met : Stepped P bits s at behind more reached hit
+    met = segment-met P bits s at behind more reached hit e
 
     g : Segment
     g = met .segment
 
-    further : InStretch s (k + 1) (q .seen ++ (g ∷ [])) behind (size + more)
+    further : InStretch s from (k + 1) (q .seen ++ (g ∷ [])) behind (size + more)
     unfolding g
-    further = through-more s k (q .seen) at size (q .sum) g behind more (met .read) (met .size)
+    further = through-more s from k (q .seen) at size (q .sum) g behind more (met .read) (met .size)
 
     three : at + 3 ≤ behind
     unfolding g
     three = segment-bytes s at (record { value = g; next = behind }) (met .read)
 
-    -- there is room for its mark
-    pub searching-room : Roomy s buffer → k < length buffer
-    searching-room roomy = omega (arith, three, q .far, further .inside)
-
-    marks-more : marks P (q .seen ++ (g ∷ [])) ≡ marks P (q .seen) ++ (cond hit 1 0 ∷ [])
-    unfolding marks g
+    marks-more : marksFrom P st (q .seen ++ (g ∷ [])) ≡ marksFrom P st (q .seen) ++ (cond hit 1 0 ∷ [])
+    unfolding g
     marks-more =
-        marks-snoc P fresh (q .seen) g
-        ∙ ap (λ (b : Bool). marksFrom P fresh (q .seen) ++ (cond b 1 0 ∷ [])) (ap (λ (n : ℕ). ends P n g) (sym (q .state)) ∙ met .end)
+        marks-snoc P st (q .seen) g
+        ∙ ap (λ (b : Bool). marksFrom P st (q .seen) ++ (cond b 1 0 ∷ [])) (ap (λ (n : ℕ). ends P n g) (sym (q .state)) ∙ met .end)
+
+    -- there is room for its mark
+    pub searching-room : (n : ℕ) → k < n → RoomyFrom s from n buffer → k < length buffer
+    searching-room n l roomy = omega (arith, three, q .far, further .inside)
 
     -- the mark that the code writes for the segment
     module _ (mark : ℕ) (is : mark ≡ cond hit 1 0) where
@@ -96,23 +97,42 @@ module _ (P s buffer : List ℕ) (k at size ones st : ℕ) (q : Searching P s bu
           one-more true = omega (arith, q .few)
           one-more false = omega (arith, q .few)
 
-      pub searching-more : Roomy s buffer → Searching P s (set buffer k mark) (k + 1) behind (size + more) (ones + mark) bits
+      pub searching-more : k < length buffer → Searching P st s from (set buffer k mark) (k + 1) behind (size + more) (ones + mark) reached
       unfolding g
-      searching-more roomy =
+      searching-more room =
           record {
             seen = q .seen ++ (g ∷ []);
             sum = further;
             far = omega (arith, three, q .far);
-            state = sym (met .state) ∙ ap (λ (n : ℕ). next P n g) (q .state) ∙ sym (run-snoc P fresh (q .seen) g);
-            marked =
-                rw add-one (take-suc-set buffer k mark (searching-room roomy)) ∙ ap₂ (λ (l : List ℕ) (x : ℕ). l ++ (x ∷ [])) (q .marked) is ∙ sym marks-more;
+            state = sym (met .state) ∙ ap (λ (n : ℕ). next P n g) (q .state) ∙ sym (run-snoc P st (q .seen) g);
+            marked = rw add-one (take-suc-set buffer k mark room) ∙ ap₂ (λ (l : List ℕ) (x : ℕ). l ++ (x ∷ [])) (q .marked) is ∙ sym marks-more;
             ones =
-                ap₂ _+_ (q .ones) is ∙ sym (ap (total (λ x. x)) marks-more ∙ total-snoc (λ x. x) (marks P (q .seen)) (cond hit 1 0));
+                ap₂ _+_ (q .ones) is
+                ∙ sym (ap (total (λ x. x)) marks-more ∙ total-snoc (λ x. x) (marksFrom P st (q .seen)) (cond hit 1 0));
             few = searching-ones;
           }
 
-  pub searching-refused : (n : ℕ) → k < n → (j p : ℕ) → segmentPass P st s at ≡ refused j p → many (λ _. segmentAt s) n [] 2 ≡ refused j p
-  searching-refused n l j p e = through-refused s k (q .seen) at size (q .sum) n l j p (segment-not P st s at j p e)
+  module _ (n : ℕ) where
+    -- what a run tells of n segments, and the marks that it leaves
+    abbrev Run : Outcome Course → Type 0
+    Run told =
+        (told ≡ after (many (λ _. segmentAt s) n [] from) (λ x. ok (courseOf P st x))) × MarksFrom P st (many (λ _. segmentAt s) n [] from) buffer
+
+    pub searching-refused : k < n → (j p : ℕ) → segmentPass P bits s at ≡ refused j p → Run (refused j p)
+    searching-refused l j p e =
+        let none = through-refused s from k (q .seen) at size (q .sum) n l j p (segment-not P bits s at j p e) in
+        (rw none, λ x h. absurd (refused-ok j p x (sym none ∙ h)))
+
+    pub searching-ran : k ≡ n → Run (ok (record { next = at; size = size; state = bits; ends = ones }))
+    unfolding courseOf size
+    searching-ran done =
+        let all = through-all s from k (q .seen) at size (q .sum) n done in
+        let count = walk-length (λ _. segmentAt s) from n (q .seen) at all in (
+          rw (all, q .sum .sum, q .state, q .ones),
+          λ x h.
+              subst (λ (y : Taken Text ℕ). take (length (y .value)) buffer ≡ marksFrom P st (y .value)) (ok-inj (sym all ∙ h))
+              (ap (λ (m : ℕ). take m buffer) (count ∙ sym done) ∙ q .marked),
+        )
 
 -- what a search tells of a stretch
 module _ (P s : List ℕ) where
@@ -123,16 +143,38 @@ module _ (P s : List ℕ) where
   pub marks-not : (j p : ℕ) (buffer : List ℕ) → stretchOf s ≡ refused j p → Marks P (stretchOf s) buffer
   marks-not j p buffer e t h = absurd (refused-ok j p t (sym e ∙ h))
 
-  module _ (buffer : List ℕ) (k at sum ones st n : ℕ) (q : Searching P s buffer k at sum ones st) (e : stretchOf s ≡ ok (q .seen)) (count : length (q .seen) ≡ n) where
-    pub told-marked : after (stretchOf s) (λ t. ok (sumsOf P t)) ≡ ok (record { segments = n; size = sum; ends = ones })
-    unfolding sumsOf size
-    told-marked = rw (e, q .sum .sum, q .ones) (ap (λ (m : ℕ). ok (record { segments = m; size = total (total weight) (q .seen); ends = total (λ x. x) (marks P (q .seen)) })) count)
+  -- from what a run over its segments tells
+  module _ (n : ℕ) where
+    pub run-not : (j p : ℕ) → after (many (λ _. segmentAt s) n [] 2) (λ x. ok (courseOf P fresh x)) ≡ refused j p
+        → many (λ _. segmentAt s) n [] 2 ≡ refused j p
+    run-not j p e = told-refused (many (λ _. segmentAt s) n [] 2) (courseOf P fresh) j p e
 
-    pub marks-all : k ≡ n → Marks P (stretchOf s) buffer
-    marks-all done t h =
-        let same : q .seen ≡ t = ok-inj (sym e ∙ h) in
-        subst (λ (u : Text). take (length u) buffer ≡ marks P u) same
-        (ap (λ (m : ℕ). take m buffer) (count ∙ sym done) ∙ q .marked)
+    pub run-met : (at sum bits ones : ℕ)
+        → after (many (λ _. segmentAt s) n [] 2) (λ x. ok (courseOf P fresh x)) ≡ ok (record { next = at; size = sum; state = bits; ends = ones })
+        → (t : Text) × (many (λ _. segmentAt s) n [] 2 ≡ ok (record { value = t; next = at }))
+        × (sum ≡ size t) × (ones ≡ total (λ x. x) (marks P t))
+    unfolding courseOf marks
+    run-met at sum bits ones e =
+        let m = told-met (many (λ _. segmentAt s) n [] 2) (courseOf P fresh) (record { next = at; size = sum; state = bits; ends = ones }) e in
+        let t = m .0 .value in (
+          t,
+          m .1 ∙ ap (λ (i : ℕ). ok (record { value = t; next = i })) (ap (λ (x : Course). x .next) (m .2)),
+          sym (ap (λ (x : Course). x .size) (m .2)),
+          sym (ap (λ (x : Course). x .ends) (m .2)),
+        )
+
+    module _ (t : Text) (e : stretchOf s ≡ ok t) where
+      pub told-marked : (sum ones : ℕ) → length t ≡ n → sum ≡ size t → ones ≡ total (λ x. x) (marks P t)
+          → after (stretchOf s) (λ t. ok (sumsOf P t)) ≡ ok (record { segments = n; size = sum; ends = ones })
+      unfolding sumsOf
+      told-marked sum ones count is one =
+          rw (e, is, one) (ap (λ (m : ℕ). ok (record { segments = m; size = size t; ends = total (λ x. x) (marks P t) })) count)
+
+      pub marks-all : (at : ℕ) (buffer : List ℕ) → many (λ _. segmentAt s) n [] 2 ≡ ok (record { value = t; next = at })
+          → MarksFrom P fresh (many (λ _. segmentAt s) n [] 2) buffer → Marks P (stretchOf s) buffer
+      unfolding marks
+      marks-all at buffer all found u h =
+          subst (λ (v : Text). take (length v) buffer ≡ marks P v) (ok-inj (sym e ∙ h)) (found (record { value = t; next = at }) all)
 
 -- the marks of an accepted stretch are in the walk's buffer
 pub few-found : (P s buffer : List ℕ) (n z m : ℕ) → after (stretchOf s) (λ t. ok (sumsOf P t)) ≡ ok (record { segments = n; size = z; ends = m })

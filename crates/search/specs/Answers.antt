@@ -1,17 +1,19 @@
 -- What a search and a feed answer, in document 01's numbers and values.
-use Prim.Native.Nat.{ℕ, _+_, _*_, _≤_, min}
+use Prim.Native.Nat.{ℕ, _+_, _-_, _*_, _/_, _≤_, min}
 use mathlib.Core.Path.{_≡_}
 use mathlib.Core.Bool.{Bool}
 use mathlib.Core.List.{List, [], _∷_}
 use lib.Dec.{leb}
 use lib.ListN.{length, take}
 use Rattle.text.specs.Text.{Text, total, size}
-use Rattle.text.specs.State.{isState, next, ends, marks}
+use Rattle.text.specs.State.{isState, next, ends, run, marksFrom, marks}
 use Rattle.text.specs.Refusal.{Outcome, ok, refused, demand, after, pattern}
 use Rattle.stretch.specs.Bytes.{greatestStretch}
 use Rattle.stretch.specs.Encoding.{encodeSegment}
-use Rattle.stretch.specs.Reading.{fits, loneSegment, stretchOf}
+use Rattle.stretch.specs.Reading.{Taken, fits, loneSegment, stretchOf}
 use Rattle.search.specs.declared.state.Fed.{Fed}
+use Rattle.search.specs.declared.run.Ran.{Ran}
+use Rattle.search.specs.declared.run.Ran.the-variants.{To}
 use Rattle.search.specs.declared.walk.Searched.{Searched}
 use Rattle.search.specs.declared.walk.Searched.the-variants.{Marked}
 
@@ -40,7 +42,35 @@ toldSearched (Searched.Refused r) = refused (r .number) (r .place)
 abbrev pub Marks : List ℕ → Outcome Text → List ℕ → Type 0
 Marks P o buffer = (t : Text) → o ≡ ok t → take (length t) buffer ≡ marks P t
 
--- a buffer with a byte for each segment that a stretch can have: a segment has at least 3 bytes
+-- what a run over segments tells: the place behind them, their size, the state there, and the number of ones among their marks
+pub record Course : Type 0 where
+  pub next : ℕ
+  pub size : ℕ
+  pub state : ℕ
+  pub ends : ℕ
+
+unfoldable pub courseOf : List ℕ → ℕ → Taken Text ℕ → Course
+courseOf P st x =
+    record {
+      next = x .next;
+      size = size (x .value);
+      state = run P st (x .value);
+      ends = total (λ x. x) (marksFrom P st (x .value));
+    }
+
+abbrev pub toldRan : Ran → Outcome Course
+toldRan (To next size bits ends) = ok (record { next = next; size = size; state = bits; ends = ends })
+toldRan (Ran.Refused r) = refused (r .number) (r .place)
+
+-- a buffer that holds the marks of accepted segments in front; after a refusal it may hold anything
+abbrev pub MarksFrom : List ℕ → ℕ → Outcome (Taken Text ℕ) → List ℕ → Type 0
+MarksFrom P st o buffer = (x : Taken Text ℕ) → o ≡ ok x → take (length (x .value)) buffer ≡ marksFrom P st (x .value)
+
+-- a buffer with a byte for each of n segments that stand from `at` on: a segment has at least 3 bytes
+abbrev pub RoomyFrom : List ℕ → ℕ → ℕ → List ℕ → Type 0
+RoomyFrom s at n buffer = min n ((length s - at) / 3) ≤ length buffer
+
+-- a buffer with a byte for each segment that a stretch can have
 abbrev pub Roomy : List ℕ → List ℕ → Type 0
 Roomy s buffer = min (length s) greatestStretch ≤ 4 + 3 * length buffer
 

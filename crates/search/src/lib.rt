@@ -7,6 +7,7 @@ mod method;
 mod row;
 mod row_step;
 mod rowing;
+mod run;
 mod searching;
 mod state;
 mod step;

@@ -1,8 +1,9 @@
 // States: which lengths of a pattern end exactly at the end of the last segment.
-use crate::bits::segment_bits;
 use crate::masks::classes;
 use crate::masks::masks;
-use crate::step::Passed;
+use crate::method::Method;
+use crate::run::Ran;
+use crate::run::run;
 use text::Refusal;
 use text::pattern::PatternIs;
 use text::pattern::check;
@@ -57,9 +58,20 @@ impl State {
         }
         let table = masks(pattern);
         let letters = classes();
-        match segment_bits(pattern, &table, &letters, bits, segment, 0) {
-            Passed::Refused(refused) => Fed::Refused(refused),
-            Passed::To {
+        let mut mark = [0u8; 1];
+        match run(
+            Method::Bits,
+            pattern,
+            &table,
+            &letters,
+            bits,
+            segment,
+            0,
+            1,
+            &mut mark,
+        ) {
+            Ran::Refused(refused) => Fed::Refused(refused),
+            Ran::To {
                 next,
                 size: _,
                 bits: reached,
@@ -68,9 +80,10 @@ impl State {
                 if next != end {
                     return refused(refusal::BYTES_LEFT, next);
                 }
+                let hit = ends != 0;
                 Fed::Next {
                     state: State { bits: reached },
-                    ends,
+                    ends: hit,
                 }
             }
         }

@@ -1,7 +1,7 @@
-// The walk over a whole stretch, one for both methods: each variant is checked and stepped over at once.
+// The walk over a whole stretch: its count, its segments, and what may be wrong behind them.
 use crate::method::Method;
-use crate::method::segment_by;
-use crate::step::Passed;
+use crate::run::Ran;
+use crate::run::run;
 use stretch::bytes::word;
 use text::Refusal;
 use text::refusal;
@@ -43,42 +43,36 @@ pub fn walk(
         return refused(refusal::BYTES_END, 0);
     }
     let segments = word(stretch, 0);
-    let mut at = 2;
-    let mut size = 0;
-    let mut ends = 0;
-    let mut bits = 1;
-    let mut k = 0;
-    while k < segments {
-        match segment_by(method, pattern, table, classes, bits, stretch, at) {
-            Passed::Refused(refused) => {
-                return Searched::Refused(refused);
+    match run(
+        method,
+        pattern,
+        table,
+        classes,
+        1,
+        stretch,
+        2,
+        segments,
+        &mut *marks,
+    ) {
+        Ran::Refused(refused) => Searched::Refused(refused),
+        Ran::To {
+            next,
+            size,
+            bits: _,
+            ends,
+        } => {
+            if next != end {
+                return refused(refusal::BYTES_LEFT, next);
             }
-            Passed::To {
-                next,
-                size: more,
-                bits: reached,
-                ends: hit,
-            } => {
-                let mark = hit as u8;
-                marks[k] = mark;
-                size += more;
-                ends += hit as usize;
-                bits = reached;
-                at = next;
-                k += 1;
+            if refusal::MOST_IN_STRETCH < segments {
+                return refused(refusal::SEGMENTS_MANY, 0);
+            }
+            Searched::Marked {
+                segments,
+                size,
+                ends,
             }
         }
-    }
-    if at != end {
-        return refused(refusal::BYTES_LEFT, at);
-    }
-    if refusal::MOST_IN_STRETCH < segments {
-        return refused(refusal::SEGMENTS_MANY, 0);
-    }
-    Searched::Marked {
-        segments,
-        size,
-        ends,
     }
 }
 

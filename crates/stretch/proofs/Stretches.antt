@@ -27,21 +27,24 @@ segment-steps s seen at x e =
     let m = many-steps (variantAt s) weight (length s) (variant-steps s) (getD s at 0) [] (at + 1) x (omega arith) (b .1) in
     record { counts = omega (arith, m .0); inside = m .1 }
 
--- the segments of a stretch, walked and summed up
-abbrev pub InStretch : List ℕ → ℕ → Text → ℕ → ℕ → Type 0
-InStretch s k seen at size = Summed (λ _. segmentAt s) (total weight) (length s) (segment-steps s) 2 k seen at size
+-- the segments that stand one after another from `from` on, walked and summed up
+abbrev pub InStretch : List ℕ → ℕ → ℕ → Text → ℕ → ℕ → Type 0
+InStretch s from k seen at size = Summed (λ _. segmentAt s) (total weight) (length s) (segment-steps s) from k seen at size
 
-pub through-none : (s : List ℕ) → 2 ≤ length s → InStretch s 0 [] 2 0
-through-none s l = summed-none (λ _. segmentAt s) (total weight) (length s) (segment-steps s) 2 l
+pub through-none : (s : List ℕ) (from : ℕ) → from ≤ length s → InStretch s from 0 [] from 0
+through-none s from l = summed-none (λ _. segmentAt s) (total weight) (length s) (segment-steps s) from l
 
-module _ (s : List ℕ) (k : ℕ) (seen : Text) (at size : ℕ) (m : InStretch s k seen at size) where
+module _ (s : List ℕ) (from k : ℕ) (seen : Text) (at size : ℕ) (m : InStretch s from k seen at size) where
   pub through-more : (g : Segment) (next more : ℕ) → segmentAt s at ≡ ok (record { value = g; next = next }) → total weight g ≡ more
-      → InStretch s (k + 1) (seen ++ (g ∷ [])) next (size + more)
+      → InStretch s from (k + 1) (seen ++ (g ∷ [])) next (size + more)
   through-more g next more e sum =
-      rw (← sum) (summed-more (λ _. segmentAt s) (total weight) (length s) (segment-steps s) 2 k seen at size m (record { value = g; next = next }) e)
+      rw (← sum) (summed-more (λ _. segmentAt s) (total weight) (length s) (segment-steps s) from k seen at size m (record { value = g; next = next }) e)
 
-  pub through-refused : (n : ℕ) → k < n → (j p : ℕ) → segmentAt s at ≡ refused j p → many (λ _. segmentAt s) n [] 2 ≡ refused j p
-  through-refused n l j p e = walk-refused (λ _. segmentAt s) 2 k seen at (m .walk) n l j p e
+  pub through-refused : (n : ℕ) → k < n → (j p : ℕ) → segmentAt s at ≡ refused j p → many (λ _. segmentAt s) n [] from ≡ refused j p
+  through-refused n l j p e = walk-refused (λ _. segmentAt s) from k seen at (m .walk) n l j p e
+
+  pub through-all : (n : ℕ) → k ≡ n → many (λ _. segmentAt s) n [] from ≡ ok (record { value = seen; next = at })
+  through-all n done = rw (← done) (m .walk)
 
 -- what reading a stretch answers, from the tests and the walk
 module _ (s : List ℕ) where
@@ -59,12 +62,9 @@ module _ (s : List ℕ) where
       unfolding stretchOf
       stretch-refused j p r = rw (le-leb (length s) greatestStretch short, le-leb 2 (length s) some, ← e, r)
 
-      module _ (k : ℕ) (seen : Text) (at sum : ℕ) (m : InStretch s k seen at sum) (done : k ≡ n) where
-        all : many (λ _. segmentAt s) n [] 2 ≡ ok (record { value = seen; next = at })
-        all = rw (← done) (m .walk)
-
+      module _ (seen : Text) (at : ℕ) (all : many (λ _. segmentAt s) n [] 2 ≡ ok (record { value = seen; next = at })) where
         pub stretch-count : length seen ≡ n
-        stretch-count = walk-length (λ _. segmentAt s) 2 k seen at (m .walk) ∙ done
+        stretch-count = walk-length (λ _. segmentAt s) 2 n seen at all
 
         pub stretch-left : (at ≡ length s → ⊥) → stretchOf s ≡ refused 9 at
         unfolding stretchOf

@@ -7,11 +7,11 @@ use mathlib.Core.Path.{_≡_, refl, sym, ap, _∙_}
 use lib.ListN.{getD}
 use lib.Pow.{pow-mono}
 use Rattle.text.specs.Refusal.{ok}
-use Rattle.stretch.proofs.Stretches.{stretch-long, stretch-cut, stretch-refused, stretch-left, stretch-many, stretch-sound, stretch-count}
+use Rattle.stretch.proofs.Stretches.{through-all, stretch-long, stretch-cut, stretch-refused, stretch-left, stretch-many, stretch-sound, stretch-count}
 use Rattle.search.specs.Step.{toldPassed, segmentPass}
 use Rattle.search.proofs.Vectors.{low-ones}
 use Rattle.search.proofs.RowWalks.{Rowing, rowing-none, rowed-small, rowing-refused, rowing-sound, rowing-few, rowing-more}
-use Rattle.search.proofs.RowWalks.{through-not, rows-not, through-all, rows-all}
+use Rattle.search.proofs.RowWalks.{through-not, rows-not, through-count, rows-all}
 use Rattle.search.proofs.rowing.walk_rows.Statement.{statement}
 use Rattle.search.proofs.rowing.walk_rows.Tie as tie
 
@@ -175,7 +175,8 @@ returns-4 : tie.Need-returns-4 Inv-loop μ-loop
 returns-4 c =
     let a = c .before .before .before in
     let e = a .before in
-    let none = stretch-left _ (e .before .before .if1 .left) (e .before .if2 .left) _ (e .word .ensures) _ _ _ _ (a .loop .inv .0 .sum) (omega arith) (c .before .if3 .taken) in
+    let all = through-all _ _ _ _ _ _ (a .loop .inv .0 .sum) (e .word .result) (omega arith) in
+    let none = stretch-left _ (e .before .before .if1 .left) (e .before .if2 .left) _ (e .word .ensures) _ _ all (c .before .if3 .taken) in
     (c .refused3 .ensures ∙ sym (through-not _ _ _ none), rows-not _ _ _ _ _ _ none)
 
 refused-requires-4 : tie.Need-refused-requires-4 Inv-loop μ-loop
@@ -195,8 +196,9 @@ returns-5 : tie.Need-returns-5 Inv-loop μ-loop
 returns-5 c =
     let a = c .before .before .before .before in
     let e = a .before in
+    let all = through-all _ _ _ _ _ _ (a .loop .inv .0 .sum) (e .word .result) (omega arith) in
     let none =
-    stretch-many _ (e .before .before .if1 .left) (e .before .if2 .left) _ (e .word .ensures) _ _ _ _ (a .loop .inv .0 .sum) (omega arith)
+    stretch-many _ (e .before .before .if1 .left) (e .before .if2 .left) _ (e .word .ensures) _ _ all
     (c .before .before .if3 .left) (c .before .if4 .taken) in
     (c .refused4 .ensures ∙ sym (through-not _ _ _ none), rows-not _ _ _ _ _ _ none)
 
@@ -220,9 +222,10 @@ returns-6 c =
     let q = a .loop .inv .0 in
     let short = e .before .before .if1 .left in
     let some = e .before .if2 .left in
-    let sound = stretch-sound _ short some _ (e .word .ensures) _ _ _ _ (q .sum) (omega arith) (c .before .if3 .left) (c .if4 .left) in
-    let count = stretch-count _ short some _ (e .word .ensures) _ _ _ _ (q .sum) (omega arith) in
-    (sym (through-all _ _ _ sound count), rows-all _ _ _ _ _ sound (q .rows))
+    let all = through-all _ _ _ _ _ _ (q .sum) (e .word .result) (omega arith) in
+    let sound = stretch-sound _ short some _ (e .word .ensures) _ _ all (c .before .if3 .left) (c .if4 .left) in
+    let count = stretch-count _ short some _ (e .word .ensures) _ _ all in
+    (sym (through-count _ _ _ sound count), rows-all _ _ _ _ _ sound (q .rows))
 
 pub walk-rows-spec : {M : Type 1} → statement M
 walk-rows-spec =

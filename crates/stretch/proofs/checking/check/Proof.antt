@@ -5,7 +5,7 @@ use borrow.Author.Needs.{needs}
 use native.Mathlib.Omega.{arith}
 use mathlib.Core.Path.{sym, ap, _∙_}
 use Rattle.stretch.specs.Answers.{toldWalked}
-use Rattle.stretch.proofs.Stretches.{InStretch, through-none, through-more, through-refused}
+use Rattle.stretch.proofs.Stretches.{InStretch, through-none, through-more, through-refused, through-all}
 use Rattle.stretch.proofs.Stretches.{stretch-long, stretch-cut, stretch-refused, stretch-left, stretch-many, stretch-sound, stretch-count, check-refused, check-sound}
 use Rattle.stretch.proofs.Segments.{walked-met, walked-not}
 use Rattle.text.specs.Text.{Text}
@@ -14,7 +14,7 @@ use Rattle.stretch.proofs.checking.check.Statement.{statement}
 use Rattle.stretch.proofs.checking.check.Tie as tie
 
 abbrev Inv-loop : tie.InvT-loop
-Inv-loop stretch end segments at₀ size₀ k₀ at size k = (seen : Text) × InStretch stretch k seen at size × (k ≤ segments)
+Inv-loop stretch end segments at₀ size₀ k₀ at size k = (seen : Text) × InStretch stretch 2 k seen at size × (k ≤ segments)
 
 abbrev μ-loop : tie.MeasureT-loop
 μ-loop stretch end segments at₀ size₀ k₀ at size k = segments - k
@@ -29,7 +29,7 @@ word-requires : tie.Need-word-requires Inv-loop μ-loop
 word-requires c κs = search needs
 
 loop-holds : tie.Need-loop-holds Inv-loop μ-loop
-loop-holds c = ([], through-none _ (c .before .if2 .left), omega arith)
+loop-holds c = ([], through-none _ _ (c .before .if2 .left), omega arith)
 
 segment-at-requires : tie.Need-segment-at-requires Inv-loop μ-loop
 segment-at-requires c κs = search needs
@@ -42,7 +42,7 @@ returns-3 c =
     let d = c .before .before .before in
     let a = d .before .before in
     let wrong = walked-not _ _ _ _ (sym (d .segment-at .ensures) ∙ ap toldWalked (c .before .refused .given .1)) in
-    let all = through-refused _ _ _ _ _ (a .loop .inv .1) _ (d .before .loop-test .taken) _ _ wrong in
+    let all = through-refused _ _ _ _ _ _ (a .loop .inv .1) _ (d .before .loop-test .taken) _ _ wrong in
     let e = a .before in
     sym (check-refused _ _ _ (stretch-refused _ (e .before .before .if1 .left) (e .before .if2 .left) _ (e .word .ensures) _ _ all))
 
@@ -53,7 +53,7 @@ loop-again : tie.Need-loop-again Inv-loop μ-loop
 loop-again c =
     let d = c .before .before .before in
     let g = walked-met _ _ _ _ (sym (d .segment-at .ensures) ∙ ap toldWalked (c .before .next .given .1)) in
-    (_, through-more _ _ _ _ _ (d .before .before .loop .inv .1) _ _ _ (g .1) (g .2), omega arith)
+    (_, through-more _ _ _ _ _ _ (d .before .before .loop .inv .1) _ _ _ (g .1) (g .2), omega arith)
 
 add-size : tie.Need-add-size Inv-loop μ-loop
 add-size c = let m = loop-again c .1 in omega (arith, m .small, m .inside)
@@ -68,18 +68,17 @@ returns-4 : tie.Need-returns-4 Inv-loop μ-loop
 returns-4 c =
     let a = c .before .before in
     let e = a .before in
-    sym
-    (check-refused _ _ _
-    (stretch-left _ (e .before .before .if1 .left) (e .before .if2 .left) _ (e .word .ensures) _ _ _ _ (a .loop .inv .1) (omega arith) (c .if3 .taken)))
+    let all = through-all _ _ _ _ _ _ (a .loop .inv .1) (e .word .result) (omega arith) in
+    sym (check-refused _ _ _ (stretch-left _ (e .before .before .if1 .left) (e .before .if2 .left) _ (e .word .ensures) _ _ all (c .if3 .taken)))
 
 returns-5 : tie.Need-returns-5 Inv-loop μ-loop
 returns-5 c =
     let a = c .before .before .before in
     let e = a .before in
+    let all = through-all _ _ _ _ _ _ (a .loop .inv .1) (e .word .result) (omega arith) in
     sym
     (check-refused _ _ _
-    (stretch-many _ (e .before .before .if1 .left) (e .before .if2 .left) _ (e .word .ensures) _ _ _ _ (a .loop .inv .1) (omega arith)
-    (c .before .if3 .left) (c .if4 .taken)))
+    (stretch-many _ (e .before .before .if1 .left) (e .before .if2 .left) _ (e .word .ensures) _ _ all (c .before .if3 .left) (c .if4 .taken)))
 
 returns-6 : tie.Need-returns-6 Inv-loop μ-loop
 returns-6 c =
@@ -88,8 +87,9 @@ returns-6 c =
     let m = a .loop .inv .1 in
     let short = e .before .before .if1 .left in
     let some = e .before .if2 .left in
-    let sound = stretch-sound _ short some _ (e .word .ensures) _ _ _ _ m (omega arith) (c .before .if3 .left) (c .if4 .left) in
-    sym (check-sound _ _ _ _ sound (stretch-count _ short some _ (e .word .ensures) _ _ _ _ m (omega arith)) (m .sum))
+    let all = through-all _ _ _ _ _ _ m (e .word .result) (omega arith) in
+    let sound = stretch-sound _ short some _ (e .word .ensures) _ _ all (c .before .if3 .left) (c .if4 .left) in
+    sym (check-sound _ _ _ _ sound (stretch-count _ short some _ (e .word .ensures) _ _ all) (m .sum))
 
 pub check-spec : {M : Type 1} → statement M
 check-spec =

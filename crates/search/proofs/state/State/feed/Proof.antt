@@ -1,11 +1,11 @@
 -- `search::State::feed` meets its contract: each answer is a law of `feeding`, from the tests that led to it and from what
--- `segment_bits` ensures.
+-- `run` ensures.
 use borrow.Author.Needs.{needs}
 use native.Mathlib.Omega.{arith}
 use mathlib.Core.Path.{refl, sym, ap, _∙_}
 use Rattle.text.specs.Refusal.{toldPattern}
 use Rattle.text.proofs.Patterns.{SoundPattern, pattern-sound}
-use Rattle.search.specs.Step.{toldPassed}
+use Rattle.search.specs.Answers.{toldRan}
 use Rattle.search.proofs.Feeds.{fed-pattern, fed-long, fed-even, fed-high, fed-small, fed-refused, fed-left, fed-next}
 use Rattle.search.proofs.state.State.feed.Statement.{statement}
 use Rattle.search.proofs.state.State.feed.Tie as tie
@@ -60,19 +60,25 @@ masks-requires c κs = sound (c .before .before .before) .short
 classes-requires : tie.Need-classes-requires
 classes-requires c κs = search needs
 
-segment-bits-requires : tie.Need-segment-bits-requires
-segment-bits-requires c κs =
-    let m = c .before .before .before in
+slice-aggregate-run : tie.Need-slice-aggregate-run
+slice-aggregate-run c = search needs
+
+run-requires : tie.Need-run-requires
+run-requires c κs =
+    let m = c .before .before .before .before in
     let d = m .before in
     let e = d .before .before in
     let p = sound (e .before) in
-    record {
-      some = p .some;
-      short = p .short;
-      vectors = m .masks .ensures;
-      letters = c .before .before .classes .ensures;
-      small = fed-small _ (e .before .before .before .before .before .before .args .segment .now) _ p (e .if1 .left) _ refl (d .before .if2 .left) (d .if3 .left);
-    }
+    let small = fed-small _ (e .before .before .before .before .before .before .args .segment .now) _ p (e .if1 .left) _ refl (d .before .if2 .left) (d .if3 .left) in (
+      (
+        record {
+          founded = record { some = p .some; short = p .short; holds = m .masks .ensures };
+          letters = c .before .before .before .classes .ensures;
+        },
+        small,
+      ),
+      (omega arith, omega arith),
+    )
 
 enum-known-refused-2 : tie.Need-enum-known-refused-2
 enum-known-refused-2 c = search needs
@@ -86,28 +92,28 @@ refused-requires-4 c κs = search needs
 returns-5 : tie.Need-returns-5
 returns-5 c =
     let n = c .before .before .before in
-    let g = n .before .before in
-    let d = g .before .before .before .before .before in
+    let g = n .before .before .before in
+    let d = g .before .before .before .before .before .before in
     let e = d .before .before in
-    let on = sym (g .segment-bits .ensures) ∙ ap toldPassed (n .next .given .1) in
+    let on = sym (g .run .ensures .0) ∙ ap toldRan (n .next .given .1) in
     c .refused6 .ensures
     ∙ sym (fed-left _ _ _ (sound (e .before)) (e .if1 .left) _ refl (d .before .if2 .left) (d .if3 .left) _ _ _ _ on (c .before .if4 .taken))
 
 returns-6 : tie.Need-returns-6
 returns-6 c =
-    let g = c .before .before .before in
-    let d = g .before .before .before .before .before in
+    let g = c .before .before .before .before in
+    let d = g .before .before .before .before .before .before in
     let e = d .before .before in
-    let wrong = sym (g .segment-bits .ensures) ∙ ap toldPassed (c .before .refused5 .given .1) in
+    let wrong = sym (g .run .ensures .0) ∙ ap toldRan (c .before .refused5 .given .1) in
     sym (fed-refused _ _ _ (sound (e .before)) (e .if1 .left) _ refl (d .before .if2 .left) (d .if3 .left) _ _ wrong)
 
 returns-7 : tie.Need-returns-7
 returns-7 c =
     let n = c .before .before in
-    let g = n .before .before in
-    let d = g .before .before .before .before .before in
+    let g = n .before .before .before in
+    let d = g .before .before .before .before .before .before in
     let e = d .before .before in
-    let on = sym (g .segment-bits .ensures) ∙ ap toldPassed (n .next .given .1) in
+    let on = sym (g .run .ensures .0) ∙ ap toldRan (n .next .given .1) in
     sym (fed-next _ _ _ (sound (e .before)) (e .if1 .left) _ refl (d .before .if2 .left) (d .if3 .left) _ _ _ _ on (c .if4 .left))
 
 pub feed-spec : {M : Type 1} → statement M
@@ -128,7 +134,8 @@ feed-spec =
     returns-4
     masks-requires
     classes-requires
-    segment-bits-requires
+    slice-aggregate-run
+    run-requires
     enum-known-refused-2
     enum-known-next
     refused-requires-4

@@ -1,0 +1,119 @@
+-- `search::run::run` meets its contract. The loop's invariant, `Searching`: k segments are read, and state, marks and number of ones
+-- are theirs. The measure is the number of segments left.
+use Prim.Native.Nat.{_-_, _≤_}
+use borrow.Author.Needs.{needs}
+use native.Mathlib.Omega.{arith}
+use mathlib.Core.Path.{_≡_, refl, sym, ap, _∙_}
+use lib.ListN.{length, length-set}
+use Rattle.search.specs.Answers.{RoomyFrom}
+use Rattle.search.specs.Step.{toldPassed}
+use Rattle.search.proofs.Searches.{Searching, searching-none, searching-small, searching-room, searching-more}
+use Rattle.search.proofs.Searches.{byte-mark, searching-refused, searching-ran}
+use Rattle.search.proofs.run.run.Statement.{statement}
+use Rattle.search.proofs.run.run.Tie as tie
+
+abbrev Inv-loop : tie.InvT-loop
+Inv-loop method pattern table classes state stretch at segments marks₀ next₀ size₀ ends₀ bits₀ k₀ marks next size ends bits k =
+    Searching pattern state stretch at marks k next size ends bits × (k ≤ segments) × (length marks ≡ length marks₀)
+
+abbrev μ-loop : tie.MeasureT-loop
+μ-loop method pattern table classes state stretch at segments marks₀ next₀ size₀ ends₀ bits₀ k₀ marks next size ends bits k = segments - k
+
+loop-holds : tie.Need-loop-holds Inv-loop μ-loop
+loop-holds c = (searching-none _ _ _ _ _ (c .before .before .before .pre .1 .0), omega arith, refl)
+
+segment-by-requires : tie.Need-segment-by-requires Inv-loop μ-loop
+segment-by-requires c κs =
+    let a = c .before in
+    let p = a .before .before .before .before .pre .0 in
+    (p .0, searching-small _ _ _ _ _ _ _ _ _ _ (a .loop .inv .0) (p .1))
+
+enum-known-refused : tie.Need-enum-known-refused Inv-loop μ-loop
+enum-known-refused c = search needs
+
+same-length : tie.Need-same-length Inv-loop μ-loop
+same-length c = c .before .before .before .before .before .loop .inv .2
+
+returns : tie.Need-returns Inv-loop μ-loop
+returns c =
+    let d = c .before .before .before in
+    let wrong = sym (d .segment-by .ensures) ∙ ap toldPassed (c .before .refused .given .1) in
+    let told = searching-refused _ _ _ _ _ _ _ _ _ _ (d .before .before .loop .inv .0) _ (d .before .loop-test .taken) _ _ wrong in
+    (told .0, told .1)
+
+enum-known-behind : tie.Need-enum-known-behind Inv-loop μ-loop
+enum-known-behind c = search needs
+
+cast-mark : tie.Need-cast-mark Inv-loop μ-loop
+cast-mark c = search needs
+
+slice-write-marks : tie.Need-slice-write-marks Inv-loop μ-loop
+slice-write-marks c =
+    let d = c .before .before .before in
+    let a = d .before .before in
+    let on = sym (d .segment-by .ensures) ∙ ap toldPassed (c .before .behind .given .1) in
+    searching-room _ _ _ _ _ _ _ _ _ _ (a .loop .inv .0) _ _ _ _ on _ (d .before .loop-test .taken) (roomy a)
+  where
+    -- the buffer has a byte for each segment
+    roomy : (a : tie.At-loop Inv-loop μ-loop)
+        → RoomyFrom (a .before .before .before .before .args .stretch .now) (a .before .before .before .before .args .at)
+        (a .before .before .before .before .args .segments) (a .loop .marks)
+    roomy a = let room = a .before .before .before .before .pre .1 .1 in omega (arith, a .loop .inv .2)
+
+loop-again : tie.Need-loop-again Inv-loop μ-loop
+loop-again c =
+    let d = c .before .before .before in
+    let a = d .before .before in
+    let on = sym (d .segment-by .ensures) ∙ ap toldPassed (c .before .behind .given .1) in
+    let mark = byte-mark (c .before .behind .given .0 .1 .1 .1 .0) in (
+      searching-more _ _ _ _ _ _ _ _ _ _ (a .loop .inv .0) _ _ _ _ on _ mark (slice-write-marks c),
+      omega arith,
+      length-set (a .loop .marks) (a .loop .k) _ ∙ a .loop .inv .2,
+    )
+
+add-size : tie.Need-add-size Inv-loop μ-loop
+add-size c = let m = loop-again c .0 .sum in omega (arith, m .small, m .inside)
+
+cast-ends : tie.Need-cast-ends Inv-loop μ-loop
+cast-ends c = search needs
+
+add-ends : tie.Need-add-ends Inv-loop μ-loop
+add-ends c = let m = loop-again c .0 in omega (arith, m .few)
+
+add-k : tie.Need-add-k Inv-loop μ-loop
+add-k c = search needs
+
+loop-less : tie.Need-loop-less Inv-loop μ-loop
+loop-less c = search needs
+
+same-length-2 : tie.Need-same-length-2 Inv-loop μ-loop
+same-length-2 c = c .before .loop .inv .2
+
+returns-2 : tie.Need-returns-2 Inv-loop μ-loop
+returns-2 c =
+    let a = c .before in
+    let told = searching-ran _ _ _ _ _ _ _ _ _ _ (a .loop .inv .0) (a .before .before .before .before .args .segments) (omega arith) in
+    (told .0, told .1)
+
+pub run-spec : {M : Type 1} → statement M
+run-spec =
+    tie.close
+    (tie.spec
+    Inv-loop
+    μ-loop
+    loop-holds
+    segment-by-requires
+    enum-known-refused
+    same-length
+    returns
+    enum-known-behind
+    cast-mark
+    slice-write-marks
+    add-size
+    cast-ends
+    add-ends
+    add-k
+    loop-less
+    loop-again
+    same-length-2
+    returns-2)
