@@ -11,7 +11,10 @@ use text::refusal;
 use text::size::counted;
 ghost use mathlib.Core.Path.{_≡_};
 ghost use mathlib.Core.Bool.{not};
+ghost use Prim.Native.Nat.{_≤_};
+ghost use lib.ListN.{length};
 ghost use Rattle.text.specs.Letter.{letter, every};
+ghost use Rattle.stretch.specs.Skips.{behindVariants};
 ghost use Rattle.search.specs.Step.{Steps, toldPassed, variantPass, segmentPass};
 ghost use Rattle.search.specs.Masks.{Ready};
 
@@ -45,7 +48,8 @@ pub fn scan(
         bad = bad | classes[c];
         let e = d & masks[c];
         hits = hits | e;
-        d = (e << 1) | fresh;
+        // The sum is the union, since bit 0 of the shifted word is clear; it costs an instruction less.
+        d = (e << 1) + fresh;
         i += 1;
     }
     Scanned {
@@ -68,6 +72,7 @@ fn variant_bits(
     at: usize,
 ) -> Passed
     requires { ⌜ Ready (now pattern) (now masks) (now classes) bits ⌝ }
+    requires { ⌜ behindVariants (now stretch) k first ≤ length (now stretch) ⌝ }
     ensures { λ r. ⌜ toldPassed r ≡ variantPass (now (pattern .entry)) bits (now (stretch .entry)) first k at ⌝ }
 {
     match head(stretch, at) {

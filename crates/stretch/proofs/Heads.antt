@@ -12,7 +12,9 @@ use Rattle.text.specs.Compare.{same}
 use Rattle.text.specs.Refusal.{ok, refused, demand}
 use Rattle.stretch.specs.Bytes.{word}
 use Rattle.stretch.specs.Reading.{lettersAt, behind}
+use Rattle.stretch.specs.Skips.{stepped, behindVariants}
 use Rattle.stretch.specs.Variants.{Span, headAt, repeated}
+use Rattle.stretch.proofs.Skips.{variants-grow}
 
 -- a variant that is whole: where its letters start, and where the next one begins
 pub record Whole (s : List ℕ) (at start next : ℕ) : Type 0 where
@@ -60,24 +62,24 @@ whole-letters s at l = simp (length-take, length-drop) (omega arith)
 pub whole-length : (s : List ℕ) (at start next : ℕ) → Whole s at start next → length (lettersAt s at) ≡ next - start
 whole-length s at start next w = omega (arith, whole-letters s at (w .inside), w .starts, w .ends)
 
--- there is nothing behind the end
-pub repeated-out : (s : List ℕ) (v : Variant) (k first : ℕ) → length s < first → repeated s v k first ≡ false
-unfolding repeated
-repeated-out s v zero first l = refl
-repeated-out s v (suc k) first l = let cut : length s < behind s first = omega arith in rw (lt-leb (behind s first) (length s) cut)
-
 -- the part that a length at `at` states, as the code has it
 pub part-letters : (s : List ℕ) (at n : ℕ) → n ≡ word s at → take (at + 2 + n - (at + 2)) (drop (at + 2) s) ≡ lettersAt s at
 part-letters s at n e = let long : at + 2 + n - (at + 2) ≡ word s at = omega arith in rw long
+
+-- where all of `rest` variants are whole, so are the first one and the others
+pub whole-first : (s : List ℕ) (rest at : ℕ) → (rest ≡ 0 → ⊥) → behindVariants s rest at ≤ length s
+    → (behind s at ≤ length s) × (behindVariants s (rest - 1) (behind s at) ≤ length s)
+unfolding stepped
+whole-first s rest at some l =
+    let more : rest ≡ suc (rest - 1) = omega arith in
+    let others : behindVariants s (rest - 1) (behind s at) ≤ length s = rw more at l in
+    (omega (arith, variants-grow s (rest - 1) (behind s at)), others)
 
 -- the search for a repetition stands at `at`, with `rest` variants left
 module _ (s : List ℕ) (v : Variant) (rest at : ℕ) (some : rest ≡ 0 → ⊥) where
   one-more : repeated s v rest at ≡ (leb (behind s at) (length s) && (same v (lettersAt s at) || repeated s v (rest - 1) (behind s at)))
   unfolding repeated
   one-more = ap (λ (n : ℕ). repeated s v n at) (let e : rest ≡ suc (rest - 1) = omega arith in e)
-
-  pub repeated-cut : length s < behind s at → repeated s v rest at ≡ false
-  repeated-cut c = one-more ∙ rw (lt-leb (behind s at) (length s) c)
 
   module _ (whole : behind s at ≤ length s) where
     pub repeated-found : same v (lettersAt s at) ≡ true → repeated s v rest at ≡ true

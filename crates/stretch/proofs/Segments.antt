@@ -17,6 +17,7 @@ use Rattle.text.proofs.Sizes.{counted-le}
 use Rattle.text.proofs.Outcomes.{ok-inj, demand-met, after-met, after-demand, told-met, told-refused}
 use Rattle.stretch.specs.Bytes.{word}
 use Rattle.stretch.specs.Reading.{Taken, lettersAt, behind, among, variantAt, many, segmentAt}
+use Rattle.stretch.specs.Skips.{stepped, behindVariants}
 use Rattle.stretch.specs.Variants.{Span, headAt, repeated, soundAt}
 use Rattle.stretch.specs.Answers.{walkedSegment}
 use Rattle.stretch.proofs.Heads.{whole-letters, whole-length}
@@ -54,6 +55,15 @@ module _ (s : List ℕ) (v : Variant) where
   unfolding among anyOf
   repeated-among first k seen at w = sym (many-among k [] first (record { value = seen; next = at }) w)
 
+-- variants that were read are stepped over
+many-behind : (s : List ℕ) (k : ℕ) (seen : Segment) (at : ℕ) (x : Taken Segment ℕ) → many (variantAt s) k seen at ≡ ok x → behindVariants s k at ≡ x .next
+unfolding many stepped
+many-behind s zero seen at x e = ap (λ (y : Taken Segment ℕ). y .next) (ok-inj e)
+many-behind s (suc k) seen at x e =
+    let t = after-met (variantAt s seen at) (λ y. many (variantAt s) k (seen ++ (y .value ∷ [])) (y .next)) x e in
+    let r = variant-read s seen at (t .0) (t .1) in
+    many-behind s k (seen ++ (lettersAt s at ∷ [])) (behind s at) x (rw (r .is) at (t .2))
+
 -- the unit answers what reading the variant answers
 pub unit-reads : (s : List ℕ) (first k : ℕ) (seen : Segment) (at : ℕ) → Walk (variantAt s) first k seen at
     → soundAt s first k at ≡ after (variantAt s seen at) (λ x. ok (record { start = at + 2; next = x .next }))
@@ -78,6 +88,10 @@ in-none s first l = summed-none (variantAt s) weight (length s) (variant-steps s
 module _ (s : List ℕ) (first k : ℕ) (seen : Segment) (at size : ℕ) (m : InSegment s first k seen at size) where
   unit : soundAt s first k at ≡ after (variantAt s seen at) (λ x. ok (record { start = at + 2; next = x .next }))
   unit = unit-reads s first k seen at (m .walk)
+
+  -- all of them are whole
+  pub in-whole : behindVariants s k first ≤ length s
+  in-whole = omega (arith, many-behind s k [] first (record { value = seen; next = at }) (m .walk), m .inside)
 
   pub in-more : (start next more : ℕ) → soundAt s first k at ≡ ok (record { start = start; next = next }) → more ≡ counted (next - start)
       → InSegment s first (k + 1) (seen ++ (lettersAt s at ∷ [])) next (size + more)

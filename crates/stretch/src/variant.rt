@@ -6,7 +6,10 @@ use text::compare::same;
 use text::letter::first_wrong;
 use text::refusal;
 ghost use mathlib.Core.Path.{_≡_};
+ghost use Prim.Native.Nat.{_≤_};
+ghost use lib.ListN.{length};
 ghost use Rattle.text.specs.Refusal.{refused};
+ghost use Rattle.stretch.specs.Skips.{behindVariants};
 ghost use Rattle.stretch.specs.Variants.{headAt, repeated, soundAt, toldPart};
 
 // Where a variant's letters start, and where the next variant begins, right behind them.
@@ -46,33 +49,22 @@ pub fn head(stretch: &[u8], at: usize) -> Part
     Part::At { start, next }
 }
 
-// Whether a variant is equal to one of the k that stand one after another from `first` on. A length or letters that are cut
-// off end the search.
+// Whether a variant is equal to one of the k that stand one after another from `first` on. All of them are whole: a walk has passed
+// them, so that nothing is tested twice.
 pub fn repeated(stretch: &[u8], first: usize, k: usize, variant: &[u8]) -> bool
+    requires { ⌜ behindVariants (now stretch) k first ≤ length (now stretch) ⌝ }
     ensures { λ r. ⌜ r ≡ repeated (now (stretch .entry)) (now (variant .entry)) k first ⌝ }
 {
-    let end = stretch.len();
-    if end < first {
-        return false;
-    }
-    let mut left = end - first;
+    let mut at = first;
     let mut rest = k;
     while rest != 0 {
-        if left < 2 {
-            return false;
-        }
-        let at = end - left;
         let letters = pair(stretch, at);
-        let behind = left - 2;
-        if behind < letters {
-            return false;
-        }
         let start = at + 2;
         let next = start + letters;
         if same(variant, &stretch[start..next]) {
             return true;
         }
-        left = behind - letters;
+        at = next;
         rest -= 1;
     }
     false
@@ -80,6 +72,7 @@ pub fn repeated(stretch: &[u8], first: usize, k: usize, variant: &[u8]) -> bool
 
 // The variant at `at`, behind the k of its segment that stand from `first` on: refusals 5, 7 and 8.
 pub fn variant_at(stretch: &[u8], first: usize, k: usize, at: usize) -> Part
+    requires { ⌜ behindVariants (now stretch) k first ≤ length (now stretch) ⌝ }
     ensures { λ r. ⌜ toldPart r ≡ soundAt (now (stretch .entry)) first k at ⌝ }
 {
     let Part::At { start, next } = head(stretch, at) else {

@@ -10,6 +10,9 @@ use text::letter::first_wrong;
 use text::refusal;
 use text::size::counted;
 ghost use mathlib.Core.Path.{_≡_};
+ghost use Prim.Native.Nat.{_≤_};
+ghost use lib.ListN.{length};
+ghost use Rattle.stretch.specs.Skips.{behindVariants};
 ghost use Rattle.search.specs.Border.{Bordered};
 ghost use Rattle.search.specs.Step.{toldPassed, variantPass, segmentPass};
 
@@ -24,6 +27,7 @@ fn variant_borders(
     at: usize,
 ) -> Passed
     requires { ⌜ Bordered (now pattern) (now table) bits ⌝ }
+    requires { ⌜ behindVariants (now stretch) k first ≤ length (now stretch) ⌝ }
     ensures { λ r. ⌜ toldPassed r ≡ variantPass (now (pattern .entry)) bits (now (stretch .entry)) first k at ⌝ }
 {
     match head(stretch, at) {

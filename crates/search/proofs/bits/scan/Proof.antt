@@ -43,6 +43,9 @@ mul-e c = omega (arith, byte (c .before))
 element-copy-out-e : tie.Need-element-copy-out-e Inv-loop μ-loop
 element-copy-out-e c = byte (c .before)
 
+add-d : tie.Need-add-d Inv-loop μ-loop
+add-d c = search needs
+
 add-i : tie.Need-add-i Inv-loop μ-loop
 add-i c = search needs
 
@@ -75,6 +78,7 @@ scan-spec =
     element-copy-out-bad
     mul-e
     element-copy-out-e
+    add-d
     add-i
     loop-less
     loop-again

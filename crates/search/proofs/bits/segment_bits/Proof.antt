@@ -4,7 +4,7 @@ use Prim.Native.Nat.{_-_, _≤_}
 use borrow.Author.Needs.{needs}
 use native.Mathlib.Omega.{arith}
 use mathlib.Core.Path.{sym, ap, _∙_}
-use Rattle.stretch.proofs.Segments.{segment-cut, segment-none, segment-variants, segment-all}
+use Rattle.stretch.proofs.Segments.{in-whole, segment-cut, segment-none, segment-variants, segment-all}
 use Rattle.search.specs.Step.{toldPassed}
 use Rattle.search.proofs.Passes.{Taking, taking-none, taking-more, taking-refused, segment-passed-not, segment-passed}
 use Rattle.search.proofs.bits.segment_bits.Statement.{statement}
@@ -38,7 +38,7 @@ loop-holds : tie.Need-loop-holds Inv-loop μ-loop
 loop-holds c = (taking-none _ _ _ _ (search needs) (omega arith), omega arith)
 
 variant-bits-requires : tie.Need-variant-bits-requires Inv-loop μ-loop
-variant-bits-requires c κs = search needs
+variant-bits-requires c κs = (search needs, in-whole _ _ _ _ _ _ (c .before .loop .inv .0 .sum))
 
 enum-known-refused : tie.Need-enum-known-refused Inv-loop μ-loop
 enum-known-refused c = search needs

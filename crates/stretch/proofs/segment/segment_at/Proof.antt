@@ -8,7 +8,7 @@ use mathlib.Core.List.{[]}
 use Rattle.text.specs.Text.{Segment, counted}
 use Rattle.stretch.specs.Variants.{toldPart}
 use Rattle.stretch.proofs.Units.{sound-whole}
-use Rattle.stretch.proofs.Segments.{InSegment, in-none, in-more, in-refused, segment-cut, segment-none, segment-variants, segment-all, walked-refused, walked-done}
+use Rattle.stretch.proofs.Segments.{InSegment, in-none, in-whole, in-more, in-refused, segment-cut, segment-none, segment-variants, segment-all, walked-refused, walked-done}
 use Rattle.stretch.proofs.segment.segment_at.Statement.{statement}
 use Rattle.stretch.proofs.segment.segment_at.Tie as tie
 
@@ -39,7 +39,7 @@ loop-holds : tie.Need-loop-holds Inv-loop μ-loop
 loop-holds c = ([], in-none _ _ (omega arith), omega arith)
 
 variant-at-requires : tie.Need-variant-at-requires Inv-loop μ-loop
-variant-at-requires c κs = search needs
+variant-at-requires c κs = in-whole _ _ _ _ _ _ (c .before .loop .inv .1)
 
 enum-known-refused : tie.Need-enum-known-refused Inv-loop μ-loop
 enum-known-refused c = search needs
