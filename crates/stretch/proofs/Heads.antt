@@ -66,14 +66,28 @@ whole-length s at start next w = omega (arith, whole-letters s at (w .inside), w
 pub part-letters : (s : List ℕ) (at n : ℕ) → n ≡ word s at → take (at + 2 + n - (at + 2)) (drop (at + 2) s) ≡ lettersAt s at
 part-letters s at n e = let long : at + 2 + n - (at + 2) ≡ word s at = omega arith in rw long
 
--- where all of `rest` variants are whole, so are the first one and the others
-pub whole-first : (s : List ℕ) (rest at : ℕ) → (rest ≡ 0 → ⊥) → behindVariants s rest at ≤ length s
-    → (behind s at ≤ length s) × (behindVariants s (rest - 1) (behind s at) ≤ length s)
-unfolding stepped
-whole-first s rest at some l =
-    let more : rest ≡ suc (rest - 1) = omega arith in
-    let others : behindVariants s (rest - 1) (behind s at) ≤ length s = rw more at l in
-    (omega (arith, variants-grow s (rest - 1) (behind s at)), others)
+-- `rest` variants from `at` on end at `stop`, which lies ahead: the next one is whole, and the others follow it
+pub record Ahead (s : List ℕ) (rest at stop : ℕ) : Type 0 where
+  pub some : rest ≡ 0 → ⊥
+  pub whole : behind s at ≤ stop
+  pub others : behindVariants s (rest - 1) (behind s at) ≡ stop
+
+module _ (s : List ℕ) where
+  pub up-ahead : (rest at stop : ℕ) → behindVariants s rest at ≡ stop → at < stop → Ahead s rest at stop
+  unfolding stepped
+  up-ahead zero at stop e l = absurd (let z : ⊥ = omega arith in z)
+  up-ahead (suc k) at stop e l =
+      let less : suc k - 1 ≡ k = omega arith in
+      let others : behindVariants s k (behind s at) ≡ stop = e in
+      record { some = λ z. omega arith; whole = omega (arith, variants-grow s k (behind s at)); others = rw less others }
+
+  -- at `stop` none is left
+  pub up-there : (rest at stop : ℕ) → behindVariants s rest at ≡ stop → stop ≤ at → rest ≡ 0
+  unfolding stepped
+  up-there zero at stop e l = refl
+  up-there (suc k) at stop e l =
+      let others : behindVariants s k (behind s at) ≡ stop = e in
+      absurd (let z : ⊥ = omega (arith, variants-grow s k (behind s at)) in z)
 
 -- the search for a repetition stands at `at`, with `rest` variants left
 module _ (s : List ℕ) (v : Variant) (rest at : ℕ) (some : rest ≡ 0 → ⊥) where

@@ -17,7 +17,7 @@ use Rattle.text.proofs.Sizes.{counted-le}
 use Rattle.text.proofs.Outcomes.{ok-inj, demand-met, after-met, after-demand, told-met, told-refused}
 use Rattle.stretch.specs.Bytes.{word}
 use Rattle.stretch.specs.Reading.{Taken, lettersAt, behind, among, variantAt, many, segmentAt}
-use Rattle.stretch.specs.Skips.{stepped, behindVariants}
+use Rattle.stretch.specs.Skips.{stepped, behindVariants, UpTo}
 use Rattle.stretch.specs.Variants.{Span, headAt, repeated, soundAt}
 use Rattle.stretch.specs.Answers.{walkedSegment}
 use Rattle.stretch.proofs.Heads.{whole-letters, whole-length}
@@ -89,9 +89,8 @@ module _ (s : List ℕ) (first k : ℕ) (seen : Segment) (at size : ℕ) (m : In
   unit : soundAt s first k at ≡ after (variantAt s seen at) (λ x. ok (record { start = at + 2; next = x .next }))
   unit = unit-reads s first k seen at (m .walk)
 
-  -- all of them are whole
-  pub in-whole : behindVariants s k first ≤ length s
-  in-whole = omega (arith, many-behind s k [] first (record { value = seen; next = at }) (m .walk), m .inside)
+  pub in-whole : UpTo s first k at
+  in-whole = record { ends = many-behind s k [] first (record { value = seen; next = at }) (m .walk); inside = m .inside }
 
   pub in-more : (start next more : ℕ) → soundAt s first k at ≡ ok (record { start = start; next = next }) → more ≡ counted (next - start)
       → InSegment s first (k + 1) (seen ++ (lettersAt s at ∷ [])) next (size + more)

@@ -1,7 +1,8 @@
 -- Stepping over what stands one after another, without reading it again.
-use Prim.Native.Nat.{ℕ, zero, suc, _+_}
+use Prim.Native.Nat.{ℕ, zero, suc, _+_, _≤_}
+use mathlib.Core.Path.{_≡_}
 use mathlib.Core.List.{List}
-use lib.ListN.{getD}
+use lib.ListN.{length, getD}
 use Rattle.stretch.specs.Reading.{behind}
 
 -- the place after k steps
@@ -12,6 +13,11 @@ stepped step (suc k) at = stepped step k (step at)
 -- the place behind the k variants from `at` on
 abbrev pub behindVariants : List ℕ → ℕ → ℕ → ℕ
 behindVariants s k at = stepped (behind s) k at
+
+-- the k variants from `first` on are whole and end at `at`
+pub record UpTo (s : List ℕ) (first k at : ℕ) : Type 0 where
+  pub ends : behindVariants s k first ≡ at
+  pub inside : at ≤ length s
 
 -- the place behind the segment at `at`: its count and its variants
 abbrev pub behindSegment : List ℕ → ℕ → ℕ

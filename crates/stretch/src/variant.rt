@@ -6,10 +6,8 @@ use text::compare::same;
 use text::letter::first_wrong;
 use text::refusal;
 ghost use mathlib.Core.Path.{_≡_};
-ghost use Prim.Native.Nat.{_≤_};
-ghost use lib.ListN.{length};
 ghost use Rattle.text.specs.Refusal.{refused};
-ghost use Rattle.stretch.specs.Skips.{behindVariants};
+ghost use Rattle.stretch.specs.Skips.{UpTo};
 ghost use Rattle.stretch.specs.Variants.{headAt, repeated, soundAt, toldPart};
 
 // Where a variant's letters start, and where the next variant begins, right behind them.
@@ -49,30 +47,28 @@ pub fn head(stretch: &[u8], at: usize) -> Part
     Part::At { start, next }
 }
 
-// Whether a variant is equal to one of the k that stand one after another from `first` on. All of them are whole: a walk has passed
-// them, so that nothing is tested twice.
-pub fn repeated(stretch: &[u8], first: usize, k: usize, variant: &[u8]) -> bool
-    requires { ⌜ behindVariants (now stretch) k first ≤ length (now stretch) ⌝ }
+// Whether a variant is equal to one of the k that stand one after another from `first` up to `at`. All of them are whole: a walk has
+// passed them, so that nothing is tested twice. Their number is for the contract; the loop goes by the place, which the walk has.
+pub fn repeated(stretch: &[u8], first: usize, k: usize, at: usize, variant: &[u8]) -> bool
+    requires { ⌜ UpTo (now stretch) first k at ⌝ }
     ensures { λ r. ⌜ r ≡ repeated (now (stretch .entry)) (now (variant .entry)) k first ⌝ }
 {
-    let mut at = first;
-    let mut rest = k;
-    while rest != 0 {
-        let letters = pair(stretch, at);
-        let start = at + 2;
+    let mut place = first;
+    while place < at {
+        let letters = pair(stretch, place);
+        let start = place + 2;
         let next = start + letters;
         if same(variant, &stretch[start..next]) {
             return true;
         }
-        at = next;
-        rest -= 1;
+        place = next;
     }
     false
 }
 
 // The variant at `at`, behind the k of its segment that stand from `first` on: refusals 5, 7 and 8.
 pub fn variant_at(stretch: &[u8], first: usize, k: usize, at: usize) -> Part
-    requires { ⌜ behindVariants (now stretch) k first ≤ length (now stretch) ⌝ }
+    requires { ⌜ UpTo (now stretch) first k at ⌝ }
     ensures { λ r. ⌜ toldPart r ≡ soundAt (now (stretch .entry)) first k at ⌝ }
 {
     let Part::At { start, next } = head(stretch, at) else {
@@ -86,7 +82,7 @@ pub fn variant_at(stretch: &[u8], first: usize, k: usize, at: usize) -> Part
             place: start + wrong,
         });
     }
-    if repeated(stretch, first, k, letters) {
+    if repeated(stretch, first, k, at, letters) {
         return Part::Refused(Refusal {
             number: refusal::REPEATED,
             place: at,
