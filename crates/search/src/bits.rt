@@ -11,10 +11,8 @@ use text::refusal;
 use text::size::counted;
 ghost use mathlib.Core.Path.{_≡_};
 ghost use mathlib.Core.Bool.{not};
-ghost use Prim.Native.Nat.{_≤_};
-ghost use lib.ListN.{length};
 ghost use Rattle.text.specs.Letter.{letter, every};
-ghost use Rattle.stretch.specs.Skips.{behindVariants};
+ghost use Rattle.stretch.specs.Skips.{UpTo};
 ghost use Rattle.search.specs.Step.{Steps, toldPassed, variantPass, segmentPass};
 ghost use Rattle.search.specs.Masks.{Ready};
 
@@ -72,7 +70,7 @@ fn variant_bits(
     at: usize,
 ) -> Passed
     requires { ⌜ Ready (now pattern) (now masks) (now classes) bits ⌝ }
-    requires { ⌜ behindVariants (now stretch) k first ≤ length (now stretch) ⌝ }
+    requires { ⌜ UpTo (now stretch) first k at ⌝ }
     ensures { λ r. ⌜ toldPassed r ≡ variantPass (now (pattern .entry)) bits (now (stretch .entry)) first k at ⌝ }
 {
     match head(stretch, at) {
@@ -87,7 +85,7 @@ fn variant_bits(
                     place,
                 });
             }
-            if repeated(stretch, first, k, letters) {
+            if repeated(stretch, first, k, at, letters) {
                 return Passed::Refused(Refusal {
                     number: refusal::REPEATED,
                     place: at,

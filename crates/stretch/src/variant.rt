@@ -6,6 +6,8 @@ use text::compare::same;
 use text::letter::first_wrong;
 use text::refusal;
 ghost use mathlib.Core.Path.{_≡_};
+ghost use Prim.Native.Nat.{_≤_};
+ghost use lib.ListN.{length};
 ghost use Rattle.text.specs.Refusal.{refused};
 ghost use Rattle.stretch.specs.Skips.{UpTo};
 ghost use Rattle.stretch.specs.Variants.{headAt, repeated, soundAt, toldPart};
@@ -28,13 +30,10 @@ fn cut_off(at: usize) -> Part
 
 // The variant whose length stands at `at`: refusal 5.
 pub fn head(stretch: &[u8], at: usize) -> Part
+    requires { ⌜ at ≤ length (now stretch) ⌝ }
     ensures { λ r. ⌜ toldPart r ≡ headAt (now (stretch .entry)) at ⌝ }
 {
-    let end = stretch.len();
-    if end <= at {
-        return cut_off(at);
-    }
-    let left = end - at;
+    let left = stretch.len() - at;
     if left < 2 {
         return cut_off(at);
     }
