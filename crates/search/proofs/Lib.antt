@@ -1,5 +1,6 @@
 -- Laws of the definitions in specs/, and the theorems about them.
 pub mod Vectors
+pub mod Words
 pub mod Meets
 pub mod Carries
 pub mod RowSteps

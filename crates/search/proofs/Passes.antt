@@ -38,6 +38,31 @@ module _ (s : List ℕ) (at start next : ℕ) (w : Whole s at start next) where
       omega (arith, first-le letter (take (next - start) (drop start s)), long) in
       all)
 
+-- what the test of a whole variant answers
+module _ (s : List ℕ) (first k at start next : ℕ) (w : Whole s at start next) where
+  pub letters-wrong : (x : ℕ) → x ≡ firstNot letter (take (next - start) (drop start s)) → every letter (take (next - start) (drop start s)) ≡ false
+      → soundAt s first k at ≡ refused 7 (start + x)
+  letters-wrong x e bad = sound-wrong s first k at start next w x e near
+    where
+      near : x < next - start
+      near =
+          by-cases (decLt x (next - start))
+          (λ (l : x < next - start). l)
+          (λ (l : ¬ (x < next - start)).
+          let all : firstNot letter (take (next - start) (drop start s)) ≡ length (take (next - start) (drop start s)) =
+          omega (arith, first-le letter (take (next - start) (drop start s)), long s at start next w) in
+          absurd (true≢false (sym (first-every letter (take (next - start) (drop start s)) all) ∙ bad)))
+
+  module _ (good : every letter (take (next - start) (drop start s)) ≡ true) where
+    all : next - start ≤ firstNot letter (take (next - start) (drop start s))
+    all = omega (arith, every-first letter (take (next - start) (drop start s)) good, long s at start next w)
+
+    pub letters-again : repeated s (take (next - start) (drop start s)) k first ≡ true → soundAt s first k at ≡ refused 8 at
+    letters-again r = sound-repeated s first k at start next w _ refl all r
+
+    pub letters-new : repeated s (take (next - start) (drop start s)) k first ≡ false → soundAt s first k at ≡ ok (record { start = start; next = next })
+    letters-new r = sound-ok s first k at start next w _ refl all r
+
 -- the answers of a step over a variant
 module _ (P : List ℕ) (st : ℕ) (s : List ℕ) (first k at : ℕ) where
   pub pass-refused : (n p : ℕ) → soundAt s first k at ≡ refused n p → variantPass P st s first k at ≡ refused n p
@@ -51,32 +76,16 @@ module _ (P : List ℕ) (st : ℕ) (s : List ℕ) (first k at : ℕ) where
     pub pass-stopped : (x : ℕ) → x ≡ firstNot letter (take (next - start) (drop start s)) → x < next - start → variantPass P st s first k at ≡ refused 7 (start + x)
     pass-stopped x e near = pass-refused 7 (start + x) (sound-wrong s first k at start next w x e near)
 
-    pub pass-wrong : (x : ℕ) → x ≡ firstNot letter (take (next - start) (drop start s)) → every letter (take (next - start) (drop start s)) ≡ false
-        → variantPass P st s first k at ≡ refused 7 (start + x)
-    pass-wrong x e bad = pass-stopped x e near
-      where
-        near : x < next - start
-        near =
-            by-cases (decLt x (next - start))
-            (λ (l : x < next - start). l)
-            (λ (l : ¬ (x < next - start)).
-            let all : firstNot letter (take (next - start) (drop start s)) ≡ length (take (next - start) (drop start s)) =
-            omega (arith, first-le letter (take (next - start) (drop start s)), long s at start next w) in
-            absurd (true≢false (sym (first-every letter (take (next - start) (drop start s)) all) ∙ bad)))
-
     module _ (good : every letter (take (next - start) (drop start s)) ≡ true) where
-      all : next - start ≤ firstNot letter (take (next - start) (drop start s))
-      all = omega (arith, every-first letter (take (next - start) (drop start s)) good, long s at start next w)
-
       pub pass-repeated : repeated s (take (next - start) (drop start s)) k first ≡ true → variantPass P st s first k at ≡ refused 8 at
-      pass-repeated r = pass-refused 8 at (sound-repeated s first k at start next w _ refl all r)
+      pass-repeated r = pass-refused 8 at (letters-again s first k at start next w good r)
 
       pub pass-to : repeated s (take (next - start) (drop start s)) k first ≡ false → (size bits : ℕ) (hit : Bool)
           → size ≡ counted (next - start) → Steps P st (take (next - start) (drop start s)) bits hit
           → variantPass P st s first k at ≡ ok (record { next = next; size = size; state = bits; ends = hit })
       unfolding variantPass
       pass-to r size bits hit e t =
-          rw (sound-ok s first k at start next w _ refl all r, e, t .state, t .end, whole-part s at start next w)
+          rw (letters-new s first k at start next w good r, e, t .state, t .end, whole-part s at start next w)
 
 -- the variants of a segment, taken one after another
 pub record Taking (P : List ℕ) (st : ℕ) (s : List ℕ) (first k at size state : ℕ) (end : Bool) : Type 0 where

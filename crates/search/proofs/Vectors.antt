@@ -17,16 +17,16 @@ use lib.Pow.{pow-pos, pow-lt, ones-split, ones-lt}
 use lib.Seq.{take-suc, take-all, getD-set-same, getD-set-other}
 use Rattle.text.specs.Letter.{letter, every}
 use Rattle.text.specs.Text.{Variant}
-use Rattle.text.specs.Bits.{bit, fromBits}
-use Rattle.text.specs.State.{next, endsAt}
+use Rattle.text.specs.Bits.{bit, fromBits, anyOf}
+use Rattle.text.specs.State.{next, endsAt, ends}
 use Rattle.text.proofs.Truth.{or-false, or-right, and-true, and-false}
 use Rattle.text.proofs.Letters.{every-snoc}
 use Rattle.text.proofs.Bits.{bit-ext, bit-above, bit-zero, bit-or, bit-and, bit-fromBits, fromBits-lt, bit-single, bit-shl, bit-shl-below, bit-mod, bit-mod-above, bit-shr-test}
 use Rattle.text.proofs.Snoc.{_▸_}
 use Rattle.text.proofs.Steps.{next-open, next-lt}
 use Rattle.text.proofs.Scan.{empty-state, empty-ends, scan-state, scan-ends}
-use Rattle.search.specs.Step.{Steps}
 use Rattle.search.specs.Masks.{maskOf, Masks, Ready}
+use Rattle.search.specs.Words.{Words}
 
 -- one bit more
 bits-more : (f : ℕ → Bool) (k : ℕ) → fromBits f (suc k) ≡ bitOr (fromBits f k) (cond (f k) (2 ^ k) 0)
@@ -133,6 +133,11 @@ sum-union e st =
     let half : e * 2 ^ 1 % 2 ^ 64 ≡ e % 2 ^ 63 * 2 ^ 1 = omega arith in
     rw half (sym (or-shifted (e % 2 ^ 63) 1 (st % 2) (mod-lt st (lit< tt))))
 
+-- an occurrence ends in a lone variant
+pub ends-lone : (P : List ℕ) (st : ℕ) (v : Variant) → ends P st (v ∷ []) ≡ endsAt P st v
+unfolding ends anyOf
+ends-lone P st v = or-false (endsAt P st v)
+
 -- i letters of the variant v have been read
 pub record Scanning (P : List ℕ) (st : ℕ) (v : Variant) (i d hits bad : ℕ) : Type 0 where
   pub inside : i ≤ length v
@@ -208,7 +213,7 @@ low-ones m l =
     ∙ digits-div (2 ^ m - 1) (ones-lt (64 - m))
 
 -- a number below 2 ^ (n + 1) has bit n exactly when it is above 2 ^ n - 1
-top-bit : (n x : ℕ) → x < 2 ^ suc n → ltb (2 ^ n - 1) x ≡ bit x n
+pub top-bit : (n x : ℕ) → x < 2 ^ suc n → ltb (2 ^ n - 1) x ≡ bit x n
 top-bit n x l =
     by-cases (decLt x (2 ^ n))
     (λ (h : x < 2 ^ n). le-ltb (2 ^ n - 1) x (let z : x ≤ 2 ^ n - 1 = omega arith in z) ∙ sym (bit-above x n n h (let z : n ≤ n = omega arith in z)))
@@ -219,36 +224,17 @@ top-bit n x l =
     ∙ sym (sym (bit-shr-test x n) ∙ ap (λ (y : ℕ). eqb (y % 2) 1) (ap (λ (y : ℕ). y / 2 ^ n) (sym whole) ∙ digits-div 1 rest)))
 
 -- all letters have been read
-module _ (P masks classes : List ℕ) (st : ℕ) (v : Variant) (i d hits bad low : ℕ) (y : Ready P masks classes st)
-    (s : Scanning P st v i d hits bad) (l : length v ≤ i) (e : low ≡ 0xffff_ffff_ffff_ffff / 2 ^ (64 - length P)) where
+module _ (P : List ℕ) (st : ℕ) (v : Variant) (i d hits bad : ℕ) (s : Scanning P st v i d hits bad) (l : length v ≤ i) where
   all : take i v ≡ v
   all = take-all i v l
 
-  ones : low ≡ 2 ^ length P - 1
-  ones = e ∙ low-ones (length P) (y .short)
-
-  state : bitAnd d low ≡ next P st (v ∷ [])
-  state =
-      ap (bitAnd d) ones
-      ∙ and-mask d (length P)
-      ∙ bit-ext (length P) (d % 2 ^ length P) (next P st (v ∷ [])) (mod-lt d (pow-pos (length P))) (next-lt P st (v ∷ []))
-      (λ r h. bit-mod d (length P) r h ∙ s .state r h ∙ ap (λ (t : List ℕ). bit (next P st (t ∷ [])) r) all)
-
-  half : low / 2 ≡ 2 ^ (length P - 1) - 1
-  half =
-      let long : length P ≡ suc (length P - 1) = omega (arith, y .some) in
-      omega (arith, ones, ap (λ (n : ℕ). 2 ^ n) long ∙ pow-suc 2 (length P - 1), pow-pos (length P - 1))
-
-  ended : ltb (low / 2) hits ≡ endsAt P st v
-  ended =
-      let long : length P ≡ suc (length P - 1) = omega (arith, y .some) in
-      ap (λ (n : ℕ). ltb n hits) half
-      ∙ top-bit (length P - 1) hits (subst (λ (n : ℕ). hits < 2 ^ n) long (s .fits))
-      ∙ s .ended
-      ∙ ap (endsAt P st) all
-
-  pub scanning-all : Steps P st v (bitAnd d low) (ltb (low / 2) hits)
-  scanning-all = record { state = state; end = ended }
+  pub scanning-all : Words P st (v ∷ []) d hits
+  scanning-all =
+      record {
+        state = λ r h. s .state r h ∙ ap (λ (t : List ℕ). bit (next P st (t ∷ [])) r) all;
+        fits = s .fits;
+        end = s .ended ∙ ap (endsAt P st) all ∙ sym (ends-lone P st v);
+      }
 
   pub scanning-wrong : not (eqb bad 0) ≡ not (every letter v)
   scanning-wrong = ap not (s .clean ∙ ap (every letter) all)

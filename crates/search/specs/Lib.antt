@@ -1,6 +1,7 @@
 -- Searching and feeding: what the calls answer, what one variant's step is, and what a state carries.
 pub mod Step
 pub mod Masks
+pub mod Words
 pub mod Border
 pub mod BorderStep
 pub mod Method

@@ -11,20 +11,35 @@ use text::refusal;
 use text::size::counted;
 ghost use mathlib.Core.Path.{_≡_};
 ghost use mathlib.Core.Bool.{not};
+ghost use mathlib.Core.List.{[], _∷_};
 ghost use Rattle.text.specs.Letter.{letter, every};
 ghost use Rattle.stretch.specs.Skips.{UpTo};
-ghost use Rattle.search.specs.Step.{Steps, toldPassed, variantPass, segmentPass};
+ghost use Rattle.search.specs.Step.{toldPassed, segmentPass};
 ghost use Rattle.search.specs.Masks.{Ready};
+ghost use Rattle.search.specs.Words.{Words, SweptAt};
 
-// What one pass over a variant's letters finds.
+// What one pass over a variant's letters finds: the word behind them, the union of the words on the way, and whether a byte is no
+// letter.
 pub struct Scanned {
     pub bits: u64,
-    pub ends: bool,
+    pub hits: u64,
     pub wrong: bool,
 }
 
-// The state that the variant leads to, whether an occurrence ends in it, and whether a byte of it is no letter. Bits from m up
-// are cleared once at the end: the letter vectors have none.
+// How far a sweep over a variant has come in the bytes: the place behind it, its size, the word there, and the union of the words on
+// the way.
+pub enum Swept {
+    To {
+        next: usize,
+        size: usize,
+        bits: u64,
+        hits: u64,
+    },
+    Refused(Refusal),
+}
+
+// The word that the variant leads to. Bits from m up are cleared once behind each segment: the letter vectors have none. The pattern is
+// for the contract.
 pub fn scan(
     pattern: &[u8],
     masks: &[u64; 256],
@@ -33,9 +48,9 @@ pub fn scan(
     variant: &[u8],
 ) -> Scanned
     requires { ⌜ Ready (now pattern) (now masks) (now classes) bits ⌝ }
-    ensures { λ r. ⌜ Steps (now (pattern .entry)) bits (now (variant .entry)) (r .bits) (r .ends) × (r .wrong ≡ not (every letter (now (variant .entry)))) ⌝ }
+    ensures { λ r. ⌜ Words (now (pattern .entry)) bits (now (variant .entry) ∷ []) (r .bits) (r .hits)
+        × (r .wrong ≡ not (every letter (now (variant .entry)))) ⌝ }
 {
-    let low = 0xffff_ffff_ffff_ffff >> (64 - pattern.len());
     let fresh = bits % 2;
     let mut d = bits;
     let mut hits = 0;
@@ -51,8 +66,8 @@ pub fn scan(
         i += 1;
     }
     Scanned {
-        bits: d & low,
-        ends: low / 2 < hits,
+        bits: d,
+        hits,
         wrong: bad != 0,
     }
 }
@@ -68,35 +83,35 @@ fn variant_bits(
     first: usize,
     k: usize,
     at: usize,
-) -> Passed
+) -> Swept
     requires { ⌜ Ready (now pattern) (now masks) (now classes) bits ⌝ }
     requires { ⌜ UpTo (now stretch) first k at ⌝ }
-    ensures { λ r. ⌜ toldPassed r ≡ variantPass (now (pattern .entry)) bits (now (stretch .entry)) first k at ⌝ }
+    ensures { λ r. ⌜ SweptAt (now (pattern .entry)) bits (now (stretch .entry)) first k at r ⌝ }
 {
     match head(stretch, at) {
-        Part::Refused(refused) => Passed::Refused(refused),
+        Part::Refused(refused) => Swept::Refused(refused),
         Part::At { start, next } => {
             let letters = &stretch[start..next];
             let scanned = scan(pattern, masks, classes, bits, letters);
             if scanned.wrong {
                 let place = start + first_wrong(letters);
-                return Passed::Refused(Refusal {
+                return Swept::Refused(Refusal {
                     number: refusal::WRONG_LETTER,
                     place,
                 });
             }
             if repeated(stretch, first, k, at, letters) {
-                return Passed::Refused(Refusal {
+                return Swept::Refused(Refusal {
                     number: refusal::REPEATED,
                     place: at,
                 });
             }
             let size = counted(next - start);
-            Passed::To {
+            Swept::To {
                 next,
                 size,
                 bits: scanned.bits,
-                ends: scanned.ends,
+                hits: scanned.hits,
             }
         }
     }
@@ -131,31 +146,32 @@ pub fn segment_bits(
     let mut next = first;
     let mut size = 0;
     let mut state = bits % 2;
-    let mut ends = false;
+    let mut hits = 0;
     let mut k = 0;
     while k < count {
         match variant_bits(pattern, masks, classes, bits, stretch, first, k, next) {
-            Passed::Refused(refused) => {
+            Swept::Refused(refused) => {
                 return Passed::Refused(refused);
             }
-            Passed::To {
+            Swept::To {
                 next: behind,
                 size: more,
                 bits: reached,
-                ends: hit,
+                hits: met,
             } => {
                 size += more;
                 state = state | reached;
-                ends = ends | hit;
+                hits = hits | met;
                 next = behind;
                 k += 1;
             }
         }
     }
+    let low = 0xffff_ffff_ffff_ffff >> (64 - pattern.len());
     Passed::To {
         next,
         size,
-        bits: state,
-        ends,
+        bits: state & low,
+        ends: low / 2 < hits,
     }
 }

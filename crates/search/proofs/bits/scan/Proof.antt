@@ -10,16 +10,10 @@ use Rattle.search.proofs.bits.scan.Statement.{statement}
 use Rattle.search.proofs.bits.scan.Tie as tie
 
 abbrev Inv-loop : tie.InvT-loop
-Inv-loop pattern masks classes bits variant low fresh d₀ hits₀ bad₀ i₀ d hits bad i = Scanning pattern bits variant i d hits bad
+Inv-loop pattern masks classes bits variant fresh d₀ hits₀ bad₀ i₀ d hits bad i = Scanning pattern bits variant i d hits bad
 
 abbrev μ-loop : tie.MeasureT-loop
-μ-loop pattern masks classes bits variant low fresh d₀ hits₀ bad₀ i₀ d hits bad i = length variant - i
-
-sub-low : tie.Need-sub-low Inv-loop μ-loop
-sub-low c = search needs
-
-shr-low : tie.Need-shr-low Inv-loop μ-loop
-shr-low c = search needs
+μ-loop pattern masks classes bits variant fresh d₀ hits₀ bad₀ i₀ d hits bad i = length variant - i
 
 loop-holds : tie.Need-loop-holds Inv-loop μ-loop
 loop-holds c = scanning-none _ _ _ _ _ (c .pre)
@@ -59,10 +53,8 @@ loop-again c =
 
 returns : tie.Need-returns Inv-loop μ-loop
 returns c =
-    let d = c .before in (
-      scanning-all _ _ _ _ _ _ _ _ _ _ (d .before .pre) (d .loop .inv) (c .loop-test .left) refl,
-      scanning-wrong _ _ _ _ _ _ _ _ _ _ (d .before .pre) (d .loop .inv) (c .loop-test .left) refl,
-    )
+    let d = c .before in
+    (scanning-all _ _ _ _ _ _ _ (d .loop .inv) (c .loop-test .left), scanning-wrong _ _ _ _ _ _ _ (d .loop .inv) (c .loop-test .left))
 
 pub scan-spec : {M : Type 1} → statement M
 scan-spec =
@@ -70,8 +62,6 @@ scan-spec =
     (tie.spec
     Inv-loop
     μ-loop
-    sub-low
-    shr-low
     loop-holds
     shared-slice-read-c
     cast-c

@@ -1,21 +1,21 @@
--- `search::bits::segment_bits` meets its contract. The loop's invariant, `Taking`: k variants are read, and state and end are theirs.
+-- `search::bits::segment_bits` meets its contract. The loop's invariant, `Sweeping`: k variants are read, and the words are theirs.
 -- The measure is the number of variants left.
 use Prim.Native.Nat.{_-_, _≤_}
 use borrow.Author.Needs.{needs}
 use native.Mathlib.Omega.{arith}
-use mathlib.Core.Path.{sym, ap, _∙_}
+use mathlib.Core.Path.{refl, sym, _∙_}
 use Rattle.stretch.proofs.Segments.{in-whole, segment-cut, segment-none, segment-variants, segment-all}
-use Rattle.search.specs.Step.{toldPassed}
-use Rattle.search.proofs.Passes.{Taking, taking-none, taking-more, taking-refused, segment-passed-not, segment-passed}
+use Rattle.search.proofs.Passes.{segment-passed-not, segment-passed}
+use Rattle.search.proofs.Words.{Sweeping, sweeping-none, sweeping-more, sweeping-refused, sweeping-taken}
 use Rattle.search.proofs.bits.segment_bits.Statement.{statement}
 use Rattle.search.proofs.bits.segment_bits.Tie as tie
 
 abbrev Inv-loop : tie.InvT-loop
-Inv-loop pattern masks classes bits stretch at count first next₀ size₀ state₀ ends₀ k₀ next size state ends k =
-    Taking pattern bits stretch first k next size state ends × (k ≤ count)
+Inv-loop pattern masks classes bits stretch at count first next₀ size₀ state₀ hits₀ k₀ next size state hits k =
+    Sweeping pattern bits stretch first k next size state hits × (k ≤ count)
 
 abbrev μ-loop : tie.MeasureT-loop
-μ-loop pattern masks classes bits stretch at count first next₀ size₀ state₀ ends₀ k₀ next size state ends k = count - k
+μ-loop pattern masks classes bits stretch at count first next₀ size₀ state₀ hits₀ k₀ next size state hits k = count - k
 
 returns : tie.Need-returns Inv-loop μ-loop
 returns c = sym (segment-passed-not _ _ _ _ _ _ (segment-cut _ _ (c .if1 .taken)))
@@ -35,7 +35,7 @@ add-first : tie.Need-add-first Inv-loop μ-loop
 add-first c = search needs
 
 loop-holds : tie.Need-loop-holds Inv-loop μ-loop
-loop-holds c = (taking-none _ _ _ _ (search needs) (omega arith), omega arith)
+loop-holds c = (sweeping-none _ _ _ _ (search needs) (omega arith), omega arith)
 
 variant-bits-requires : tie.Need-variant-bits-requires Inv-loop μ-loop
 variant-bits-requires c κs = (search needs, in-whole _ _ _ _ _ _ (c .before .loop .inv .0 .sum))
@@ -47,8 +47,8 @@ returns-3 : tie.Need-returns-3 Inv-loop μ-loop
 returns-3 c =
     let d = c .before .before .before in
     let a = d .before .before in
-    let wrong = sym (d .variant-bits .ensures) ∙ ap toldPassed (c .before .refused .given .1) in
-    let all = taking-refused _ _ _ _ _ _ _ _ _ (a .loop .inv .0) _ (d .before .loop-test .taken) _ _ wrong in
+    let wrong = c .before .refused .given .1 in
+    let all = sweeping-refused _ _ _ _ _ _ _ _ _ (a .loop .inv .0) _ (d .variant-bits .ensures) _ (d .before .loop-test .taken) _ _ wrong in
     let e = a .before .before in
     sym
     (segment-passed-not _ _ _ _ _ _
@@ -60,8 +60,7 @@ enum-known-behind c = search needs
 loop-again : tie.Need-loop-again Inv-loop μ-loop
 loop-again c =
     let d = c .before .before .before in
-    let on = sym (d .variant-bits .ensures) ∙ ap toldPassed (c .before .behind .given .1) in
-    (taking-more _ _ _ _ _ _ _ _ _ (d .before .before .loop .inv .0) _ _ _ _ on, omega arith)
+    (sweeping-more _ _ _ _ _ _ _ _ _ (d .before .before .loop .inv .0) _ (d .variant-bits .ensures) _ _ _ _ (c .before .behind .given .1), omega arith)
 
 add-size : tie.Need-add-size Inv-loop μ-loop
 add-size c = let m = loop-again c .0 .sum in omega (arith, m .small, m .inside)
@@ -72,11 +71,18 @@ add-k c = search needs
 loop-less : tie.Need-loop-less Inv-loop μ-loop
 loop-less c = search needs
 
+sub-low : tie.Need-sub-low Inv-loop μ-loop
+sub-low c = search needs
+
+shr-low : tie.Need-shr-low Inv-loop μ-loop
+shr-low c = search needs
+
 returns-4 : tie.Need-returns-4 Inv-loop μ-loop
 returns-4 c =
     let a = c .before in
     let e = a .before .before in
-    let t = a .loop .inv .0 in
+    let p = e .before .before .before .before .before .pre in
+    let t = sweeping-taken _ _ _ _ _ _ _ _ _ (a .loop .inv .0) (p .some) (p .short) _ refl in
     let all =
     segment-all _ _ (e .before .before .if1 .left) _ (e .wide .ensures .0) (a .before .if2 .left) _ _ _ _ (t .sum) (omega arith) in
     sym (segment-passed _ _ _ _ _ _ _ _ _ t all)
@@ -101,4 +107,6 @@ segment-bits-spec =
     add-k
     loop-less
     loop-again
+    sub-low
+    shr-low
     returns-4)

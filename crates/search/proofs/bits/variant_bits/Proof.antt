@@ -1,4 +1,4 @@
--- `search::bits::variant_bits` meets its contract: each answer is a law of `variantPass`, from what `head`, `scan`, `first_wrong` and
+-- `search::bits::variant_bits` meets its contract: each answer is a law of `soundAt`, from what `head`, `scan`, `first_wrong` and
 -- `repeated` ensure.
 use borrow.Author.Needs.{needs}
 use borrow.Author.Tests.{not-true, not-false}
@@ -6,7 +6,9 @@ use native.Mathlib.Omega.{arith}
 use mathlib.Core.Path.{sym, ap, _∙_}
 use Rattle.stretch.specs.Variants.{toldPart}
 use Rattle.stretch.proofs.Heads.{Whole, head-is}
-use Rattle.search.proofs.Passes.{pass-cut, wrong-place, pass-wrong, pass-repeated, pass-to}
+use Rattle.stretch.proofs.Units.{sound-refused}
+use Rattle.search.proofs.Passes.{wrong-place, letters-wrong, letters-again}
+use Rattle.search.proofs.Words.{swept-not, swept-to}
 use Rattle.search.proofs.bits.variant_bits.Statement.{statement}
 use Rattle.search.proofs.bits.variant_bits.Tie as tie
 
@@ -53,7 +55,7 @@ returns : tie.Need-returns
 returns c =
     let d = c .before .before in
     let bad = not-true _ (sym (d .scan .ensures .1) ∙ c .before .if1 .taken) in
-    sym (pass-wrong _ _ _ _ _ _ _ _ (found (d .before .before .before)) _ (c .first-wrong .ensures) bad)
+    swept-not _ _ _ _ _ _ _ _ (letters-wrong _ _ _ _ _ _ (found (d .before .before .before)) _ (c .first-wrong .ensures) bad)
 
 repeated-requires : tie.Need-repeated-requires
 repeated-requires c κs = search needs
@@ -62,7 +64,8 @@ returns-2 : tie.Need-returns-2
 returns-2 c =
     let d = c .before .before .before in
     let good = not-false _ (sym (d .scan .ensures .1) ∙ c .before .before .if1 .left) in
-    sym (pass-repeated _ _ _ _ _ _ _ _ (found (d .before .before .before)) good (sym (c .before .repeated .ensures) ∙ c .if2 .taken))
+    let again = sym (c .before .repeated .ensures) ∙ c .if2 .taken in
+    swept-not _ _ _ _ _ _ _ _ (letters-again _ _ _ _ _ _ (found (d .before .before .before)) good again)
 
 sub-counted : tie.Need-sub-counted
 sub-counted c = let w = found (c .before .before .before .before .before .before) in omega (arith, w .starts, w .ends)
@@ -71,14 +74,14 @@ counted-requires : tie.Need-counted-requires
 counted-requires c κs = search needs
 
 returns-3 : tie.Need-returns-3
-returns-3 c = sym (pass-cut _ _ _ _ _ _ _ _ (sym (c .before .before .before .head .ensures) ∙ ap toldPart (c .before .refused .given .1)))
+returns-3 c = swept-not _ _ _ _ _ _ _ _ (sound-refused _ _ _ _ _ _ (sym (c .before .before .before .head .ensures) ∙ ap toldPart (c .before .refused .given .1)))
 
 returns-4 : tie.Need-returns-4
 returns-4 c =
     let d = c .before .before .before .before in
     let good = not-false _ (sym (d .scan .ensures .1) ∙ c .before .before .before .if1 .left) in
     let new = sym (c .before .before .repeated .ensures) ∙ c .before .if2 .left in
-    sym (pass-to _ _ _ _ _ _ _ _ (found (d .before .before .before)) good new _ _ _ (c .counted .ensures) (d .scan .ensures .0))
+    swept-to _ _ _ _ _ _ _ _ (found (d .before .before .before)) good new _ _ _ (c .counted .ensures) (d .scan .ensures .0)
 
 pub variant-bits-spec : {M : Type 1} → statement M
 variant-bits-spec =

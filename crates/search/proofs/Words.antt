@@ -1,0 +1,126 @@
+-- Laws of words: how they go on, and what is left of them where the bits from m up are cleared; and the sweep over the variants of a
+-- segment.
+use Prim.Native.Nat.{ℕ, suc, _+_, _-_, _/_, _%_, _^_, _≤_, _<_}
+use native.Mathlib.Nat.{pow-suc, mod-lt}
+use native.Mathlib.Omega.{arith}
+use mathlib.Core.Path.{_≡_, sym, ap, ap₂, subst, _∙_}
+use mathlib.Core.Bool.{Bool, true, false, _||_}
+use mathlib.Core.List.{List, [], _∷_, _++_}
+use lib.Bits.{bitAnd, bitOr, and-mask, or-lt}
+use lib.Dec.{ltb}
+use lib.ListN.{length, take, drop}
+use lib.Pow.{pow-pos}
+use Rattle.text.specs.Letter.{letter, every}
+use Rattle.text.specs.Text.{Variant, Segment, counted}
+use Rattle.text.specs.Bits.{bit}
+use Rattle.text.specs.State.{next, ends}
+use Rattle.text.specs.Refusal.{ok, refused}
+use Rattle.text.proofs.Bits.{bit-ext, bit-zero, bit-or, bit-mod}
+use Rattle.text.proofs.Steps.{next-lt}
+use Rattle.text.proofs.Folds.{next-none, next-snoc, ends-none, ends-snoc}
+use Rattle.stretch.specs.Reading.{lettersAt, variantAt, many}
+use Rattle.stretch.specs.Variants.{repeated, soundAt}
+use Rattle.stretch.proofs.Heads.{Whole, whole-part}
+use Rattle.stretch.proofs.Segments.{InSegment, in-none, in-more, in-refused}
+use Rattle.search.specs.Words.{Words, SweptAt}
+use Rattle.search.specs.declared.bits.Swept.{Swept}
+use Rattle.search.specs.declared.bits.Swept.the-variants.{To, Refused}
+use Rattle.search.proofs.Vectors.{low-ones, top-bit, ends-lone}
+use Rattle.search.proofs.Passes.{Taking, letters-new}
+
+pub words-none : (P : List ℕ) (st : ℕ) → 0 < length P → Words P st [] (st % 2) 0
+words-none P st some =
+    record {
+      state = λ r l. ap (λ (n : ℕ). bit n r) (sym (next-none P st some));
+      fits = pow-pos (length P);
+      end = bit-zero (length P - 1) ∙ sym (ends-none P st);
+    }
+
+-- a variant more: words are united
+words-more : (P : List ℕ) (st : ℕ) (g : Segment) (v : Variant) (a h b j : ℕ) → Words P st g a h → Words P st (v ∷ []) b j
+    → Words P st (g ++ (v ∷ [])) (bitOr a b) (bitOr h j)
+words-more P st g v a h b j w u =
+    record {
+      state =
+          λ r l.
+          bit-or a b r ∙ ap₂ _||_ (w .state r l) (u .state r l)
+          ∙ sym (ap (λ (n : ℕ). bit n r) (next-snoc P st g v) ∙ bit-or (next P st g) (next P st (v ∷ [])) r);
+      fits = or-lt (length P) h j (w .fits) (u .fits);
+      end =
+          bit-or h j (length P - 1) ∙ ap₂ _||_ (w .end) (u .end ∙ ends-lone P st v) ∙ sym (ends-snoc P st g v);
+    }
+
+-- bits from m up are cleared
+module _ (P : List ℕ) (st : ℕ) (g : Segment) (d hits : ℕ) (w : Words P st g d hits) (some : 0 < length P) (short : length P ≤ 64)
+    (low : ℕ) (e : low ≡ 0xffff_ffff_ffff_ffff / 2 ^ (64 - length P)) where
+  ones : low ≡ 2 ^ length P - 1
+  ones = e ∙ low-ones (length P) short
+
+  pub words-state : bitAnd d low ≡ next P st g
+  words-state =
+      ap (bitAnd d) ones
+      ∙ and-mask d (length P)
+      ∙ bit-ext (length P) (d % 2 ^ length P) (next P st g) (mod-lt d (pow-pos (length P))) (next-lt P st g)
+      (λ r h. bit-mod d (length P) r h ∙ w .state r h)
+
+  half : low / 2 ≡ 2 ^ (length P - 1) - 1
+  half =
+      let long : length P ≡ suc (length P - 1) = omega (arith, some) in
+      omega (arith, ones, ap (λ (n : ℕ). 2 ^ n) long ∙ pow-suc 2 (length P - 1), pow-pos (length P - 1))
+
+  pub words-end : ltb (low / 2) hits ≡ ends P st g
+  words-end =
+      let long : length P ≡ suc (length P - 1) = omega (arith, some) in
+      ap (λ (n : ℕ). ltb n hits) half
+      ∙ top-bit (length P - 1) hits (subst (λ (n : ℕ). hits < 2 ^ n) long (w .fits))
+      ∙ w .end
+
+-- the answers of a sweep over a variant
+module _ (P : List ℕ) (st : ℕ) (s : List ℕ) (first k at : ℕ) where
+  pub swept-not : (j p : ℕ) → soundAt s first k at ≡ refused j p → SweptAt P st s first k at (Refused (record { number = j; place = p }))
+  unfolding SweptAt
+  swept-not j p e = e
+
+  pub swept-to : (start next : ℕ) → Whole s at start next → every letter (take (next - start) (drop start s)) ≡ true
+      → repeated s (take (next - start) (drop start s)) k first ≡ false → (size bits hits : ℕ) → size ≡ counted (next - start)
+      → Words P st (take (next - start) (drop start s) ∷ []) bits hits → SweptAt P st s first k at (To next size bits hits)
+  unfolding SweptAt
+  swept-to start next w good new size bits hits e t =
+      (start, letters-new s first k at start next w good new, e, rw (whole-part s at start next w) at t)
+
+-- the variants of a segment, swept one after another
+pub record Sweeping (P : List ℕ) (st : ℕ) (s : List ℕ) (first k at size state hits : ℕ) : Type 0 where
+  pub seen : Segment
+  pub sum : InSegment s first k seen at size
+  pub words : Words P st seen state hits
+
+pub sweeping-none : (P : List ℕ) (st : ℕ) (s : List ℕ) (first : ℕ) → 0 < length P → first ≤ length s → Sweeping P st s first 0 first 0 (st % 2) 0
+sweeping-none P st s first some l = record { seen = []; sum = in-none s first l; words = words-none P st some }
+
+module _ (P : List ℕ) (st : ℕ) (s : List ℕ) (first k at size state hits : ℕ) (t : Sweeping P st s first k at size state hits) where
+  module _ (r : Swept) (w : SweptAt P st s first k at r) where
+    pub sweeping-more : (behind more bits met : ℕ) → r ≡ To behind more bits met
+        → Sweeping P st s first (k + 1) behind (size + more) (bitOr state bits) (bitOr hits met)
+    unfolding SweptAt
+    sweeping-more behind more bits met e =
+        let (start, sound, count, words) = subst (SweptAt P st s first k at) e w in
+        record {
+          seen = t .seen ++ (lettersAt s at ∷ []);
+          sum = in-more s first k (t .seen) at size (t .sum) start behind more sound count;
+          words = words-more P st (t .seen) (lettersAt s at) state hits bits met (t .words) words;
+        }
+
+    pub sweeping-refused : (n : ℕ) → k < n → (j p : ℕ) → r ≡ Refused (record { number = j; place = p }) → many (variantAt s) n [] first ≡ refused j p
+    unfolding SweptAt
+    sweeping-refused n l j p e = in-refused s first k (t .seen) at size (t .sum) n l j p (subst (SweptAt P st s first k at) e w)
+
+  -- the bits from m up are cleared behind the last one
+  pub sweeping-taken : 0 < length P → length P ≤ 64 → (low : ℕ) → low ≡ 0xffff_ffff_ffff_ffff / 2 ^ (64 - length P)
+      → Taking P st s first k at size (bitAnd state low) (ltb (low / 2) hits)
+  sweeping-taken some short low e =
+      record {
+        seen = t .seen;
+        sum = t .sum;
+        reached = words-state P st (t .seen) state hits (t .words) some short low e;
+        ended = words-end P st (t .seen) state hits (t .words) some short low e;
+      }

@@ -1,0 +1,26 @@
+-- Words of the search by bit-vectors, before bits from m up are cleared: what they say of a state and of an end.
+use Prim.Native.Nat.{ℕ, _-_, _^_, _<_}
+use mathlib.Core.Path.{_≡_}
+use mathlib.Core.List.{List, [], _∷_}
+use lib.ListN.{length}
+use Rattle.text.specs.Text.{Segment, counted}
+use Rattle.text.specs.Bits.{bit}
+use Rattle.text.specs.State.{next, ends}
+use Rattle.text.specs.Refusal.{ok, refused}
+use Rattle.stretch.specs.Reading.{lettersAt}
+use Rattle.stretch.specs.Variants.{soundAt}
+use Rattle.search.specs.declared.bits.Swept.{Swept}
+use Rattle.search.specs.declared.bits.Swept.the-variants.{To, Refused}
+
+-- from the state st the variants of g lead to the state that `bits` has below m, and the last bit of `hits` tells whether an
+-- occurrence ends in one of them
+pub record Words (P : List ℕ) (st : ℕ) (g : Segment) (bits hits : ℕ) : Type 0 where
+  pub state : (r : ℕ) → r < length P → bit bits r ≡ bit (next P st g) r
+  pub fits : hits < 2 ^ length P
+  pub end : bit hits (length P - 1) ≡ ends P st g
+
+-- what a sweep over the variant at `at` comes to, behind the k of its segment that stand from `first` on
+unfoldable pub SweptAt : List ℕ → ℕ → List ℕ → ℕ → ℕ → ℕ → Swept → Type 0
+SweptAt P st s first k at (To next size bits hits) =
+    (start : ℕ) × (soundAt s first k at ≡ ok (record { start = start; next = next })) × (size ≡ counted (next - start)) × Words P st (lettersAt s at ∷ []) bits hits
+SweptAt P st s first k at (Refused r) = soundAt s first k at ≡ refused (r .number) (r .place)
