@@ -18,6 +18,7 @@ use Rattle.text.proofs.Outcomes.{told-met, told-refused}
 use Rattle.text.proofs.Patterns.{SoundPattern, pattern-refused, sound-pattern}
 use Rattle.stretch.specs.Bytes.{greatestStretch}
 use Rattle.stretch.specs.Reading.{Taken, many, segmentAt, loneSegment}
+use Rattle.search.specs.Masks.{StateOf}
 use Rattle.search.specs.Answers.{Course, courseOf, feeding}
 use Rattle.search.proofs.Vectors.{low-ones}
 
@@ -88,14 +89,13 @@ module _ (P s : List ℕ) (st : ℕ) where
             wrong-state (ap (λ (b : Bool). bit st 0 && b) (le-ltb st (2 ^ length P) far) ∙ and-false (bit st 0))
 
         module _ (odd : st % 2 ≡ 0 → ⊥) (small : st ≤ low) where
-          pub fed-small : st < 2 ^ length P
-          fed-small = omega (arith, low-is, pow-pos (length P))
+          pub fed-state : StateOf P st
+          fed-state = record { small = omega (arith, low-is, pow-pos (length P)); odd = omega (arith, odd) }
 
           state : isState (length P) st ≡ true
           unfolding isState
           state =
-              let one : st % 2 ≡ 1 = omega (arith, odd) in
-              and-both (bit st 0) (ltb st (2 ^ length P)) (bit-first st ∙ ap (λ (n : ℕ). eqb n 1) one) (lt-ltb st (2 ^ length P) fed-small)
+              and-both (bit st 0) (ltb st (2 ^ length P)) (bit-first st ∙ ap (λ (n : ℕ). eqb n 1) (fed-state .odd)) (lt-ltb st (2 ^ length P) (fed-state .small))
 
           pub fed-refused : (j p : ℕ) → after (many (λ _. segmentAt s) 1 [] 0) (λ x. ok (courseOf P st x)) ≡ refused j p → feeding P st s ≡ refused j p
           unfolding feeding loneSegment

@@ -19,7 +19,6 @@ use Rattle.text.specs.Card.{Row, none, dead, row, later, firstEnd, ran, cardOf}
 use Rattle.text.proofs.Bits.{bit-single, bit-not, lone-bit}
 use Rattle.text.proofs.Outcomes.{ok-inj, refused-ok, told-met, told-refused}
 use Rattle.text.proofs.Patterns.{pattern-refused, pattern-sound, sound-pattern}
-use Rattle.text.proofs.Runs.{run-lt}
 use Rattle.text.proofs.Marks.{marks-length}
 use Rattle.text.proofs.Folds.{run-snoc, marks-snoc}
 use Rattle.text.proofs.Ends.{firstEnd-append}
@@ -29,11 +28,13 @@ use Rattle.stretch.specs.Bytes.{greatestStretch}
 use Rattle.stretch.specs.Reading.{segmentAt, many, stretchOf}
 use Rattle.stretch.proofs.Walks.{walk-length}
 use Rattle.stretch.proofs.Stretches.{InStretch, through-none, through-more, through-refused, segment-bytes}
+use Rattle.search.specs.Masks.{StateOf}
 use Rattle.search.specs.Step.{segmentPass}
 use Rattle.search.specs.RowStep.{Within, Covers, Readable, SegmentOver, rowAt, rowOver}
 use Rattle.search.specs.Rows.{Lone, Rowed, RowsOf, carding, rowsOut}
 use Rattle.search.proofs.Vectors.{low-ones}
 use Rattle.search.proofs.Passes.{Stepped, segment-met, segment-not}
+use Rattle.search.proofs.Searches.{run-state}
 use Rattle.search.proofs.RowSteps.{Filled, filled-more}
 
 -- one segment more at the end of a text
@@ -62,8 +63,8 @@ module _ (P : List ℕ) (t : Text) (exits firsts : List ℕ) (some : 0 < length 
   rowed-exit q l = ap (λ (r : Row). r .exit) (rowed-row q l)
 
   -- row 0 is a state of the pattern
-  pub rowed-small : getD exits 0 0 < 2 ^ length P
-  rowed-small = rw (rowed-exit 0 some) (run-lt P (2 ^ 0) t (pow-lt some))
+  pub rowed-state : StateOf P (getD exits 0 0)
+  rowed-state = rw (rowed-exit 0 some) (run-state P (2 ^ 0) t some (record { small = pow-lt some; odd = refl }))
 
 -- k segments have been walked over
 pub record Rowing (P s exits firsts : List ℕ) (live at k : ℕ) : Type 0 where

@@ -1,13 +1,12 @@
 -- The run of a search over segments: state, marks and number of ones are those of the segments read; and what a search answers.
-use Prim.Native.Nat.{ℕ, _+_, _*_, _^_, _≤_, _<_}
+use Prim.Native.Nat.{ℕ, _+_, _*_, _%_, _≤_, _<_}
 use native.Mathlib.Numerals.{add-one}
 use native.Mathlib.Omega.{arith}
 use mathlib.Core.Path.{_≡_, refl, sym, ap, ap₂, subst, _∙_}
 use mathlib.Core.Bool.{Bool, true, false, cond}
 use mathlib.Core.List.{List, [], _∷_, _++_}
-use borrow.Author.Tests.{le-leb, lt-leb}
+use borrow.Author.Tests.{le-leb, lt-leb, eq-eqb, eqb-true}
 use lib.ListN.{length, take, set, length-take}
-use lib.Pow.{pow-lt}
 use mir.Val.{boolByte}
 use lib.Seq.{take-suc-set}
 use Rattle.text.specs.Text.{Segment, Text, weight, total, size}
@@ -17,13 +16,15 @@ use Rattle.text.proofs.Sizes.{total-snoc}
 use Rattle.text.proofs.Outcomes.{ok-inj, refused-ok, told-met, told-refused}
 use Rattle.text.proofs.Patterns.{pattern-refused, pattern-sound, sound-pattern}
 use Rattle.text.proofs.Marks.{marks-length}
-use Rattle.text.proofs.Runs.{run-lt}
+use Rattle.text.proofs.Bits.{bit-first}
+use Rattle.text.proofs.Runs.{run-open, run-lt}
 use Rattle.text.proofs.Folds.{run-snoc, marks-snoc}
 use Rattle.stretch.specs.Bytes.{over}
 use Rattle.stretch.specs.Reading.{Taken, segmentAt, many, stretchOf}
 use Rattle.stretch.proofs.Walks.{walk-length}
 use Rattle.stretch.proofs.Stretches.{InStretch, through-none, through-more, through-refused, through-all, segment-bytes}
 use Rattle.stretch.specs.Answers.{leftBy}
+use Rattle.search.specs.Masks.{StateOf}
 use Rattle.search.specs.Step.{segmentPass}
 use Rattle.search.specs.Answers.{Course, courseOf, MarksFrom, RoomyFrom, Sums, sumsOf, Marks, stretchInto, searching}
 use Rattle.search.proofs.Passes.{Stepped, segment-met, segment-not}
@@ -32,6 +33,14 @@ use Rattle.search.proofs.Passes.{Stepped, segment-met, segment-not}
 pub byte-mark : (b : Bool) → boolByte b ≡ cond b 1 0
 byte-mark true = refl
 byte-mark false = refl
+
+-- a run leads from state to state
+pub run-state : (P : List ℕ) (st : ℕ) (T : Text) → 0 < length P → StateOf P st → StateOf P (run P st T)
+run-state P st T some s =
+    record {
+      small = run-lt P st T (s .small);
+      odd = eqb-true (run P st T % 2) 1 (sym (bit-first (run P st T)) ∙ run-open P st T some ∙ bit-first st ∙ eq-eqb (st % 2) 1 (s .odd));
+    }
 
 -- k segments from `from` on have been searched, from the state st on
 pub record Searching (P : List ℕ) (st : ℕ) (s : List ℕ) (from : ℕ) (buffer : List ℕ) (k at size ends bits : ℕ) : Type 0 where
@@ -59,8 +68,8 @@ searching-none P st s from buffer l =
 module _ (P : List ℕ) (st : ℕ) (s : List ℕ) (from : ℕ) (buffer : List ℕ) (k at size ones bits : ℕ)
     (q : Searching P st s from buffer k at size ones bits) where
   -- the state is one of the pattern's
-  pub searching-small : st < 2 ^ length P → bits < 2 ^ length P
-  searching-small small = rw (q .state) (run-lt P st (q .seen) small)
+  pub searching-state : 0 < length P → StateOf P st → StateOf P bits
+  searching-state some s = rw (q .state) (run-state P st (q .seen) some s)
 
   module _ (behind more reached : ℕ) (hit : Bool)
       (e : segmentPass P bits s at ≡ ok (record { next = behind; size = more; state = reached; ends = hit })) where

@@ -10,7 +10,7 @@ use mathlib.Core.Bool.{Bool, true, false, not, cond, _||_, _&&_, true≢false}
 use mathlib.Core.List.{List, [], _∷_}
 use borrow.Author.Tests.{lt-ltb, le-ltb, eq-eqb, ne-eqb}
 use lib.Arith.{digits-div}
-use lib.Bits.{bitAnd, bitOr, and-mask, and-le-r, or-lt, or-shifted, or-zero-r}
+use lib.Bits.{bitAnd, bitOr, and-mask, and-le-r, or-lt, or-zero-r}
 use lib.Dec.{eqb, ltb, lit<}
 use lib.ListN.{length, getD, take, set, replicate, length-set, length-replicate, getD-replicate}
 use lib.Pow.{pow-pos, pow-lt, ones-split, ones-lt}
@@ -127,12 +127,6 @@ classed bad false = ne-eqb (bitOr bad 1) 0 (λ e. true≢false (sym odd ∙ ap (
     odd : bit (bitOr bad 1) 0 ≡ true
     odd = bit-or bad 1 0 ∙ or-right (bit bad 0) (bit 1 0) (bit-single 0 0)
 
--- a shifted word has bit 0 clear: with the fresh start its sum is its union
-sum-union : (e st : ℕ) → e * 2 ^ 1 % 2 ^ 64 + st % 2 ≡ bitOr (e * 2 ^ 1 % 2 ^ 64) (st % 2)
-sum-union e st =
-    let half : e * 2 ^ 1 % 2 ^ 64 ≡ e % 2 ^ 63 * 2 ^ 1 = omega arith in
-    rw half (sym (or-shifted (e % 2 ^ 63) 1 (st % 2) (mod-lt st (lit< tt))))
-
 -- an occurrence ends in a lone variant
 pub ends-lone : (P : List ℕ) (st : ℕ) (v : Variant) → ends P st (v ∷ []) ≡ endsAt P st v
 unfolding ends anyOf
@@ -151,7 +145,7 @@ unfolding every
 scanning-none P masks classes st v y =
     record {
       inside = omega arith;
-      state = λ r l. ap (λ (n : ℕ). bit n r) (sym (empty-state P st (y .some) (y .small)));
+      state = λ r l. ap (λ (n : ℕ). bit n r) (sym (empty-state P st (y .some) (y .state .small)));
       fits = pow-pos (length P);
       ended = bit-zero (length P - 1) ∙ sym (empty-ends P st (y .some));
       clean = refl;
@@ -195,11 +189,11 @@ module _ (P masks classes : List ℕ) (st : ℕ) (v : Variant) (i d hits bad : �
       ∙ ap (λ (t : Bool). t && letter c) (s .clean)
       ∙ sym (ap (every letter) longer ∙ every-snoc letter (take i v) c)
 
-  pub scanning-more : Scanning P st v (i + 1) (bitAnd d (getD masks c 0) * 2 ^ 1 % 2 ^ 64 + st % 2) (bitOr hits (bitAnd d (getD masks c 0))) (bitOr bad (getD classes c 0))
+  pub scanning-more : Scanning P st v (i + 1) (bitOr (bitAnd d (getD masks c 0) * 2 ^ 1 % 2 ^ 64) 1) (bitOr hits (bitAnd d (getD masks c 0))) (bitOr bad (getD classes c 0))
   scanning-more =
       record {
         inside = omega arith;
-        state = λ r h. ap (λ (n : ℕ). bit n r) (sum-union (bitAnd d (getD masks c 0)) st) ∙ shifted r h;
+        state = λ r h. ap (λ (n : ℕ). bit (bitOr (bitAnd d (getD masks c 0) * 2 ^ 1 % 2 ^ 64) n) r) (sym (y .state .odd)) ∙ shifted r h;
         fits = or-lt (length P) hits (bitAnd d (getD masks c 0)) (s .fits) (kept-lt P masks (y .vectors) d c small);
         ended = ends-more;
         clean = clean-more;

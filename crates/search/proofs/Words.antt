@@ -28,10 +28,10 @@ use Rattle.search.specs.declared.bits.Swept.the-variants.{To, Refused}
 use Rattle.search.proofs.Vectors.{low-ones, top-bit, ends-lone}
 use Rattle.search.proofs.Passes.{Taking, letters-new}
 
-pub words-none : (P : List ℕ) (st : ℕ) → 0 < length P → Words P st [] (st % 2) 0
-words-none P st some =
+words-none : (P : List ℕ) (st : ℕ) → 0 < length P → st % 2 ≡ 1 → Words P st [] 1 0
+words-none P st some odd =
     record {
-      state = λ r l. ap (λ (n : ℕ). bit n r) (sym (next-none P st some));
+      state = λ r l. ap (λ (n : ℕ). bit n r) (sym (next-none P st some ∙ odd));
       fits = pow-pos (length P);
       end = bit-zero (length P - 1) ∙ sym (ends-none P st);
     }
@@ -94,8 +94,8 @@ pub record Sweeping (P : List ℕ) (st : ℕ) (s : List ℕ) (first k at size st
   pub sum : InSegment s first k seen at size
   pub words : Words P st seen state hits
 
-pub sweeping-none : (P : List ℕ) (st : ℕ) (s : List ℕ) (first : ℕ) → 0 < length P → first ≤ length s → Sweeping P st s first 0 first 0 (st % 2) 0
-sweeping-none P st s first some l = record { seen = []; sum = in-none s first l; words = words-none P st some }
+pub sweeping-none : (P : List ℕ) (st : ℕ) (s : List ℕ) (first : ℕ) → 0 < length P → st % 2 ≡ 1 → first ≤ length s → Sweeping P st s first 0 first 0 1 0
+sweeping-none P st s first some odd l = record { seen = []; sum = in-none s first l; words = words-none P st some odd }
 
 module _ (P : List ℕ) (st : ℕ) (s : List ℕ) (first k at size state hits : ℕ) (t : Sweeping P st s first k at size state hits) where
   module _ (r : Swept) (w : SweptAt P st s first k at r) where

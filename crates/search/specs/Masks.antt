@@ -1,5 +1,5 @@
 -- The tables of the search by bit-vectors: a letter vector for each byte, and which bytes are no letters.
-use Prim.Native.Nat.{ℕ, _^_, _<_, _≤_}
+use Prim.Native.Nat.{ℕ, _%_, _^_, _<_, _≤_}
 use mathlib.Core.Path.{_≡_}
 use mathlib.Core.Bool.{cond}
 use mathlib.Core.List.{List}
@@ -22,10 +22,15 @@ pub record Classes (table : List ℕ) : Type 0 where
   pub full : length table ≡ 256
   pub each : (c : ℕ) → c < 256 → getD table c 0 ≡ cond (letter c) 0 1
 
--- what a scan may rest on: a pattern of 1 to 64 bases with its tables, and a state below 2 ^ m
+-- a state of P: below 2 ^ m, and an occurrence may start afresh
+pub record StateOf (P : List ℕ) (st : ℕ) : Type 0 where
+  pub small : st < 2 ^ length P
+  pub odd : st % 2 ≡ 1
+
+-- what a scan may rest on: a pattern of 1 to 64 bases with its tables, and one of its states
 pub record Ready (P masks classes : List ℕ) (st : ℕ) : Type 0 where
   pub some : 0 < length P
   pub short : length P ≤ 64
   pub vectors : Masks P masks
   pub letters : Classes classes
-  pub small : st < 2 ^ length P
+  pub state : StateOf P st

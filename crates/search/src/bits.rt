@@ -51,7 +51,6 @@ pub fn scan(
     ensures { λ r. ⌜ Words (now (pattern .entry)) bits (now (variant .entry) ∷ []) (r .bits) (r .hits)
         × (r .wrong ≡ not (every letter (now (variant .entry)))) ⌝ }
 {
-    let fresh = bits % 2;
     let mut d = bits;
     let mut hits = 0;
     let mut bad = 0u8;
@@ -61,8 +60,7 @@ pub fn scan(
         bad = bad | classes[c];
         let e = d & masks[c];
         hits = hits | e;
-        // The sum is the union, since bit 0 of the shifted word is clear; it costs an instruction less.
-        d = (e << 1) + fresh;
+        d = (e << 1) | 1;
         i += 1;
     }
     Scanned {
@@ -145,7 +143,7 @@ pub fn segment_bits(
     let first = at + 1;
     let mut next = first;
     let mut size = 0;
-    let mut state = bits % 2;
+    let mut state = 1;
     let mut hits = 0;
     let mut k = 0;
     while k < count {

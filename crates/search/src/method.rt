@@ -3,9 +3,8 @@ use crate::bits::segment_bits;
 use crate::borders::segment_borders;
 use crate::step::Passed;
 ghost use mathlib.Core.Path.{_≡_};
-ghost use Prim.Native.Nat.{_^_, _<_};
-ghost use lib.ListN.{length};
 ghost use Rattle.search.specs.Step.{toldPassed, segmentPass};
+ghost use Rattle.search.specs.Masks.{StateOf};
 ghost use Rattle.search.specs.Method.{Tools};
 
 pub enum Method {
@@ -24,7 +23,7 @@ pub fn segment_by(
     stretch: &[u8],
     at: usize,
 ) -> Passed
-    requires { ⌜ Tools method (now pattern) (now table) (now classes) × (bits < 2 ^ length (now pattern)) ⌝ }
+    requires { ⌜ Tools method (now pattern) (now table) (now classes) × StateOf (now pattern) bits ⌝ }
     ensures { λ r. ⌜ toldPassed r ≡ segmentPass (now (pattern .entry)) bits (now (stretch .entry)) at ⌝ }
 {
     match method {

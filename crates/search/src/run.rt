@@ -5,11 +5,12 @@ use crate::step::Passed;
 use text::Refusal;
 ghost use mathlib.Core.Path.{_≡_};
 ghost use mathlib.Core.List.{[]};
-ghost use Prim.Native.Nat.{_^_, _≤_, _<_};
+ghost use Prim.Native.Nat.{_≤_};
 ghost use lib.ListN.{length};
 ghost use Rattle.text.specs.Refusal.{ok, after};
 ghost use Rattle.stretch.specs.Reading.{segmentAt, many};
 ghost use Rattle.search.specs.Answers.{courseOf, toldRan, MarksFrom, RoomyFrom};
+ghost use Rattle.search.specs.Masks.{StateOf};
 ghost use Rattle.search.specs.Method.{Tools};
 
 // The place behind the segments, their size, the state there, and the number of ones among their marks.
@@ -36,7 +37,7 @@ pub fn run(
     segments: usize,
     marks: &mut [u8],
 ) -> Ran
-    requires { ⌜ Tools method (now pattern) (now table) (now classes) × (state < 2 ^ length (now pattern)) ⌝ }
+    requires { ⌜ Tools method (now pattern) (now table) (now classes) × StateOf (now pattern) state ⌝ }
     requires { ⌜ (at ≤ length (now stretch)) × RoomyFrom (now stretch) at segments (now marks) ⌝ }
     ensures { λ r. ⌜ toldRan r
         ≡ after (many (λ _. segmentAt (now (stretch .entry))) segments [] at) (λ x. ok (courseOf (now (pattern .entry)) state x)) ⌝ }

@@ -10,10 +10,10 @@ use Rattle.search.proofs.bits.scan.Statement.{statement}
 use Rattle.search.proofs.bits.scan.Tie as tie
 
 abbrev Inv-loop : tie.InvT-loop
-Inv-loop pattern masks classes bits variant fresh d₀ hits₀ bad₀ i₀ d hits bad i = Scanning pattern bits variant i d hits bad
+Inv-loop pattern masks classes bits variant d₀ hits₀ bad₀ i₀ d hits bad i = Scanning pattern bits variant i d hits bad
 
 abbrev μ-loop : tie.MeasureT-loop
-μ-loop pattern masks classes bits variant fresh d₀ hits₀ bad₀ i₀ d hits bad i = length variant - i
+μ-loop pattern masks classes bits variant d₀ hits₀ bad₀ i₀ d hits bad i = length variant - i
 
 loop-holds : tie.Need-loop-holds Inv-loop μ-loop
 loop-holds c = scanning-none _ _ _ _ _ (c .pre)
@@ -36,9 +36,6 @@ mul-e c = omega (arith, byte (c .before))
 
 element-copy-out-e : tie.Need-element-copy-out-e Inv-loop μ-loop
 element-copy-out-e c = byte (c .before)
-
-add-d : tie.Need-add-d Inv-loop μ-loop
-add-d c = search needs
 
 add-i : tie.Need-add-i Inv-loop μ-loop
 add-i c = search needs
@@ -68,7 +65,6 @@ scan-spec =
     element-copy-out-bad
     mul-e
     element-copy-out-e
-    add-d
     add-i
     loop-less
     loop-again

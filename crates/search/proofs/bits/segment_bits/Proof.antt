@@ -35,7 +35,9 @@ add-first : tie.Need-add-first Inv-loop μ-loop
 add-first c = search needs
 
 loop-holds : tie.Need-loop-holds Inv-loop μ-loop
-loop-holds c = (sweeping-none _ _ _ _ (search needs) (omega arith), omega arith)
+loop-holds c =
+    let p = c .before .before .before .before .before .before .pre in
+    (sweeping-none _ _ _ _ (p .some) (p .state .odd) (omega arith), omega arith)
 
 variant-bits-requires : tie.Need-variant-bits-requires Inv-loop μ-loop
 variant-bits-requires c κs = (search needs, in-whole _ _ _ _ _ _ (c .before .loop .inv .0 .sum))

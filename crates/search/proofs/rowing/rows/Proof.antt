@@ -1,6 +1,6 @@
 -- `search::rows` meets its contract: the pattern is asked first, then the walk; its rows are those of the text's card.
 use borrow.Author.Needs.{needs}
-use mathlib.Core.Path.{_≡_, sym, ap, _∙_}
+use mathlib.Core.Path.{_≡_, refl, sym, ap, _∙_}
 use lib.Pow.{pow-lt}
 use Rattle.text.specs.Refusal.{ok, pattern, toldPattern}
 use Rattle.text.proofs.Patterns.{pattern-sound}
@@ -45,7 +45,7 @@ walk-rows-requires c κs =
     let d = c .before .before .before .before in
     let m = d .before .before in
     let p = pattern-sound _ (sound (m .before)) in (
-      record { some = p .some; short = p .short; vectors = m .masks .ensures; letters = d .before .classes .ensures; small = pow-lt (p .some) },
+      record { some = p .some; short = p .short; vectors = m .masks .ensures; letters = d .before .classes .ensures; state = record { small = pow-lt (p .some); odd = refl } },
       rowed-none _ _ (p .some) (p .short) (d .lone .ensures),
     )
 

@@ -10,7 +10,7 @@ use Rattle.text.specs.Refusal.{ok}
 use Rattle.stretch.proofs.Stretches.{through-all, stretch-long, stretch-cut, stretch-refused, stretch-left, stretch-many, stretch-sound, stretch-count}
 use Rattle.search.specs.Step.{toldPassed, segmentPass}
 use Rattle.search.proofs.Vectors.{low-ones}
-use Rattle.search.proofs.RowWalks.{Rowing, rowing-none, rowed-small, rowing-refused, rowing-sound, rowing-few, rowing-more}
+use Rattle.search.proofs.RowWalks.{Rowing, rowing-none, rowed-state, rowing-refused, rowing-sound, rowing-few, rowing-more}
 use Rattle.search.proofs.RowWalks.{through-not, rows-not, through-count, rows-all}
 use Rattle.search.proofs.rowing.walk_rows.Statement.{statement}
 use Rattle.search.proofs.rowing.walk_rows.Tie as tie
@@ -67,7 +67,7 @@ segment-bits-requires c κs =
       short = y .short;
       vectors = y .vectors;
       letters = y .letters;
-      small = rowed-small _ _ _ _ (y .some) (y .short) (a .loop .inv .0 .rows);
+      state = rowed-state _ _ _ _ (y .some) (y .short) (a .loop .inv .0 .rows);
     }
 
 enum-known-wrong : tie.Need-enum-known-wrong Inv-loop μ-loop

@@ -7,7 +7,7 @@ use mathlib.Core.Path.{_≡_, refl, sym, ap, _∙_}
 use lib.ListN.{length, length-set}
 use Rattle.search.specs.Answers.{RoomyFrom}
 use Rattle.search.specs.Step.{toldPassed}
-use Rattle.search.proofs.Searches.{Searching, searching-none, searching-small, searching-room, searching-more}
+use Rattle.search.proofs.Searches.{Searching, searching-none, searching-state, searching-room, searching-more}
 use Rattle.search.proofs.Searches.{byte-mark, searching-refused, searching-ran}
 use Rattle.search.proofs.run.run.Statement.{statement}
 use Rattle.search.proofs.run.run.Tie as tie
@@ -26,7 +26,7 @@ segment-by-requires : tie.Need-segment-by-requires Inv-loop μ-loop
 segment-by-requires c κs =
     let a = c .before in
     let p = a .before .before .before .before .pre .0 in
-    (p .0, searching-small _ _ _ _ _ _ _ _ _ _ (a .loop .inv .0) (p .1))
+    (p .0, searching-state _ _ _ _ _ _ _ _ _ _ (a .loop .inv .0) (p .0 .founded .some) (p .1))
 
 enum-known-refused : tie.Need-enum-known-refused Inv-loop μ-loop
 enum-known-refused c = search needs

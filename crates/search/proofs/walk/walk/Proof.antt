@@ -1,7 +1,7 @@
 -- `search::walk::walk` meets its contract: each answer follows from the tests that lead there and from what `run` tells of the segments.
 use borrow.Author.Needs.{needs}
 use native.Mathlib.Omega.{arith}
-use mathlib.Core.Path.{sym, ap, _∙_}
+use mathlib.Core.Path.{refl, sym, ap, _∙_}
 use lib.Pow.{pow-lt}
 use Rattle.stretch.proofs.Stretches.{stretch-long, stretch-cut, stretch-refused, stretch-left, stretch-many, stretch-sound, stretch-count}
 use Rattle.search.specs.Answers.{toldRan}
@@ -34,7 +34,7 @@ run-requires c κs =
     let p = w .before .before .before .before .before .before .pre in
     let short = w .before .before .if1 .left in
     let some = w .before .if2 .left in
-    ((p .0, pow-lt (p .0 .founded .some)), (some, omega (arith, p .1, short, some)))
+    ((p .0, record { small = pow-lt (p .0 .founded .some); odd = refl }), (some, omega (arith, p .1, short, some)))
 
 enum-known-refused : tie.Need-enum-known-refused
 enum-known-refused c = search needs

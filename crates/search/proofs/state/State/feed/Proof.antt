@@ -6,7 +6,7 @@ use mathlib.Core.Path.{refl, sym, ap, _∙_}
 use Rattle.text.specs.Refusal.{toldPattern}
 use Rattle.text.proofs.Patterns.{SoundPattern, pattern-sound}
 use Rattle.search.specs.Answers.{toldRan}
-use Rattle.search.proofs.Feeds.{fed-pattern, fed-long, fed-even, fed-high, fed-small, fed-refused, fed-left, fed-next}
+use Rattle.search.proofs.Feeds.{fed-pattern, fed-long, fed-even, fed-high, fed-state, fed-refused, fed-left, fed-next}
 use Rattle.search.proofs.state.State.feed.Statement.{statement}
 use Rattle.search.proofs.state.State.feed.Tie as tie
 
@@ -69,13 +69,13 @@ run-requires c κs =
     let d = m .before in
     let e = d .before .before in
     let p = sound (e .before) in
-    let small = fed-small _ (e .before .before .before .before .before .before .args .segment .now) _ p (e .if1 .left) _ refl (d .before .if2 .left) (d .if3 .left) in (
+    let state = fed-state _ (e .before .before .before .before .before .before .args .segment .now) _ p (e .if1 .left) _ refl (d .before .if2 .left) (d .if3 .left) in (
       (
         record {
           founded = record { some = p .some; short = p .short; holds = m .masks .ensures };
           letters = c .before .before .before .classes .ensures;
         },
-        small,
+        state,
       ),
       (omega arith, omega arith),
     )
