@@ -98,7 +98,7 @@ fn variant_bits(
                     place,
                 });
             }
-            if repeated(stretch, first, k, at, letters) {
+            if repeated(stretch, first, at, letters) {
                 return Swept::Refused(Refusal {
                     number: refusal::REPEATED,
                     place: at,

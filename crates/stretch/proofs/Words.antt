@@ -1,5 +1,5 @@
 -- Laws of numbers of two bytes.
-use Prim.Native.Nat.{ℕ, _+_, _≤_}
+use Prim.Native.Nat.{ℕ, _+_, _≤_, _<_}
 use native.Mathlib.Omega.{arith}
 use mathlib.Core.Path.{_≡_}
 use mathlib.Core.List.{List}
@@ -17,3 +17,8 @@ word-out s at l =
 pub word-last : (s : List ℕ) (at : ℕ) → length s ≤ at + 1 → word s at ≡ getD s at 0
 unfolding word
 word-last s at l = omega (arith, List·getD-eq-default s 0 l)
+
+-- two bytes make a number below 65,536
+pub word-small : (s : List ℕ) (at : ℕ) → ((i : ℕ) → getD s i 0 < 256) → word s at < 65536
+unfolding word
+word-small s at bytes = omega (arith, bytes at, bytes (at + 1))

@@ -2,7 +2,7 @@
 use Prim.Native.Nat.{ℕ, zero, suc, _+_}
 use mathlib.Core.Bool.{Bool, false, not, _||_, _&&_}
 use mathlib.Core.List.{List}
-use lib.Dec.{leb}
+use lib.Dec.{leb, ltb}
 use lib.ListN.{length}
 use Rattle.text.specs.Letter.{letter, every, firstNot}
 use Rattle.text.specs.Text.{Variant}
@@ -30,6 +30,15 @@ headAt s at = demand (leb (behind s at) (length s)) 5 at (ok (record { start = a
 unfoldable pub repeated : List ℕ → Variant → ℕ → ℕ → Bool
 repeated s v zero at = false
 repeated s v (suc k) at = leb (behind s at) (length s) && (same v (lettersAt s at) || repeated s v k (behind s at))
+
+-- v is equal to one of the variants that stand one after another from `place` on and begin before `at`; n bounds their number
+unfoldable pub repeatedBefore : List ℕ → Variant → ℕ → ℕ → ℕ → Bool
+repeatedBefore s v at zero place = false
+repeatedBefore s v at (suc n) place = ltb place at && (same v (lettersAt s place) || repeatedBefore s v at n (behind s place))
+
+-- the same of a v that has room at `at`; none is looked at where it has not. A variant takes two bytes, so there are at most `at`
+unfoldable pub repeats : List ℕ → Variant → ℕ → ℕ → Bool
+repeats s v first at = leb (at + 2 + length v) (length s) && repeatedBefore s v at at first
 
 -- the variant at `at`, behind the k of its segment that stand from `first` on
 unfoldable pub soundAt : List ℕ → ℕ → ℕ → ℕ → Outcome Span

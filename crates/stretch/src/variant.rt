@@ -6,11 +6,12 @@ use text::compare::same;
 use text::letter::first_wrong;
 use text::refusal;
 ghost use mathlib.Core.Path.{_≡_};
-ghost use Prim.Native.Nat.{_≤_};
-ghost use lib.ListN.{length};
+ghost use Prim.Native.Nat.{_+_, _<_};
+ghost use lib.ListN.{length, take, drop};
+ghost use Rattle.text.specs.Compare.{same};
 ghost use Rattle.text.specs.Refusal.{refused};
 ghost use Rattle.stretch.specs.Skips.{UpTo};
-ghost use Rattle.stretch.specs.Variants.{headAt, repeated, soundAt, toldPart};
+ghost use Rattle.stretch.specs.Variants.{headAt, repeats, soundAt, toldPart};
 
 // Where a variant's letters start, and where the next variant begins, right behind them.
 pub enum Part {
@@ -30,10 +31,13 @@ fn cut_off(at: usize) -> Part
 
 // The variant whose length stands at `at`: refusal 5.
 pub fn head(stretch: &[u8], at: usize) -> Part
-    requires { ⌜ at ≤ length (now stretch) ⌝ }
     ensures { λ r. ⌜ toldPart r ≡ headAt (now (stretch .entry)) at ⌝ }
 {
-    let left = stretch.len() - at;
+    let end = stretch.len();
+    if end <= at {
+        return cut_off(at);
+    }
+    let left = end - at;
     if left < 2 {
         return cut_off(at);
     }
@@ -46,27 +50,48 @@ pub fn head(stretch: &[u8], at: usize) -> Part
     Part::At { start, next }
 }
 
-// Whether a variant is equal to one of the k that stand one after another from `first` up to `at`. All of them are whole: a walk has
-// passed them, so that nothing is tested twice. Their number is for the contract; the loop goes by the place, which the walk has.
-pub fn repeated(stretch: &[u8], first: usize, k: usize, at: usize, variant: &[u8]) -> bool
-    requires { ⌜ UpTo (now stretch) first k at ⌝ }
-    ensures { λ r. ⌜ r ≡ repeated (now (stretch .entry)) (now (variant .entry)) k first ⌝ }
+// Whether the so many letters from `start` on are the variant's. Only if they are as many, they are compared.
+fn stands(stretch: &[u8], start: usize, letters: usize, variant: &[u8]) -> bool
+    requires { ⌜ start + length (now variant) < length (now stretch) ⌝ }
+    ensures { λ r. ⌜ r ≡ same (now (variant .entry)) (take letters (drop start (now (stretch .entry)))) ⌝ }
 {
+    if letters != variant.len() {
+        return false;
+    }
+    let next = start + letters;
+    same(variant, &stretch[start..next])
+}
+
+// Whether a variant that has room at `at` is equal to one that stands before it, of those from `first` on. Whatever stands before it
+// and is as long lies within the bytes too, so that the loop tests nothing.
+pub fn repeated(stretch: &[u8], first: usize, at: usize, variant: &[u8]) -> bool
+    ensures { λ r. ⌜ r ≡ repeats (now (stretch .entry)) (now (variant .entry)) first at ⌝ }
+{
+    let end = stretch.len();
+    if end <= at {
+        return false;
+    }
+    let left = end - at;
+    if left < 2 {
+        return false;
+    }
+    if left - 2 < variant.len() {
+        return false;
+    }
     let mut place = first;
     while place < at {
         let letters = pair(stretch, place);
         let start = place + 2;
-        let next = start + letters;
-        if same(variant, &stretch[start..next]) {
+        if stands(stretch, start, letters, variant) {
             return true;
         }
-        place = next;
+        place = start + letters;
     }
     false
 }
 
 // The variant at `at`, behind the k of its segment that stand from `first` on: refusals 5, 7 and 8.
-pub fn variant_at(stretch: &[u8], first: usize, k: usize, at: usize) -> Part
+pub(crate) fn variant_at(stretch: &[u8], first: usize, k: usize, at: usize) -> Part
     requires { ⌜ UpTo (now stretch) first k at ⌝ }
     ensures { λ r. ⌜ toldPart r ≡ soundAt (now (stretch .entry)) first k at ⌝ }
 {
@@ -81,7 +106,7 @@ pub fn variant_at(stretch: &[u8], first: usize, k: usize, at: usize) -> Part
             place: start + wrong,
         });
     }
-    if repeated(stretch, first, k, at, letters) {
+    if repeated(stretch, first, at, letters) {
         return Part::Refused(Refusal {
             number: refusal::REPEATED,
             place: at,

@@ -40,7 +40,7 @@ fn variant_borders(
                     place,
                 });
             }
-            if repeated(stretch, first, k, at, letters) {
+            if repeated(stretch, first, at, letters) {
                 return Passed::Refused(Refusal {
                     number: refusal::REPEATED,
                     place: at,

@@ -7,23 +7,29 @@ use Rattle.stretch.proofs.Heads.{head-cut, head-found}
 use Rattle.stretch.proofs.variant.head.Statement.{statement}
 use Rattle.stretch.proofs.variant.head.Tie as tie
 
-sub-left : tie.Need-sub-left
-sub-left c = search needs
-
 cut-off-requires : tie.Need-cut-off-requires
 cut-off-requires c κs = search needs
 
 returns : tie.Need-returns
 returns c = c .cut-off .ensures ∙ sym (head-cut _ _ (omega arith))
 
-pair-requires : tie.Need-pair-requires
-pair-requires c κs = search needs
+sub-left : tie.Need-sub-left
+sub-left c = search needs
 
 cut-off-requires-2 : tie.Need-cut-off-requires-2
 cut-off-requires-2 c κs = search needs
 
 returns-2 : tie.Need-returns-2
-returns-2 c = c .cut-off2 .ensures ∙ sym (head-cut _ _ (omega (arith, c .before .before .pair .ensures)))
+returns-2 c = c .cut-off2 .ensures ∙ sym (head-cut _ _ (omega arith))
+
+pair-requires : tie.Need-pair-requires
+pair-requires c κs = search needs
+
+cut-off-requires-3 : tie.Need-cut-off-requires-3
+cut-off-requires-3 c κs = search needs
+
+returns-3 : tie.Need-returns-3
+returns-3 c = c .cut-off3 .ensures ∙ sym (head-cut _ _ (omega (arith, c .before .before .pair .ensures)))
 
 add-start : tie.Need-add-start
 add-start c = search needs
@@ -31,19 +37,21 @@ add-start c = search needs
 add-next : tie.Need-add-next
 add-next c = search needs
 
-returns-3 : tie.Need-returns-3
-returns-3 c = sym (head-found _ _ _ (c .before .pair .ensures) (omega (arith, c .before .pair .ensures)))
+returns-4 : tie.Need-returns-4
+returns-4 c = sym (head-found _ _ _ (c .before .pair .ensures) (omega (arith, c .before .pair .ensures)))
 
 pub head-spec : {M : Type 1} → statement M
 head-spec =
     tie.close
     (tie.spec
-    sub-left
     cut-off-requires
     returns
-    pair-requires
+    sub-left
     cut-off-requires-2
     returns-2
+    pair-requires
+    cut-off-requires-3
+    returns-3
     add-start
     add-next
-    returns-3)
+    returns-4)

@@ -1,80 +1,90 @@
--- `stretch::variant::repeated` meets its contract. The loop's invariant: the variants passed are all different, and the search goes on
--- with those left, which end at `at`. The measure is the number of bytes up to there.
-use Prim.Native.Nat.{ℕ, _-_, _≤_}
-use borrow.Author.Needs.{needs}
+-- `stretch::variant::repeated` meets its contract. The loop's invariant: the variants passed are all different, and the test goes on
+-- with those that are left, not more than `rest`. The measure is the number of bytes up to `at`.
+use Prim.Native.Nat.{ℕ, _+_, _-_, _≤_}
 use native.Mathlib.Omega.{arith}
 use mathlib.Core.Path.{_≡_, refl, sym, ap, _∙_}
-use lib.ListN.{length}
+use lib.ListN.{length, take, drop}
 use Rattle.text.specs.Compare.{same}
-use Rattle.stretch.specs.Reading.{behind}
-use Rattle.stretch.specs.Skips.{behindVariants}
-use Rattle.stretch.specs.Variants.{repeated}
-use Rattle.stretch.proofs.Heads.{Ahead, up-ahead, up-there, part-letters, repeated-found, repeated-next, repeated-none}
+use Rattle.stretch.specs.Reading.{lettersAt}
+use Rattle.stretch.specs.Variants.{repeatedBefore}
+use Rattle.stretch.proofs.Words.{word-small}
+use Rattle.stretch.proofs.Repeats.{repeats-short, repeats-room, before-none, before-found, before-other}
+use borrow.Author.Needs.{needs}
 use Rattle.stretch.proofs.variant.repeated.Statement.{statement}
 use Rattle.stretch.proofs.variant.repeated.Tie as tie
 
 abbrev Inv-loop : tie.InvT-loop
-Inv-loop stretch first k at variant place₀ place =
-    (rest : ℕ) × (repeated stretch variant k first ≡ repeated stretch variant rest place) × (behindVariants stretch rest place ≡ at)
+Inv-loop stretch first at variant end left place₀ place =
+    (rest : ℕ) × (repeatedBefore stretch variant at at first ≡ repeatedBefore stretch variant at rest place) × (at ≤ place + rest)
 
 abbrev μ-loop : tie.MeasureT-loop
-μ-loop stretch first k at variant place₀ place = at - place
-
-loop-holds : tie.Need-loop-holds Inv-loop μ-loop
-loop-holds c = (_, refl, c .before .before .pre .ends)
-
--- the next variant is whole
-ahead : (c : tie.In-loop Inv-loop μ-loop)
-    → Ahead (c .before .before .before .before .args .stretch .now) (c .before .loop .inv .0) (c .before .loop .place) (c .before .before .before .before .args .at)
-ahead c = up-ahead _ _ _ _ (c .before .loop .inv .2) (c .loop-test .taken)
-
-inside : (c : tie.In-loop Inv-loop μ-loop)
-    → behind (c .before .before .before .before .args .stretch .now) (c .before .loop .place) ≤ length (c .before .before .before .before .args .stretch .now)
-inside c = omega (arith, ahead c .whole, c .before .before .before .before .pre .inside)
-
-pair-requires : tie.Need-pair-requires Inv-loop μ-loop
-pair-requires c κs = omega (arith, inside c)
-
-add-start : tie.Need-add-start Inv-loop μ-loop
-add-start c = omega (arith, inside (c .before))
-
-add-next : tie.Need-add-next Inv-loop μ-loop
-add-next c = omega (arith, inside (c .before), c .pair .ensures)
-
-sub-same : tie.Need-sub-same Inv-loop μ-loop
-sub-same c = search needs
-
-part-same-start : tie.Need-part-same-start Inv-loop μ-loop
-part-same-start c = search needs
-
-part-same-end : tie.Need-part-same-end Inv-loop μ-loop
-part-same-end c = omega (arith, inside (c .before), c .pair .ensures)
-
-same-requires : tie.Need-same-requires Inv-loop μ-loop
-same-requires c κs = search needs
+μ-loop stretch first at variant end left place₀ place = at - place
 
 returns : tie.Need-returns Inv-loop μ-loop
-returns c =
-    let d = c .before .before .before in
-    let turn = d .before in
-    let same = sym (ap (same _) (part-letters _ _ _ (d .pair .ensures))) ∙ sym (c .before .same .ensures) ∙ c .if1 .taken in
-    sym (turn .before .loop .inv .1 ∙ repeated-found _ _ _ _ (ahead turn .some) (inside turn) same)
+returns c = sym (repeats-short _ _ _ _ (omega arith))
+
+sub-left : tie.Need-sub-left Inv-loop μ-loop
+sub-left c = search needs
+
+returns-2 : tie.Need-returns-2 Inv-loop μ-loop
+returns-2 c = sym (repeats-short _ _ _ _ (omega arith))
+
+returns-3 : tie.Need-returns-3 Inv-loop μ-loop
+returns-3 c = sym (repeats-short _ _ _ _ (omega arith))
+
+loop-holds : tie.Need-loop-holds Inv-loop μ-loop
+loop-holds c = (_, refl, omega arith)
+
+-- the variant has room at `at`
+room : (c : tie.At-loop Inv-loop μ-loop)
+    → c .before .before .before .before .before .before .args .at + 2 + length (c .before .before .before .before .before .before .args .variant .now) ≤ length (c .before .before .before .before .before .before .args .stretch .now)
+room c = omega arith
+
+-- what was compared
+compared : (c : tie.After-stands Inv-loop μ-loop)
+    → same (c .before .before .before .before .before .before .before .before .before .args .variant .now) (lettersAt (c .before .before .before .before .before .before .before .before .before .args .stretch .now) (c .before .before .before .loop .place)) ≡ c .stands .result
+compared c =
+    let a = c .before .before .before .before .before .before .before .before .before .args in
+    let place = c .before .before .before .loop .place in
+    ap (λ (n : ℕ). same (a .variant .now) (take n (drop (place + 2) (a .stretch .now)))) (sym (c .before .pair .ensures)) ∙ sym (c .stands .ensures)
+
+pair-requires : tie.Need-pair-requires Inv-loop μ-loop
+pair-requires c κs = search needs
+
+add-start : tie.Need-add-start Inv-loop μ-loop
+add-start c = search needs
+
+stands-requires : tie.Need-stands-requires Inv-loop μ-loop
+stands-requires c κs = search needs
+
+returns-4 : tie.Need-returns-4 Inv-loop μ-loop
+returns-4 c =
+    let turn = c .before .before .before in
+    let q = turn .before .loop .inv in
+    sym (repeats-room _ _ _ _ (room (turn .before)) ∙ q .1 ∙ before-found _ _ _ _ _ (q .2) (turn .loop-test .taken) (compared (c .before) ∙ c .if4 .taken))
+
+add-place : tie.Need-add-place Inv-loop μ-loop
+add-place c =
+    let turn = c .before .before .before in
+    let bytes = turn .before .before .before .before .before .before .shared-slice-known .given in
+    let s = turn .before .before .before .before .before .before .before .args .stretch .now in
+    let small = word-small s (turn .before .loop .place) (λ i. omega (arith, bytes i)) in
+    omega (arith, c .before .before .pair .ensures, small)
 
 loop-less : tie.Need-loop-less Inv-loop μ-loop
 loop-less c = search needs
 
 loop-again : tie.Need-loop-again Inv-loop μ-loop
 loop-again c =
-    let d = c .before .before .before in
-    let turn = d .before in
-    let other = sym (ap (same _) (part-letters _ _ _ (d .pair .ensures))) ∙ sym (c .before .same .ensures) ∙ c .if1 .left in
-    rw (d .pair .ensures)
-    (_, turn .before .loop .inv .1 ∙ repeated-next _ _ _ _ (ahead turn .some) (inside turn) other, ahead turn .others)
+    let turn = c .before .before .before in
+    let q = turn .before .loop .inv in
+    let other = before-other _ _ _ _ _ (q .2) (turn .loop-test .taken) (compared (c .before) ∙ c .if4 .left) in
+    rw (c .before .before .pair .ensures) (_, q .1 ∙ other, omega arith)
 
-returns-2 : tie.Need-returns-2 Inv-loop μ-loop
-returns-2 c =
+returns-5 : tie.Need-returns-5 Inv-loop μ-loop
+returns-5 c =
     let q = c .before .loop .inv in
-    sym (q .1 ∙ repeated-none _ _ _ _ (up-there _ _ _ _ (q .2) (c .loop-test .left)))
+    sym (repeats-room _ _ _ _ (room (c .before)) ∙ q .1 ∙ before-none _ _ _ _ _ (c .loop-test .left))
 
 pub repeated-spec : {M : Type 1} → statement M
 repeated-spec =
@@ -82,15 +92,16 @@ repeated-spec =
     (tie.spec
     Inv-loop
     μ-loop
+    returns
+    sub-left
+    returns-2
+    returns-3
     loop-holds
     pair-requires
     add-start
-    add-next
-    sub-same
-    part-same-start
-    part-same-end
-    same-requires
-    returns
+    stands-requires
+    returns-4
+    add-place
     loop-less
     loop-again
-    returns-2)
+    returns-5)

@@ -5,6 +5,7 @@ use native.Mathlib.Omega.{arith}
 use mathlib.Core.Path.{sym, ap, _∙_}
 use Rattle.stretch.specs.Variants.{toldPart}
 use Rattle.stretch.proofs.Heads.{Whole, head-is, head-not}
+use Rattle.stretch.proofs.Repeats.{repeats-walk}
 use Rattle.stretch.proofs.Units.{sound-cut, sound-wrong, sound-repeated, sound-ok}
 use Rattle.stretch.proofs.variant.variant_at.Statement.{statement}
 use Rattle.stretch.proofs.variant.variant_at.Tie as tie
@@ -65,14 +66,16 @@ repeated-requires c κs = search needs
 returns-3 : tie.Need-returns-3
 returns-3 c =
     let d = c .before .before .before in
-    let again = sym (c .before .repeated .ensures) ∙ c .if2 .taken in
-    sym (sound-repeated _ _ _ _ _ _ (found (d .before .before .before)) _ (d .first-wrong .ensures) (c .before .before .if1 .left) again)
+    let w = found (d .before .before .before) in
+    let again = sym (repeats-walk _ _ _ _ _ _ (d .before .before .before .before .before .before .before .pre) w) ∙ sym (c .before .repeated .ensures) ∙ c .if2 .taken in
+    sym (sound-repeated _ _ _ _ _ _ w _ (d .first-wrong .ensures) (c .before .before .if1 .left) again)
 
 returns-4 : tie.Need-returns-4
 returns-4 c =
     let d = c .before .before .before in
-    let new = sym (c .before .repeated .ensures) ∙ c .if2 .left in
-    sym (sound-ok _ _ _ _ _ _ (found (d .before .before .before)) _ (d .first-wrong .ensures) (c .before .before .if1 .left) new)
+    let w = found (d .before .before .before) in
+    let new = sym (repeats-walk _ _ _ _ _ _ (d .before .before .before .before .before .before .before .pre) w) ∙ sym (c .before .repeated .ensures) ∙ c .if2 .left in
+    sym (sound-ok _ _ _ _ _ _ w _ (d .first-wrong .ensures) (c .before .before .if1 .left) new)
 
 pub variant-at-spec : {M : Type 1} → statement M
 variant-at-spec =
