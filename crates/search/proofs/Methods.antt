@@ -1,8 +1,7 @@
 -- The tools of a method, once it is known which one.
-use Prim.Native.Nat.{ℕ, _^_, _<_}
+use Prim.Native.Nat.{ℕ}
 use mathlib.Core.Path.{_≡_, subst}
 use mathlib.Core.List.{List}
-use lib.ListN.{length}
 use Rattle.search.specs.Masks.{StateOf, Ready}
 use Rattle.search.specs.Border.{Bordered}
 use Rattle.search.specs.Method.{TableOf, Tools}

@@ -9,7 +9,7 @@ use borrow.Author.Tests.{le-leb, lt-leb, eq-eqb, eqb-true}
 use lib.ListN.{length, take, set, length-take}
 use mir.Val.{boolByte}
 use lib.Seq.{take-suc-set}
-use Rattle.text.specs.Text.{Segment, Text, weight, total, size}
+use Rattle.text.specs.Text.{Segment, Text, total, size}
 use Rattle.text.specs.State.{next, ends, run, fresh, marksFrom, marks}
 use Rattle.text.specs.Refusal.{Outcome, ok, refused, after, pattern}
 use Rattle.text.proofs.Sizes.{total-snoc}

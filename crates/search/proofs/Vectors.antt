@@ -1,6 +1,6 @@
 -- The search by bit-vectors, letter by letter: the tables as they are filled, and the word as it is shifted.
 use Prim.Native.Nat.{ℕ, zero, suc, _+_, _-_, _*_, _/_, _%_, _^_, _≤_, _<_}
-use native.Mathlib.Nat.{pow-suc, mod-lt, one-mul, mod-eq-of-lt}
+use native.Mathlib.Nat.{pow-suc, one-mul, mod-eq-of-lt}
 use native.Mathlib.Numerals.{add-one, one-add}
 use native.Mathlib.Decide.{decLt, ℕ-discrete}
 use native.Mathlib.Omega.{arith}
@@ -10,7 +10,7 @@ use mathlib.Core.Bool.{Bool, true, false, not, cond, _||_, _&&_, true≢false}
 use mathlib.Core.List.{List, [], _∷_}
 use borrow.Author.Tests.{lt-ltb, le-ltb, eq-eqb, ne-eqb}
 use lib.Arith.{digits-div}
-use lib.Bits.{bitAnd, bitOr, and-mask, and-le-r, or-lt, or-zero-r}
+use lib.Bits.{bitAnd, bitOr, and-le-r, or-lt, or-zero-r}
 use lib.Dec.{eqb, ltb, lit<}
 use lib.ListN.{length, getD, take, set, replicate, length-set, length-replicate, getD-replicate}
 use lib.Pow.{pow-pos, pow-lt, ones-split, ones-lt}
@@ -23,7 +23,7 @@ use Rattle.text.proofs.Truth.{or-false, or-right, and-true, and-false}
 use Rattle.text.proofs.Letters.{every-snoc}
 use Rattle.text.proofs.Bits.{bit-ext, bit-above, bit-zero, bit-or, bit-and, bit-fromBits, fromBits-lt, bit-single, bit-shl, bit-shl-below, bit-mod, bit-mod-above, bit-shr-test}
 use Rattle.text.proofs.Snoc.{_▸_}
-use Rattle.text.proofs.Steps.{next-open, next-lt}
+use Rattle.text.proofs.Steps.{next-open}
 use Rattle.text.proofs.Scan.{empty-state, empty-ends, scan-state, scan-ends}
 use Rattle.search.specs.Masks.{maskOf, Masks, Ready}
 use Rattle.search.specs.Words.{Words}

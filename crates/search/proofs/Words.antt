@@ -4,7 +4,7 @@ use Prim.Native.Nat.{ℕ, suc, _+_, _-_, _/_, _%_, _^_, _≤_, _<_}
 use native.Mathlib.Nat.{pow-suc, mod-lt}
 use native.Mathlib.Omega.{arith}
 use mathlib.Core.Path.{_≡_, sym, ap, ap₂, subst, _∙_}
-use mathlib.Core.Bool.{Bool, true, false, _||_}
+use mathlib.Core.Bool.{true, false, _||_}
 use mathlib.Core.List.{List, [], _∷_, _++_}
 use lib.Bits.{bitAnd, bitOr, and-mask, or-lt}
 use lib.Dec.{ltb}
@@ -14,7 +14,7 @@ use Rattle.text.specs.Letter.{letter, every}
 use Rattle.text.specs.Text.{Variant, Segment, counted}
 use Rattle.text.specs.Bits.{bit}
 use Rattle.text.specs.State.{next, ends}
-use Rattle.text.specs.Refusal.{ok, refused}
+use Rattle.text.specs.Refusal.{refused}
 use Rattle.text.proofs.Bits.{bit-ext, bit-zero, bit-or, bit-mod}
 use Rattle.text.proofs.Steps.{next-lt}
 use Rattle.text.proofs.Folds.{next-none, next-snoc, ends-none, ends-snoc}
