@@ -14,7 +14,7 @@ use lib.Seq.{getD-set-same, getD-set-other, ext-getD}
 use Rattle.text.specs.Text.{Segment, Text}
 use Rattle.text.specs.Bits.{bit}
 use Rattle.text.specs.State.{next, ends, run, marksFrom}
-use Rattle.text.specs.Refusal.{ok, refused, after, pattern}
+use Rattle.text.specs.Refusal.{Outcome, ok, refused, after, pattern}
 use Rattle.text.specs.Card.{Row, none, dead, row, later, firstEnd, ran, cardOf}
 use Rattle.text.proofs.Bits.{bit-single, bit-not, lone-bit}
 use Rattle.text.proofs.Outcomes.{ok-inj, refused-ok, told-met, told-refused}
@@ -25,13 +25,13 @@ use Rattle.text.proofs.Ends.{firstEnd-append}
 use Rattle.text.proofs.Rows.{length-rowsOf, rowsOf-from}
 use Rattle.text.proofs.TextCards.{row-text}
 use Rattle.stretch.specs.Bytes.{greatestStretch}
-use Rattle.stretch.specs.Reading.{segmentAt, many, stretchOf}
+use Rattle.stretch.specs.Reading.{Taken, segmentAt, many, stretchOf}
 use Rattle.stretch.proofs.Walks.{walk-length}
-use Rattle.stretch.proofs.Stretches.{InStretch, through-none, through-more, through-refused, segment-bytes}
+use Rattle.stretch.proofs.Stretches.{InStretch, through-none, through-more, through-refused, through-all, segment-bytes}
 use Rattle.search.specs.Masks.{StateOf}
 use Rattle.search.specs.Step.{segmentPass}
 use Rattle.search.specs.RowStep.{Within, Covers, Readable, SegmentOver, rowAt, rowOver}
-use Rattle.search.specs.Rows.{Lone, Rowed, RowsOf, carding, rowsOut}
+use Rattle.search.specs.Rows.{Lone, Rowed, RowsAlong, RowsOf, carding, rowsOut}
 use Rattle.search.proofs.Vectors.{low-ones}
 use Rattle.search.proofs.Passes.{Stepped, segment-met, segment-not}
 use Rattle.search.proofs.Searches.{run-state}
@@ -107,8 +107,20 @@ module _ (P s exits firsts : List ℕ) (some : 0 < length P) (short : length P �
           live-bit r near ∙ ap not (bit-single 0 r ∙ ne-eqb 0 r (λ z. omega arith))
 
 module _ (P s exits firsts : List ℕ) (live at k : ℕ) (q : Rowing P s exits firsts live at k) where
-  pub rowing-refused : (n : ℕ) → k < n → (j p : ℕ) → segmentPass P (getD exits 0 0) s at ≡ refused j p → many (λ _. segmentAt s) n [] 2 ≡ refused j p
-  rowing-refused n l j p e = through-refused s 2 k (q .seen) at (q .size) (q .sum) n l j p (segment-not P (getD exits 0 0) s at j p e)
+  module _ (n : ℕ) where
+    -- what a run tells of n segments, and the rows that it leaves
+    abbrev Run : Outcome ℕ → Type 0
+    Run told = (told ≡ after (many (λ _. segmentAt s) n [] 2) (λ x. ok (x .next))) × RowsAlong P (many (λ _. segmentAt s) n [] 2) exits firsts
+
+    pub rowing-refused : k < n → (j p : ℕ) → segmentPass P (getD exits 0 0) s at ≡ refused j p → Run (refused j p)
+    rowing-refused l j p e =
+        let none = through-refused s 2 k (q .seen) at (q .size) (q .sum) n l j p (segment-not P (getD exits 0 0) s at j p e) in
+        (rw none, λ x h. absurd (refused-ok j p x (sym none ∙ h)))
+
+    pub rowing-ran : k ≡ n → Run (ok at)
+    rowing-ran done =
+        let all = through-all s 2 k (q .seen) at (q .size) (q .sum) n done in
+        (rw all, λ x h. subst (λ (y : Taken Text ℕ). Rowed P (y .value) exits firsts) (ok-inj (sym all ∙ h)) (q .rows))
 
   module _ (behind more bits : ℕ) (hit : Bool)
       (e : segmentPass P (getD exits 0 0) s at ≡ ok (record { next = behind; size = more; state = bits; ends = hit })) where
@@ -216,6 +228,17 @@ module _ (s : List ℕ) where
 
   pub through-count : (t : Text) (n : ℕ) → stretchOf s ≡ ok t → length t ≡ n → after (stretchOf s) (λ t. ok (length t)) ≡ ok n
   through-count t n e count = rw e (ap ok count)
+
+  -- from what a run over its segments tells
+  module _ (n : ℕ) where
+    pub along-not : (j p : ℕ) → after (many (λ _. segmentAt s) n [] 2) (λ x. ok (x .next)) ≡ refused j p → many (λ _. segmentAt s) n [] 2 ≡ refused j p
+    along-not j p e = told-refused (many (λ _. segmentAt s) n [] 2) (λ x. x .next) j p e
+
+    pub along-met : (at : ℕ) → after (many (λ _. segmentAt s) n [] 2) (λ x. ok (x .next)) ≡ ok at
+        → (t : Text) × (many (λ _. segmentAt s) n [] 2 ≡ ok (record { value = t; next = at }))
+    along-met at e =
+        let m = told-met (many (λ _. segmentAt s) n [] 2) (λ x. x .next) at e in
+        (m .0 .value, m .1 ∙ ap (λ (i : ℕ). ok (record { value = m .0 .value; next = i })) (m .2))
 
   pub rows-all : (P : List ℕ) (t : Text) (exits firsts : List ℕ) → stretchOf s ≡ ok t → Rowed P t exits firsts → RowsOf P (stretchOf s) exits firsts
   rows-all P t exits firsts e w u h = subst (λ (x : Text). Rowed P x exits firsts) (ok-inj (sym e ∙ h)) w

@@ -6,9 +6,11 @@ use lib.ListN.{length, getD, replicate}
 use Rattle.text.specs.Text.{Text}
 use Rattle.text.specs.Refusal.{Outcome, ok, refused, after, pattern}
 use Rattle.text.specs.Card.{Row, Card, row, cardOf}
-use Rattle.stretch.specs.Reading.{stretchOf}
+use Rattle.stretch.specs.Reading.{Taken, stretchOf}
 use Rattle.search.specs.RowStep.{rowAt}
 use Rattle.search.specs.declared.row.Rows.{Rows}
+use Rattle.search.specs.declared.row_run.Along.{Along}
+use Rattle.search.specs.declared.row_run.Along.the-variants.{To}
 use Rattle.search.specs.declared.rowing.Through.{Through}
 use Rattle.search.specs.declared.rowing.Through.the-variants.{All}
 
@@ -43,6 +45,14 @@ pub record Rowed (P : List ℕ) (t : Text) (exits firsts : List ℕ) : Type 0 wh
 -- they hold the rows of an accepted text; after a refusal they may hold anything
 abbrev pub RowsOf : List ℕ → Outcome Text → List ℕ → List ℕ → Type 0
 RowsOf P o exits firsts = (t : Text) → o ≡ ok t → Rowed P t exits firsts
+
+-- they hold the rows of accepted segments
+abbrev pub RowsAlong : List ℕ → Outcome (Taken Text ℕ) → List ℕ → List ℕ → Type 0
+RowsAlong P o exits firsts = (x : Taken Text ℕ) → o ≡ ok x → Rowed P (x .value) exits firsts
+
+abbrev pub toldAlong : Along → Outcome ℕ
+toldAlong (To next) = ok next
+toldAlong (Along.Refused r) = refused (r .number) (r .place)
 
 abbrev pub toldThrough : Through → Outcome ℕ
 toldThrough (All segments) = ok segments

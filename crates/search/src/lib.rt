@@ -5,6 +5,7 @@ mod carry;
 mod masks;
 mod method;
 mod row;
+mod row_run;
 mod row_step;
 mod rowing;
 mod run;

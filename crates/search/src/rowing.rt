@@ -1,13 +1,11 @@
-// The rows of a card of a stretch: one walk, in which row 0 is the search's own state.
-use crate::bits::segment_bits;
+// The rows of a card of a stretch: its count, its segments, and what may be wrong behind them.
 use crate::masks::classes;
 use crate::masks::masks;
 use crate::row::NONE;
 use crate::row::Rows;
 use crate::row::no_rows;
-use crate::row_step::segment_rows;
-use crate::row_step::sooner;
-use crate::step::Passed;
+use crate::row_run::Along;
+use crate::row_run::run_rows;
 use stretch::bytes::word;
 use text::Refusal;
 use text::pattern::PatternIs;
@@ -64,47 +62,27 @@ fn walk_rows(
         return refused(refusal::BYTES_END, 0);
     }
     let segments = word(stretch, 0);
-    let mut live = (0xffff_ffff_ffff_ffff >> (64 - pattern.len())) - 1;
-    let mut at = 2;
-    let mut k = 0;
-    while k < segments {
-        let bits = exits[0];
-        match segment_bits(pattern, masks, classes, bits, stretch, at) {
-            Passed::Refused(wrong) => {
-                return Through::Refused(wrong);
+    match run_rows(
+        pattern,
+        masks,
+        classes,
+        stretch,
+        segments,
+        &mut *exits,
+        &mut *firsts,
+    ) {
+        Along::Refused(wrong) => Through::Refused(wrong),
+        Along::To(next) => {
+            if next != end {
+                return refused(refusal::BYTES_LEFT, next);
             }
-            Passed::To {
-                next,
-                size: _,
-                bits: reached,
-                ends,
-            } => {
-                let number = k as u32;
-                live = segment_rows(
-                    pattern,
-                    masks,
-                    live,
-                    stretch,
-                    at,
-                    number,
-                    &mut *exits,
-                    &mut *firsts,
-                );
-                exits[0] = reached;
-                firsts[0] = sooner(firsts[0], ends, number);
-                at = next;
-                k += 1;
+            if refusal::MOST_IN_STRETCH < segments {
+                return refused(refusal::SEGMENTS_MANY, 0);
             }
+            let count = segments as u32;
+            Through::All(count)
         }
     }
-    if at != end {
-        return refused(refusal::BYTES_LEFT, at);
-    }
-    if refusal::MOST_IN_STRETCH < segments {
-        return refused(refusal::SEGMENTS_MANY, 0);
-    }
-    let count = segments as u32;
-    Through::All(count)
 }
 
 fn refused(number: u64, place: usize) -> Through
