@@ -85,9 +85,6 @@ module _ (P s : List ℕ) (at live count : ℕ) (exits new : List ℕ) (finished
     read : Read s (b .seen) from (whole .0)
     read = variant-read s (b .seen) from (whole .0) (whole .1)
 
-    pub bearing-inside : from ≤ length s
-    bearing-inside = omega (arith, read .inside)
-
     pub bearing-whole : (n p : ℕ) → headAt s from ≡ refused n p → ⊥
     bearing-whole n p e = omega (arith, head-not s from n p e, read .inside)
 

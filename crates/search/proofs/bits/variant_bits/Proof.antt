@@ -9,6 +9,8 @@ use Rattle.stretch.proofs.Heads.{Whole, head-is}
 use Rattle.stretch.proofs.Units.{sound-refused}
 use Rattle.search.proofs.Passes.{wrong-place, letters-wrong, letters-again}
 use Rattle.search.proofs.Words.{swept-not, swept-to}
+use Rattle.stretch.specs.Skips.{UpTo}
+use Rattle.stretch.proofs.Repeats.{repeats-walk}
 use Rattle.search.proofs.bits.variant_bits.Statement.{statement}
 use Rattle.search.proofs.bits.variant_bits.Tie as tie
 
@@ -57,6 +59,12 @@ returns c =
     let bad = not-true _ (sym (d .scan .ensures .1) ∙ c .before .if1 .taken) in
     swept-not _ _ _ _ _ _ _ _ (letters-wrong _ _ _ _ _ _ (found (d .before .before .before)) _ (c .first-wrong .ensures) bad)
 
+-- the variants before it, which the walk has passed
+passed : (c : tie.After-start)
+    → UpTo (c .before .before .before .before .before .args .stretch .now) (c .before .before .before .before .before .args .first)
+    (c .before .before .before .before .before .args .k) (c .before .before .before .before .before .args .at)
+passed c = c .before .before .before .before .before .pre .1
+
 repeated-requires : tie.Need-repeated-requires
 repeated-requires c κs = search needs
 
@@ -64,8 +72,9 @@ returns-2 : tie.Need-returns-2
 returns-2 c =
     let d = c .before .before .before in
     let good = not-false _ (sym (d .scan .ensures .1) ∙ c .before .before .if1 .left) in
-    let again = sym (c .before .repeated .ensures) ∙ c .if2 .taken in
-    swept-not _ _ _ _ _ _ _ _ (letters-again _ _ _ _ _ _ (found (d .before .before .before)) good again)
+    let w = found (d .before .before .before) in
+    let again = sym (repeats-walk _ _ _ _ _ _ (passed (d .before .before .before)) w) ∙ sym (c .before .repeated .ensures) ∙ c .if2 .taken in
+    swept-not _ _ _ _ _ _ _ _ (letters-again _ _ _ _ _ _ w good again)
 
 sub-counted : tie.Need-sub-counted
 sub-counted c = let w = found (c .before .before .before .before .before .before) in omega (arith, w .starts, w .ends)
@@ -80,8 +89,10 @@ returns-4 : tie.Need-returns-4
 returns-4 c =
     let d = c .before .before .before .before in
     let good = not-false _ (sym (d .scan .ensures .1) ∙ c .before .before .before .if1 .left) in
-    let new = sym (c .before .before .repeated .ensures) ∙ c .before .if2 .left in
-    swept-to _ _ _ _ _ _ _ _ (found (d .before .before .before)) good new _ _ _ (c .counted .ensures) (d .scan .ensures .0)
+    let w = found (d .before .before .before) in
+    let unlike = sym (c .before .before .repeated .ensures) ∙ c .before .if2 .left in
+    let new = sym (repeats-walk _ _ _ _ _ _ (passed (d .before .before .before)) w) ∙ unlike in
+    swept-to _ _ _ _ _ _ _ _ w good new _ _ _ (c .counted .ensures) (d .scan .ensures .0)
 
 pub variant-bits-spec : {M : Type 1} → statement M
 variant-bits-spec =

@@ -7,7 +7,7 @@ use mathlib.Core.Path.{_≡_, sym, ap, _∙_}
 use Rattle.text.specs.Refusal.{ok}
 use Rattle.stretch.specs.Variants.{toldPart, headAt}
 use Rattle.stretch.proofs.Heads.{head-is}
-use Rattle.search.proofs.RowSegments.{sound-count, Bearing, bearing-none, bearing-inside, bearing-whole, bearing-more, bearing-all, bearing-end, over-dead}
+use Rattle.search.proofs.RowSegments.{sound-count, Bearing, bearing-none, bearing-whole, bearing-more, bearing-all, bearing-end, over-dead}
 use Rattle.search.proofs.row_step.segment_rows.Statement.{statement}
 use Rattle.search.proofs.row_step.segment_rows.Tie as tie
 
@@ -38,10 +38,7 @@ loop-holds c =
     bearing-none _ _ _ _ _ _ _ (p .0) (p .1) (p .3) (c .wide .ensures .0)
 
 head-requires : tie.Need-head-requires Inv-loop μ-loop
-head-requires c κs =
-    let a = c .before in
-    let p = a .before .before .before .before .before .before .before .before .pre in
-    bearing-inside _ _ _ _ _ _ _ _ _ _ (a .loop .inv) (p .3) (c .loop-test .taken)
+head-requires c κs = search needs
 
 enum-told : tie.Need-enum-told Inv-loop μ-loop
 enum-told c = search needs

@@ -6,6 +6,8 @@ use mathlib.Core.Path.{sym, ap, _∙_}
 use Rattle.stretch.specs.Variants.{toldPart}
 use Rattle.stretch.proofs.Heads.{Whole, head-is}
 use Rattle.search.proofs.Passes.{pass-cut, wrong-place, pass-stopped, all-letters, pass-repeated, pass-to}
+use Rattle.stretch.specs.Skips.{UpTo}
+use Rattle.stretch.proofs.Repeats.{repeats-walk}
 use Rattle.search.proofs.borders.segment.variant_borders.Statement.{statement}
 use Rattle.search.proofs.borders.segment.variant_borders.Tie as tie
 
@@ -53,6 +55,12 @@ returns c =
     let d = c .before in
     sym (pass-stopped _ _ _ _ _ _ _ _ (found (d .before .before .before)) _ (d .first-wrong .ensures) (c .if1 .taken))
 
+-- the variants before it, which the walk has passed
+passed : (c : tie.After-start)
+    → UpTo (c .before .before .before .before .before .args .stretch .now) (c .before .before .before .before .before .args .first)
+    (c .before .before .before .before .before .args .k) (c .before .before .before .before .before .args .at)
+passed c = c .before .before .before .before .before .pre .1
+
 repeated-requires : tie.Need-repeated-requires
 repeated-requires c κs = search needs
 
@@ -61,7 +69,8 @@ returns-2 c =
     let d = c .before .before .before in
     let w = found (d .before .before .before) in
     let good = all-letters _ _ _ _ w _ (d .first-wrong .ensures) (c .before .before .if1 .left) in
-    sym (pass-repeated _ _ _ _ _ _ _ _ w good (sym (c .before .repeated .ensures) ∙ c .if2 .taken))
+    let again = sym (repeats-walk _ _ _ _ _ _ (passed (d .before .before .before)) w) ∙ sym (c .before .repeated .ensures) ∙ c .if2 .taken in
+    sym (pass-repeated _ _ _ _ _ _ _ _ w good again)
 
 step-borders-requires : tie.Need-step-borders-requires
 step-borders-requires c κs = search needs
@@ -81,7 +90,7 @@ returns-4 c =
     let d = e .before .before .before in
     let w = found (d .before .before .before) in
     let good = all-letters _ _ _ _ w _ (d .first-wrong .ensures) (e .before .before .if1 .left) in
-    let new = sym (e .before .repeated .ensures) ∙ e .if2 .left in
+    let new = sym (repeats-walk _ _ _ _ _ _ (passed (d .before .before .before)) w) ∙ sym (e .before .repeated .ensures) ∙ e .if2 .left in
     sym (pass-to _ _ _ _ _ _ _ _ w good new _ _ _ (c .counted .ensures) (c .before .step-borders .ensures))
 
 pub variant-borders-spec : {M : Type 1} → statement M
