@@ -9,8 +9,12 @@ use text::pattern::PatternIs;
 use text::pattern::check;
 use text::refusal;
 ghost use mathlib.Core.Path.{_≡_};
-ghost use Rattle.text.specs.Refusal.{Outcome};
-ghost use Rattle.search.specs.Answers.{feeding, toldFed};
+ghost use mathlib.Core.List.{[]};
+ghost use Rattle.text.specs.Refusal.{Outcome, ok, after};
+ghost use Rattle.stretch.specs.Reading.{segmentAt, many};
+ghost use Rattle.search.specs.Masks.{StateOf};
+ghost use Rattle.search.specs.Border.{Sized};
+ghost use Rattle.search.specs.Answers.{feeding, toldFed, courseOf, toldRan};
 ghost use Rattle.search.specs.Carried.{carriedBy};
 
 // Bit r is set when length r is carried, 1 to 63. Bit 0 is no length: an occurrence may start afresh.
@@ -56,20 +60,7 @@ impl State {
         if low < bits {
             return refused(refusal::STATE_WRONG, 0);
         }
-        let table = masks(pattern);
-        let letters = classes();
-        let mut mark = [0u8; 1];
-        match run(
-            Method::Bits,
-            pattern,
-            &table,
-            &letters,
-            bits,
-            segment,
-            0,
-            1,
-            &mut mark,
-        ) {
+        match alone(pattern, bits, segment) {
             Ran::Refused(refused) => Fed::Refused(refused),
             Ran::To {
                 next,
@@ -104,6 +95,28 @@ impl State {
         let shortest = u64::trailing_zeros(lengths);
         Carried { count, shortest }
     }
+}
+
+// The run over a lone segment. What it marks is told by the number of ones.
+fn alone(pattern: &[u8], bits: u64, segment: &[u8]) -> Ran
+    requires { ⌜ Sized (now pattern) × StateOf (now pattern) bits ⌝ }
+    ensures { λ r. ⌜ toldRan r
+        ≡ after (many (λ _. segmentAt (now (segment .entry))) 1 [] 0) (λ x. ok (courseOf (now (pattern .entry)) bits x)) ⌝ }
+{
+    let table = masks(pattern);
+    let letters = classes();
+    let mut mark = [0u8; 1];
+    run(
+        Method::Bits,
+        pattern,
+        &table,
+        &letters,
+        bits,
+        segment,
+        0,
+        1,
+        &mut mark,
+    )
 }
 
 fn refused(number: u64, place: usize) -> Fed

@@ -1,5 +1,5 @@
 -- `search::State::feed` meets its contract: each answer is a law of `feeding`, from the tests that led to it and from what
--- `run` ensures.
+-- `alone` ensures.
 use borrow.Author.Needs.{needs}
 use native.Mathlib.Omega.{arith}
 use mathlib.Core.Path.{refl, sym, ap, _∙_}
@@ -54,30 +54,12 @@ returns-4 c =
     let d = c .before .before .before in
     c .refused4 .ensures ∙ sym (fed-high _ _ _ (sound (d .before)) (d .if1 .left) _ refl (c .before .if3 .taken))
 
-masks-requires : tie.Need-masks-requires
-masks-requires c κs = sound (c .before .before .before) .short
-
-classes-requires : tie.Need-classes-requires
-classes-requires c κs = search needs
-
-slice-aggregate-run : tie.Need-slice-aggregate-run
-slice-aggregate-run c = search needs
-
-run-requires : tie.Need-run-requires
-run-requires c κs =
-    let m = c .before .before .before .before in
-    let d = m .before in
-    let e = d .before .before in
-    let p = sound (e .before) in
-    let state = fed-state _ (e .before .before .before .before .before .before .args .segment .now) _ p (e .if1 .left) _ refl (d .before .if2 .left) (d .if3 .left) in (
-      (
-        record {
-          founded = record { some = p .some; short = p .short; holds = m .masks .ensures };
-          letters = c .before .before .before .classes .ensures;
-        },
-        state,
-      ),
-      (omega arith, omega arith),
+alone-requires : tie.Need-alone-requires
+alone-requires c κs =
+    let e = c .before .before in
+    let p = sound (e .before) in (
+      record { some = p .some; short = p .short },
+      fed-state _ (e .before .before .before .before .before .before .args .segment .now) _ p (e .if1 .left) _ refl (c .before .if2 .left) (c .if3 .left),
     )
 
 enum-known-refused-2 : tie.Need-enum-known-refused-2
@@ -92,28 +74,28 @@ refused-requires-4 c κs = search needs
 returns-5 : tie.Need-returns-5
 returns-5 c =
     let n = c .before .before .before in
-    let g = n .before .before .before in
-    let d = g .before .before .before .before .before .before in
+    let g = n .before .before in
+    let d = g .before in
     let e = d .before .before in
-    let on = sym (g .run .ensures .0) ∙ ap toldRan (n .next .given .1) in
+    let on = sym (g .alone .ensures) ∙ ap toldRan (n .next .given .1) in
     c .refused6 .ensures
     ∙ sym (fed-left _ _ _ (sound (e .before)) (e .if1 .left) _ refl (d .before .if2 .left) (d .if3 .left) _ _ _ _ on (c .before .if4 .taken))
 
 returns-6 : tie.Need-returns-6
 returns-6 c =
-    let g = c .before .before .before .before in
-    let d = g .before .before .before .before .before .before in
+    let g = c .before .before .before in
+    let d = g .before in
     let e = d .before .before in
-    let wrong = sym (g .run .ensures .0) ∙ ap toldRan (c .before .refused5 .given .1) in
+    let wrong = sym (g .alone .ensures) ∙ ap toldRan (c .before .refused5 .given .1) in
     sym (fed-refused _ _ _ (sound (e .before)) (e .if1 .left) _ refl (d .before .if2 .left) (d .if3 .left) _ _ wrong)
 
 returns-7 : tie.Need-returns-7
 returns-7 c =
     let n = c .before .before in
-    let g = n .before .before .before in
-    let d = g .before .before .before .before .before .before in
+    let g = n .before .before in
+    let d = g .before in
     let e = d .before .before in
-    let on = sym (g .run .ensures .0) ∙ ap toldRan (n .next .given .1) in
+    let on = sym (g .alone .ensures) ∙ ap toldRan (n .next .given .1) in
     sym (fed-next _ _ _ (sound (e .before)) (e .if1 .left) _ refl (d .before .if2 .left) (d .if3 .left) _ _ _ _ on (c .if4 .left))
 
 pub feed-spec : {M : Type 1} → statement M
@@ -132,10 +114,7 @@ feed-spec =
     returns-3
     refused-requires-3
     returns-4
-    masks-requires
-    classes-requires
-    slice-aggregate-run
-    run-requires
+    alone-requires
     enum-known-refused-2
     enum-known-next
     refused-requires-4

@@ -1,0 +1,41 @@
+-- `search::state::alone` meets its contract: `run` has it, and one mark has room.
+use borrow.Author.Needs.{needs}
+use native.Mathlib.Omega.{arith}
+use Rattle.search.proofs.state.alone.Statement.{statement}
+use Rattle.search.proofs.state.alone.Tie as tie
+
+masks-requires : tie.Need-masks-requires
+masks-requires c κs = search needs
+
+classes-requires : tie.Need-classes-requires
+classes-requires c κs = search needs
+
+slice-aggregate-run : tie.Need-slice-aggregate-run
+slice-aggregate-run c = search needs
+
+run-requires : tie.Need-run-requires
+run-requires c κs =
+    let m = c .before .before .before .before in
+    let p = m .before .before .before .pre in (
+      (
+        record {
+          founded = record { some = p .0 .some; short = p .0 .short; holds = m .masks .ensures };
+          letters = c .before .before .before .classes .ensures;
+        },
+        p .1,
+      ),
+      (omega arith, omega arith),
+    )
+
+returns : tie.Need-returns
+returns c = c .before .run .ensures .0
+
+pub alone-spec : {M : Type 1} → statement M
+alone-spec =
+    tie.close
+    (tie.spec
+    masks-requires
+    classes-requires
+    slice-aggregate-run
+    run-requires
+    returns)
