@@ -1,20 +1,16 @@
 -- Laws of a variant's head and of the test for repetition.
-use Prim.Native.Nat.{ℕ, zero, suc, _+_, _-_, _≤_, _<_}
+use Prim.Native.Nat.{ℕ, _+_, _-_, _≤_, _<_}
 use native.Mathlib.Omega.{arith}
-use mathlib.Core.Path.{_≡_, refl, sym, ap, _∙_}
-use mathlib.Core.Bool.{Bool, true, false, _||_, _&&_}
+use mathlib.Core.Path.{_≡_, refl, sym, ap}
+use mathlib.Core.Bool.{Bool, true, false}
 use mathlib.Core.List.{List}
 use borrow.Author.Tests.{leb-true, leb-false, le-leb, lt-leb}
 use lib.Dec.{leb}
 use lib.ListN.{length, take, drop, length-take, length-drop}
-use Rattle.text.specs.Text.{Variant}
-use Rattle.text.specs.Compare.{same}
 use Rattle.text.specs.Refusal.{ok, refused, demand}
 use Rattle.stretch.specs.Bytes.{word}
 use Rattle.stretch.specs.Reading.{lettersAt, behind}
-use Rattle.stretch.specs.Skips.{stepped, behindVariants}
-use Rattle.stretch.specs.Variants.{Span, headAt, repeated}
-use Rattle.stretch.proofs.Skips.{variants-grow}
+use Rattle.stretch.specs.Variants.{Span, headAt}
 
 -- a variant that is whole: where its letters start, and where the next one begins
 pub record Whole (s : List ℕ) (at start next : ℕ) : Type 0 where

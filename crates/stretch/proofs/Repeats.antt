@@ -2,16 +2,14 @@
 -- stand before it.
 use Prim.Native.Nat.{ℕ, zero, suc, _+_, _-_, _≤_, _<_}
 use native.Mathlib.Omega.{arith}
-use mathlib.Core.Path.{_≡_, refl, sym, ap, _∙_}
-use mathlib.Core.Bool.{Bool, true, false, _||_, _&&_}
+use mathlib.Core.Path.{_≡_, refl, ap, _∙_}
+use mathlib.Core.Bool.{true, false, _||_}
 use mathlib.Core.List.{List}
 use borrow.Author.Tests.{le-leb, lt-leb, lt-ltb, le-ltb}
-use lib.Dec.{leb, ltb}
 use lib.ListN.{length, take, drop, length-take, length-drop}
 use Rattle.text.specs.Text.{Variant}
 use Rattle.text.specs.Compare.{same}
 use Rattle.text.proofs.Strings.{same-lengths}
-use Rattle.stretch.specs.Bytes.{word}
 use Rattle.stretch.specs.Reading.{lettersAt, behind}
 use Rattle.stretch.specs.Skips.{stepped, behindVariants, UpTo}
 use Rattle.stretch.specs.Variants.{repeated, repeatedBefore, repeats}
