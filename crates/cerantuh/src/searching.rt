@@ -61,8 +61,10 @@ pub extern "C" fn cerantuh_search_bits(
     block: &mut [u8],
 ) -> u64
     ensures { λ r. ⌜ r ≡ searchAnswer (now (pattern .entry)) (now (stretch .entry)) (now (marks .entry)) (now (block .entry)) ⌝ }
-    ensures { λ r. ⌜ now (marks .exit) ≡ searchMarks (now (pattern .entry)) (now (stretch .entry)) (now (marks .entry)) (now (block .entry)) ⌝ }
-    ensures { λ r. ⌜ now (block .exit) ≡ searchBlock (now (pattern .entry)) (now (stretch .entry)) (now (marks .entry)) (now (block .entry)) ⌝ }
+    ensures { λ r. ⌜ now (marks .exit)
+        ≡ searchMarks (now (pattern .entry)) (now (stretch .entry)) (now (marks .entry)) (now (block .entry)) ⌝ }
+    ensures { λ r. ⌜ now (block .exit)
+        ≡ searchBlock (now (pattern .entry)) (now (stretch .entry)) (now (marks .entry)) (now (block .entry)) ⌝ }
 {
     if block.len() < SEARCH_BLOCK {
         return roomless(pattern, stretch);
@@ -80,8 +82,10 @@ pub extern "C" fn cerantuh_search_borders(
     block: &mut [u8],
 ) -> u64
     ensures { λ r. ⌜ r ≡ searchAnswer (now (pattern .entry)) (now (stretch .entry)) (now (marks .entry)) (now (block .entry)) ⌝ }
-    ensures { λ r. ⌜ now (marks .exit) ≡ searchMarks (now (pattern .entry)) (now (stretch .entry)) (now (marks .entry)) (now (block .entry)) ⌝ }
-    ensures { λ r. ⌜ now (block .exit) ≡ searchBlock (now (pattern .entry)) (now (stretch .entry)) (now (marks .entry)) (now (block .entry)) ⌝ }
+    ensures { λ r. ⌜ now (marks .exit)
+        ≡ searchMarks (now (pattern .entry)) (now (stretch .entry)) (now (marks .entry)) (now (block .entry)) ⌝ }
+    ensures { λ r. ⌜ now (block .exit)
+        ≡ searchBlock (now (pattern .entry)) (now (stretch .entry)) (now (marks .entry)) (now (block .entry)) ⌝ }
 {
     if block.len() < SEARCH_BLOCK {
         return roomless(pattern, stretch);

@@ -1,6 +1,7 @@
 // The step of one variant by bit-vectors: shift-and with one word (Grossi et al., CPM 2017, section 5, with the ranges of its
 // letter vectors corrected: they hold the last base too). Fit for every pattern of up to 64 bases.
 use crate::step::Passed;
+use crate::step::refused;
 use stretch::bytes::wide;
 use stretch::variant::Part;
 use stretch::variant::head;
@@ -87,7 +88,7 @@ fn variant_bits(
     ensures { λ r. ⌜ SweptAt (now (pattern .entry)) bits (now (stretch .entry)) first k at r ⌝ }
 {
     match head(stretch, at) {
-        Part::Refused(refused) => Swept::Refused(refused),
+        Part::Refused(wrong) => Swept::Refused(wrong),
         Part::At { start, next } => {
             let letters = &stretch[start..next];
             let scanned = scan(pattern, masks, classes, bits, letters);
@@ -128,17 +129,11 @@ pub fn segment_bits(
     ensures { λ r. ⌜ toldPassed r ≡ segmentPass (now (pattern .entry)) bits (now (stretch .entry)) at ⌝ }
 {
     if stretch.len() <= at {
-        return Passed::Refused(Refusal {
-            number: refusal::BYTES_END,
-            place: at,
-        });
+        return refused(refusal::BYTES_END, at);
     }
     let count = wide(stretch[at]);
     if count == 0 {
-        return Passed::Refused(Refusal {
-            number: refusal::NO_VARIANTS,
-            place: at,
-        });
+        return refused(refusal::NO_VARIANTS, at);
     }
     let first = at + 1;
     let mut next = first;
@@ -148,8 +143,8 @@ pub fn segment_bits(
     let mut k = 0;
     while k < count {
         match variant_bits(pattern, masks, classes, bits, stretch, first, k, next) {
-            Swept::Refused(refused) => {
-                return Passed::Refused(refused);
+            Swept::Refused(wrong) => {
+                return Passed::Refused(wrong);
             }
             Swept::To {
                 next: behind,

@@ -45,7 +45,8 @@ fn variant_rows(
     next: &mut [u64],
 ) -> u64
     requires { ⌜ Alive (now pattern) (now masks) live × Covers (length (now pattern)) live (now exits) × (length (now next) ≡ 64) ⌝ }
-    ensures { λ r. ⌜ VariantOver (now (pattern .entry)) live (now (variant .entry)) (now (exits .entry)) (now (next .entry)) (now (next .exit)) r ⌝ }
+    ensures { λ r. ⌜ VariantOver (now (pattern .entry)) live (now (variant .entry)) (now (exits .entry))
+        (now (next .entry)) (now (next .exit)) r ⌝ }
 {
     let moved = carry(pattern, masks, live, variant);
     if moved.reached != 0 {
@@ -65,7 +66,8 @@ fn settle(
     firsts: &mut [u32],
 ) -> u64
     requires { ⌜ (m ≤ 64) × (length (now next) ≡ 64) × (length (now exits) ≡ 64) × (length (now firsts) ≡ 64) ⌝ }
-    ensures { λ r. ⌜ Settled m finished k (now (next .entry)) (now (exits .entry)) (now (firsts .entry)) (now (exits .exit)) (now (firsts .exit)) r ⌝ }
+    ensures { λ r. ⌜ Settled m finished k (now (next .entry)) (now (exits .entry)) (now (firsts .entry))
+        (now (exits .exit)) (now (firsts .exit)) r ⌝ }
 {
     let mut live = 0;
     let mut q = 1;
@@ -91,8 +93,10 @@ pub fn segment_rows(
     exits: &mut [u64],
     firsts: &mut [u32],
 ) -> u64
-    requires { ⌜ Alive (now pattern) (now masks) live × Covers (length (now pattern)) live (now exits) × (length (now firsts) ≡ 64) × Readable (now stretch) at ⌝ }
-    ensures { λ r. ⌜ SegmentOver (now (pattern .entry)) (now (stretch .entry)) at k (now (exits .entry)) (now (firsts .entry)) (now (exits .exit)) (now (firsts .exit)) r ⌝ }
+    requires { ⌜ Alive (now pattern) (now masks) live × Covers (length (now pattern)) live (now exits)
+        × (length (now firsts) ≡ 64) × Readable (now stretch) at ⌝ }
+    ensures { λ r. ⌜ SegmentOver (now (pattern .entry)) (now (stretch .entry)) at k (now (exits .entry)) (now (firsts .entry))
+        (now (exits .exit)) (now (firsts .exit)) r ⌝ }
 {
     if live == 0 {
         return 0;

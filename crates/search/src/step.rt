@@ -1,5 +1,8 @@
 // Steps over a variant and over a segment: what every method answers.
 use text::Refusal;
+ghost use mathlib.Core.Path.{_≡_};
+ghost use Rattle.text.specs.Refusal.{Outcome};
+ghost use Rattle.search.specs.Step.{toldPassed};
 
 // The state that one variant leads to, and whether an occurrence ends in it.
 pub struct Stepped {
@@ -17,4 +20,10 @@ pub enum Passed {
         ends: bool,
     },
     Refused(Refusal),
+}
+
+pub fn refused(number: u64, place: usize) -> Passed
+    ensures { λ r. ⌜ toldPassed r ≡ Outcome.refused number place ⌝ }
+{
+    Passed::Refused(Refusal { number, place })
 }

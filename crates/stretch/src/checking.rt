@@ -5,6 +5,7 @@ use crate::segment::segment_at;
 use text::Refusal;
 use text::refusal;
 ghost use mathlib.Core.Path.{_≡_};
+ghost use Rattle.text.specs.Refusal.{Outcome};
 ghost use Rattle.stretch.specs.Answers.{toldChecked, checking};
 
 // The segment count and the size of a sound stretch.
@@ -19,16 +20,10 @@ pub fn check(stretch: &[u8]) -> Checked
 {
     let end = stretch.len();
     if refusal::GREATEST_STRETCH < end {
-        return Checked::Refused(Refusal {
-            number: refusal::STRETCH_LONG,
-            place: 0,
-        });
+        return refused(refusal::STRETCH_LONG, 0);
     }
     if end < 2 {
-        return Checked::Refused(Refusal {
-            number: refusal::BYTES_END,
-            place: 0,
-        });
+        return refused(refusal::BYTES_END, 0);
     }
     let segments = word(stretch, 0);
     let mut at = 2;
@@ -47,16 +42,16 @@ pub fn check(stretch: &[u8]) -> Checked
         }
     }
     if at != end {
-        return Checked::Refused(Refusal {
-            number: refusal::BYTES_LEFT,
-            place: at,
-        });
+        return refused(refusal::BYTES_LEFT, at);
     }
     if refusal::MOST_IN_STRETCH < segments {
-        return Checked::Refused(Refusal {
-            number: refusal::SEGMENTS_MANY,
-            place: 0,
-        });
+        return refused(refusal::SEGMENTS_MANY, 0);
     }
     Checked::Sound { segments, size }
+}
+
+fn refused(number: u64, place: usize) -> Checked
+    ensures { λ r. ⌜ toldChecked r ≡ Outcome.refused number place ⌝ }
+{
+    Checked::Refused(Refusal { number, place })
 }

@@ -1,6 +1,7 @@
 // The variants of one segment by border tables.
 use crate::borders::step_borders;
 use crate::step::Passed;
+use crate::step::refused;
 use stretch::bytes::wide;
 use stretch::variant::Part;
 use stretch::variant::head;
@@ -29,7 +30,7 @@ fn variant_borders(
     ensures { λ r. ⌜ toldPassed r ≡ variantPass (now (pattern .entry)) bits (now (stretch .entry)) first k at ⌝ }
 {
     match head(stretch, at) {
-        Part::Refused(refused) => Passed::Refused(refused),
+        Part::Refused(wrong) => Passed::Refused(wrong),
         Part::At { start, next } => {
             let letters = &stretch[start..next];
             let wrong = first_wrong(letters);
@@ -70,17 +71,11 @@ pub fn segment_borders(
     ensures { λ r. ⌜ toldPassed r ≡ segmentPass (now (pattern .entry)) bits (now (stretch .entry)) at ⌝ }
 {
     if stretch.len() <= at {
-        return Passed::Refused(Refusal {
-            number: refusal::BYTES_END,
-            place: at,
-        });
+        return refused(refusal::BYTES_END, at);
     }
     let count = wide(stretch[at]);
     if count == 0 {
-        return Passed::Refused(Refusal {
-            number: refusal::NO_VARIANTS,
-            place: at,
-        });
+        return refused(refusal::NO_VARIANTS, at);
     }
     let first = at + 1;
     let mut next = first;
@@ -90,8 +85,8 @@ pub fn segment_borders(
     let mut k = 0;
     while k < count {
         match variant_borders(pattern, table, bits, stretch, first, k, next) {
-            Passed::Refused(refused) => {
-                return Passed::Refused(refused);
+            Passed::Refused(wrong) => {
+                return Passed::Refused(wrong);
             }
             Passed::To {
                 next: behind,

@@ -17,8 +17,11 @@ Inv-loop pattern masks classes bits stretch at count first next₀ size₀ state
 abbrev μ-loop : tie.MeasureT-loop
 μ-loop pattern masks classes bits stretch at count first next₀ size₀ state₀ hits₀ k₀ next size state hits k = count - k
 
+refused-requires : tie.Need-refused-requires Inv-loop μ-loop
+refused-requires c κs = search needs
+
 returns : tie.Need-returns Inv-loop μ-loop
-returns c = sym (segment-passed-not _ _ _ _ _ _ (segment-cut _ _ (c .if1 .taken)))
+returns c = c .refused .ensures ∙ sym (segment-passed-not _ _ _ _ _ _ (segment-cut _ _ (c .before .if1 .taken)))
 
 shared-slice-read-wide : tie.Need-shared-slice-read-wide Inv-loop μ-loop
 shared-slice-read-wide c = search needs
@@ -26,10 +29,14 @@ shared-slice-read-wide c = search needs
 wide-requires : tie.Need-wide-requires Inv-loop μ-loop
 wide-requires c κs = search needs
 
+refused-requires-2 : tie.Need-refused-requires-2 Inv-loop μ-loop
+refused-requires-2 c κs = search needs
+
 returns-2 : tie.Need-returns-2 Inv-loop μ-loop
 returns-2 c =
-    let d = c .before in
-    sym (segment-passed-not _ _ _ _ _ _ (segment-none _ _ (d .before .before .if1 .left) _ (d .wide .ensures .0) (c .if2 .taken)))
+    let d = c .before .before in
+    c .refused2 .ensures
+    ∙ sym (segment-passed-not _ _ _ _ _ _ (segment-none _ _ (d .before .before .if1 .left) _ (d .wide .ensures .0) (c .before .if2 .taken)))
 
 add-first : tie.Need-add-first Inv-loop μ-loop
 add-first c = search needs
@@ -42,14 +49,14 @@ loop-holds c =
 variant-bits-requires : tie.Need-variant-bits-requires Inv-loop μ-loop
 variant-bits-requires c κs = (search needs, in-whole _ _ _ _ _ _ (c .before .loop .inv .0 .sum))
 
-enum-known-refused : tie.Need-enum-known-refused Inv-loop μ-loop
-enum-known-refused c = search needs
+enum-known-wrong : tie.Need-enum-known-wrong Inv-loop μ-loop
+enum-known-wrong c = search needs
 
 returns-3 : tie.Need-returns-3 Inv-loop μ-loop
 returns-3 c =
     let d = c .before .before .before in
     let a = d .before .before in
-    let wrong = c .before .refused .given .1 in
+    let wrong = c .before .wrong .given .1 in
     let all = sweeping-refused _ _ _ _ _ _ _ _ _ (a .loop .inv .0) _ (d .variant-bits .ensures) _ (d .before .loop-test .taken) _ _ wrong in
     let e = a .before .before in
     sym
@@ -95,14 +102,16 @@ segment-bits-spec =
     (tie.spec
     Inv-loop
     μ-loop
+    refused-requires
     returns
     shared-slice-read-wide
     wide-requires
+    refused-requires-2
     returns-2
     add-first
     loop-holds
     variant-bits-requires
-    enum-known-refused
+    enum-known-wrong
     returns-3
     enum-known-behind
     add-size

@@ -17,8 +17,8 @@ use Rattle.search.proofs.bits.variant_bits.Tie as tie
 head-requires : tie.Need-head-requires
 head-requires c κs = search needs
 
-enum-known-refused : tie.Need-enum-known-refused
-enum-known-refused c = search needs
+enum-known-wrong : tie.Need-enum-known-wrong
+enum-known-wrong c = search needs
 
 enum-known-start : tie.Need-enum-known-start
 enum-known-start c = search needs
@@ -83,7 +83,7 @@ counted-requires : tie.Need-counted-requires
 counted-requires c κs = search needs
 
 returns-3 : tie.Need-returns-3
-returns-3 c = swept-not _ _ _ _ _ _ _ _ (sound-refused _ _ _ _ _ _ (sym (c .before .before .before .head .ensures) ∙ ap toldPart (c .before .refused .given .1)))
+returns-3 c = swept-not _ _ _ _ _ _ _ _ (sound-refused _ _ _ _ _ _ (sym (c .before .before .before .head .ensures) ∙ ap toldPart (c .before .wrong .given .1)))
 
 returns-4 : tie.Need-returns-4
 returns-4 c =
@@ -99,7 +99,7 @@ variant-bits-spec =
     tie.close
     (tie.spec
     head-requires
-    enum-known-refused
+    enum-known-wrong
     enum-known-start
     sub-letters
     part-letters-start

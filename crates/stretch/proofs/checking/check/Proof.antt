@@ -19,11 +19,17 @@ Inv-loop stretch end segments at₀ size₀ k₀ at size k = (seen : Text) × In
 abbrev μ-loop : tie.MeasureT-loop
 μ-loop stretch end segments at₀ size₀ k₀ at size k = segments - k
 
+refused-requires : tie.Need-refused-requires Inv-loop μ-loop
+refused-requires c κs = search needs
+
 returns : tie.Need-returns Inv-loop μ-loop
-returns c = sym (check-refused _ _ _ (stretch-long _ (c .if1 .taken)))
+returns c = c .refused .ensures ∙ sym (check-refused _ _ _ (stretch-long _ (c .before .if1 .taken)))
+
+refused-requires-2 : tie.Need-refused-requires-2 Inv-loop μ-loop
+refused-requires-2 c κs = search needs
 
 returns-2 : tie.Need-returns-2 Inv-loop μ-loop
-returns-2 c = sym (check-refused _ _ _ (stretch-cut _ (c .before .if1 .left) (c .if2 .taken)))
+returns-2 c = c .refused2 .ensures ∙ sym (check-refused _ _ _ (stretch-cut _ (c .before .before .if1 .left) (c .before .if2 .taken)))
 
 word-requires : tie.Need-word-requires Inv-loop μ-loop
 word-requires c κs = search needs
@@ -41,7 +47,7 @@ returns-3 : tie.Need-returns-3 Inv-loop μ-loop
 returns-3 c =
     let d = c .before .before .before in
     let a = d .before .before in
-    let wrong = walked-not _ _ _ _ (sym (d .segment-at .ensures) ∙ ap toldWalked (c .before .refused .given .1)) in
+    let wrong = walked-not _ _ _ _ (sym (d .segment-at .ensures) ∙ ap toldWalked (c .before .refused3 .given .1)) in
     let all = through-refused _ _ _ _ _ _ (a .loop .inv .1) _ (d .before .loop-test .taken) _ _ wrong in
     let e = a .before in
     sym (check-refused _ _ _ (stretch-refused _ (e .before .before .if1 .left) (e .before .if2 .left) _ (e .word .ensures) _ _ all))
@@ -64,21 +70,29 @@ add-k c = search needs
 loop-less : tie.Need-loop-less Inv-loop μ-loop
 loop-less c = search needs
 
+refused-requires-3 : tie.Need-refused-requires-3 Inv-loop μ-loop
+refused-requires-3 c κs = search needs
+
 returns-4 : tie.Need-returns-4 Inv-loop μ-loop
 returns-4 c =
-    let a = c .before .before in
-    let e = a .before in
-    let all = through-all _ _ _ _ _ _ (a .loop .inv .1) (e .word .result) (omega arith) in
-    sym (check-refused _ _ _ (stretch-left _ (e .before .before .if1 .left) (e .before .if2 .left) _ (e .word .ensures) _ _ all (c .if3 .taken)))
-
-returns-5 : tie.Need-returns-5 Inv-loop μ-loop
-returns-5 c =
     let a = c .before .before .before in
     let e = a .before in
     let all = through-all _ _ _ _ _ _ (a .loop .inv .1) (e .word .result) (omega arith) in
-    sym
+    c .refused4 .ensures
+    ∙ sym (check-refused _ _ _ (stretch-left _ (e .before .before .if1 .left) (e .before .if2 .left) _ (e .word .ensures) _ _ all (c .before .if3 .taken)))
+
+refused-requires-4 : tie.Need-refused-requires-4 Inv-loop μ-loop
+refused-requires-4 c κs = search needs
+
+returns-5 : tie.Need-returns-5 Inv-loop μ-loop
+returns-5 c =
+    let a = c .before .before .before .before in
+    let e = a .before in
+    let all = through-all _ _ _ _ _ _ (a .loop .inv .1) (e .word .result) (omega arith) in
+    c .refused5 .ensures
+    ∙ sym
     (check-refused _ _ _
-    (stretch-many _ (e .before .before .if1 .left) (e .before .if2 .left) _ (e .word .ensures) _ _ all (c .before .if3 .left) (c .if4 .taken)))
+    (stretch-many _ (e .before .before .if1 .left) (e .before .if2 .left) _ (e .word .ensures) _ _ all (c .before .before .if3 .left) (c .before .if4 .taken)))
 
 returns-6 : tie.Need-returns-6 Inv-loop μ-loop
 returns-6 c =
@@ -97,7 +111,9 @@ check-spec =
     (tie.spec
     Inv-loop
     μ-loop
+    refused-requires
     returns
+    refused-requires-2
     returns-2
     word-requires
     loop-holds
@@ -109,6 +125,8 @@ check-spec =
     add-k
     loop-less
     loop-again
+    refused-requires-3
     returns-4
+    refused-requires-4
     returns-5
     returns-6)

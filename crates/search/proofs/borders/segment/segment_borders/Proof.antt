@@ -17,8 +17,11 @@ Inv-loop pattern table bits stretch at count first next₀ size₀ state₀ ends
 abbrev μ-loop : tie.MeasureT-loop
 μ-loop pattern table bits stretch at count first next₀ size₀ state₀ ends₀ k₀ next size state ends k = count - k
 
+refused-requires : tie.Need-refused-requires Inv-loop μ-loop
+refused-requires c κs = search needs
+
 returns : tie.Need-returns Inv-loop μ-loop
-returns c = sym (segment-passed-not _ _ _ _ _ _ (segment-cut _ _ (c .if1 .taken)))
+returns c = c .refused .ensures ∙ sym (segment-passed-not _ _ _ _ _ _ (segment-cut _ _ (c .before .if1 .taken)))
 
 shared-slice-read-wide : tie.Need-shared-slice-read-wide Inv-loop μ-loop
 shared-slice-read-wide c = search needs
@@ -26,10 +29,14 @@ shared-slice-read-wide c = search needs
 wide-requires : tie.Need-wide-requires Inv-loop μ-loop
 wide-requires c κs = search needs
 
+refused-requires-2 : tie.Need-refused-requires-2 Inv-loop μ-loop
+refused-requires-2 c κs = search needs
+
 returns-2 : tie.Need-returns-2 Inv-loop μ-loop
 returns-2 c =
-    let d = c .before in
-    sym (segment-passed-not _ _ _ _ _ _ (segment-none _ _ (d .before .before .if1 .left) _ (d .wide .ensures .0) (c .if2 .taken)))
+    let d = c .before .before in
+    c .refused2 .ensures
+    ∙ sym (segment-passed-not _ _ _ _ _ _ (segment-none _ _ (d .before .before .if1 .left) _ (d .wide .ensures .0) (c .before .if2 .taken)))
 
 add-first : tie.Need-add-first Inv-loop μ-loop
 add-first c = search needs
@@ -40,14 +47,14 @@ loop-holds c = (taking-none _ _ _ _ (search needs) (omega arith), omega arith)
 variant-borders-requires : tie.Need-variant-borders-requires Inv-loop μ-loop
 variant-borders-requires c κs = (search needs, in-whole _ _ _ _ _ _ (c .before .loop .inv .0 .sum))
 
-enum-known-refused : tie.Need-enum-known-refused Inv-loop μ-loop
-enum-known-refused c = search needs
+enum-known-wrong : tie.Need-enum-known-wrong Inv-loop μ-loop
+enum-known-wrong c = search needs
 
 returns-3 : tie.Need-returns-3 Inv-loop μ-loop
 returns-3 c =
     let d = c .before .before .before in
     let a = d .before .before in
-    let wrong = sym (d .variant-borders .ensures) ∙ ap toldPassed (c .before .refused .given .1) in
+    let wrong = sym (d .variant-borders .ensures) ∙ ap toldPassed (c .before .wrong .given .1) in
     let all = taking-refused _ _ _ _ _ _ _ _ _ (a .loop .inv .0) _ (d .before .loop-test .taken) _ _ wrong in
     let e = a .before .before in
     sym
@@ -87,14 +94,16 @@ segment-borders-spec =
     (tie.spec
     Inv-loop
     μ-loop
+    refused-requires
     returns
     shared-slice-read-wide
     wide-requires
+    refused-requires-2
     returns-2
     add-first
     loop-holds
     variant-borders-requires
-    enum-known-refused
+    enum-known-wrong
     returns-3
     enum-known-behind
     add-size
