@@ -11,10 +11,8 @@ ghost use Rattle.search.specs.Step.{Steps};
 
 mod begun;
 mod carried;
-mod segment;
 mod table;
 
-pub use segment::segment_borders;
 pub use table::border_table;
 
 // The state that `bits` leads to by one variant, and whether an occurrence ends in it. Where bit 0 is clear nothing begins.

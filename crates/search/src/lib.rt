@@ -10,6 +10,7 @@ mod row_step;
 mod rowing;
 mod run;
 mod searching;
+mod segment;
 mod state;
 mod step;
 mod walk;

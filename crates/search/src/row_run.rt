@@ -1,7 +1,8 @@
 // The run over the segments of a stretch that takes the rows of a card along. Row 0 is the search's own state.
-use crate::bits::segment_bits;
+use crate::method::Method;
 use crate::row_step::segment_rows;
 use crate::row_step::sooner;
+use crate::segment::segment_by;
 use crate::step::Passed;
 use text::Refusal;
 ghost use mathlib.Core.Path.{_≡_};
@@ -41,7 +42,7 @@ pub fn run_rows(
     let mut k = 0;
     while k < segments {
         let bits = exits[0];
-        match segment_bits(pattern, masks, classes, bits, stretch, at) {
+        match segment_by(Method::Bits, pattern, masks, classes, bits, stretch, at) {
             Passed::Refused(wrong) => {
                 return Along::Refused(wrong);
             }

@@ -1,6 +1,6 @@
 // The run over segments that stand one after another, one for both methods: each variant is checked and stepped over at once.
 use crate::method::Method;
-use crate::method::segment_by;
+use crate::segment::segment_by;
 use crate::step::Passed;
 use text::Refusal;
 ghost use mathlib.Core.Path.{_≡_};

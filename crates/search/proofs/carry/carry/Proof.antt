@@ -15,26 +15,11 @@ Inv-loop pattern masks live variant low last d₀ finished₀ i₀ d finished i 
 abbrev μ-loop : tie.MeasureT-loop
 μ-loop pattern masks live variant low last d₀ finished₀ i₀ d finished i = length variant - i
 
-sub-low : tie.Need-sub-low Inv-loop μ-loop
-sub-low c = search needs
-
-shr-low : tie.Need-shr-low Inv-loop μ-loop
-shr-low c = search needs
-
-sub-last : tie.Need-sub-last Inv-loop μ-loop
-sub-last c = search needs
-
-shl-last : tie.Need-shl-last Inv-loop μ-loop
-shl-last c = search needs
-
 loop-holds : tie.Need-loop-holds Inv-loop μ-loop
 loop-holds c = carrying-none _ _ _ _ (c .pre)
 
 returns : tie.Need-returns Inv-loop μ-loop
 returns c = let a = c .before .before in carrying-dead _ _ _ _ (a .before .pre) _ _ _ (a .loop .inv) (c .if1 .taken)
-
-shared-slice-read-c : tie.Need-shared-slice-read-c Inv-loop μ-loop
-shared-slice-read-c c = search needs
 
 -- the letter that is read is a byte
 byte : (c : tie.After-shared-slice-known Inv-loop μ-loop)
@@ -56,12 +41,6 @@ shr-finished c =
     let a = d .before .before in
     carrying-near _ _ _ _ (a .before .pre) _ _ _ (a .loop .inv) (d .if1 .left)
 
-add-i : tie.Need-add-i Inv-loop μ-loop
-add-i c = search needs
-
-loop-less : tie.Need-loop-less Inv-loop μ-loop
-loop-less c = search needs
-
 loop-again : tie.Need-loop-again Inv-loop μ-loop
 loop-again c =
     let d = c .before .before .before in
@@ -77,18 +56,18 @@ carry-spec =
     (tie.spec
     Inv-loop
     μ-loop
-    sub-low
-    shr-low
-    sub-last
-    shl-last
+    (λ c. search needs)
+    (λ c. search needs)
+    (λ c. search needs)
+    (λ c. search needs)
     loop-holds
     returns
-    shared-slice-read-c
+    (λ c. search needs)
     cast-c
     mul-e
     element-copy-out-e
     shr-finished
-    add-i
-    loop-less
+    (λ c. search needs)
+    (λ c. search needs)
     loop-again
     returns-2)

@@ -31,18 +31,6 @@ each c l = eqb-true (getD table c 0) (cond (letter c) 0 1) (go (right c) refl)
     go true e = refl
     go false e = absurd (true≢false (sym (some-anyBelow (λ c. not (right c)) 256 c l (ap not e)) ∙ none-wrong))
 
-array-write-table : tie.Need-array-write-table
-array-write-table c = search needs
-
-array-write-table-2 : tie.Need-array-write-table-2
-array-write-table-2 c = search needs
-
-array-write-table-3 : tie.Need-array-write-table-3
-array-write-table-3 c = search needs
-
-array-write-table-4 : tie.Need-array-write-table-4
-array-write-table-4 c = search needs
-
 returns : tie.Need-returns
 unfolding table
 returns c = record { full = refl; each = each }
@@ -51,8 +39,8 @@ pub classes-spec : {M : Type 1} → statement M
 classes-spec =
     tie.close
     (tie.spec
-    array-write-table
-    array-write-table-2
-    array-write-table-3
-    array-write-table-4
+    (λ c. search needs)
+    (λ c. search needs)
+    (λ c. search needs)
+    (λ c. search needs)
     returns)

@@ -18,9 +18,6 @@ abbrev μ-loop : tie.MeasureT-loop
 loop-holds : tie.Need-loop-holds Inv-loop μ-loop
 loop-holds c = filling-none _
 
-shared-slice-read-c : tie.Need-shared-slice-read-c Inv-loop μ-loop
-shared-slice-read-c c = search needs
-
 cast-c : tie.Need-cast-c Inv-loop μ-loop
 cast-c c = omega (arith, c .shared-slice-known .given (c .before .before .loop .k))
 
@@ -30,20 +27,11 @@ mul-table c = omega (arith, c .shared-slice-known .given (c .before .before .loo
 array-read-table : tie.Need-array-read-table Inv-loop μ-loop
 array-read-table c = omega (arith, c .shared-slice-known .given (c .before .before .loop .k), c .before .before .loop .inv .full)
 
-shl-table : tie.Need-shl-table Inv-loop μ-loop
-shl-table c = search needs
-
 mul-table-2 : tie.Need-mul-table-2 Inv-loop μ-loop
 mul-table-2 c = omega (arith, c .shared-slice-known .given (c .before .before .loop .k))
 
 array-write-table : tie.Need-array-write-table Inv-loop μ-loop
 array-write-table c = omega (arith, c .shared-slice-known .given (c .before .before .loop .k), c .before .before .loop .inv .full)
-
-add-k : tie.Need-add-k Inv-loop μ-loop
-add-k c = search needs
-
-loop-less : tie.Need-loop-less Inv-loop μ-loop
-loop-less c = search needs
 
 loop-again : tie.Need-loop-again Inv-loop μ-loop
 loop-again c =
@@ -61,14 +49,14 @@ masks-spec =
     Inv-loop
     μ-loop
     loop-holds
-    shared-slice-read-c
+    (λ c. search needs)
     cast-c
     mul-table
     array-read-table
-    shl-table
+    (λ c. search needs)
     mul-table-2
     array-write-table
-    add-k
-    loop-less
+    (λ c. search needs)
+    (λ c. search needs)
     loop-again
     returns)

@@ -34,23 +34,13 @@ loop-holds c =
     let p = c .before .before .before .before .pre in
     (rowing-none _ _ _ _ (p .0 .0 .some) (p .0 .0 .short) (p .0 .1) _ refl (p .1 .0), omega arith)
 
-slice-read-bits : tie.Need-slice-read-bits Inv-loop μ-loop
-slice-read-bits c = search needs
-
-segment-bits-requires : tie.Need-segment-bits-requires Inv-loop μ-loop
-segment-bits-requires c κs =
+segment-by-requires : tie.Need-segment-by-requires Inv-loop μ-loop
+segment-by-requires c κs =
     let a = c .before .before in
-    let y = a .before .before .before .before .before .pre .0 .0 in
-    record {
-      some = y .some;
-      short = y .short;
-      vectors = y .vectors;
-      letters = y .letters;
-      state = rowed-state _ _ _ _ (y .some) (y .short) (a .loop .inv .0 .rows);
-    }
-
-enum-known-wrong : tie.Need-enum-known-wrong Inv-loop μ-loop
-enum-known-wrong c = search needs
+    let y = a .before .before .before .before .before .pre .0 .0 in (
+      record { founded = record { some = y .some; short = y .short; holds = y .vectors }; letters = y .letters },
+      rowed-state _ _ _ _ (y .some) (y .short) (a .loop .inv .0 .rows),
+    )
 
 same-length : tie.Need-same-length Inv-loop μ-loop
 same-length c =
@@ -66,12 +56,9 @@ returns : tie.Need-returns Inv-loop μ-loop
 returns c =
     let d = c .before .before .before in
     let a = d .before .before .before in
-    let wrong = sym (d .segment-bits .ensures) ∙ ap toldPassed (c .before .wrong .given .1) in
+    let wrong = sym (d .segment-by .ensures) ∙ ap toldPassed (c .before .wrong .given .1) in
     let told = rowing-refused _ _ _ _ _ _ _ (a .loop .inv .0) _ (d .before .before .loop-test .taken) _ _ wrong in
     (told .0, told .1)
-
-enum-known-next : tie.Need-enum-known-next Inv-loop μ-loop
-enum-known-next c = search needs
 
 -- what the search's step tells of the segment
 passed : (c : tie.After-known-told2 Inv-loop μ-loop)
@@ -87,7 +74,7 @@ passed : (c : tie.After-known-told2 Inv-loop μ-loop)
       state = c .before .next .given .0 .1 .1 .0;
       ends = c .before .next .given .0 .1 .1 .1 .0;
     })
-passed c = sym (c .before .before .before .segment-bits .ensures) ∙ ap toldPassed (c .before .next .given .1)
+passed c = sym (c .before .before .before .segment-by .ensures) ∙ ap toldPassed (c .before .next .given .1)
 
 cast-number : tie.Need-cast-number Inv-loop μ-loop
 cast-number c =
@@ -114,17 +101,8 @@ slice-write-exits c = omega (arith, c .before .before .before .before .segment-r
 slice-read-sooner : tie.Need-slice-read-sooner Inv-loop μ-loop
 slice-read-sooner c = omega (arith, c .before .before .before .before .before .segment-rows .ensures .ends)
 
-sooner-requires : tie.Need-sooner-requires Inv-loop μ-loop
-sooner-requires c κs = search needs
-
 slice-write-firsts : tie.Need-slice-write-firsts Inv-loop μ-loop
 slice-write-firsts c = omega (arith, c .before .before .before .before .before .before .segment-rows .ensures .ends)
-
-add-k : tie.Need-add-k Inv-loop μ-loop
-add-k c = search needs
-
-loop-less : tie.Need-loop-less Inv-loop μ-loop
-loop-less c = search needs
 
 loop-again : tie.Need-loop-again Inv-loop μ-loop
 loop-again c =
@@ -157,21 +135,21 @@ run-rows-spec =
     shr-live
     sub-live-2
     loop-holds
-    slice-read-bits
-    segment-bits-requires
-    enum-known-wrong
+    (λ c. search needs)
+    segment-by-requires
+    (λ c. search needs)
     same-length
     same-length-2
     returns
-    enum-known-next
+    (λ c. search needs)
     cast-number
     segment-rows-requires
     slice-write-exits
     slice-read-sooner
-    sooner-requires
+    (λ c κs. search needs)
     slice-write-firsts
-    add-k
-    loop-less
+    (λ c. search needs)
+    (λ c. search needs)
     loop-again
     same-length-3
     same-length-4

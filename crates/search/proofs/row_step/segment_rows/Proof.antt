@@ -26,9 +26,6 @@ returns c =
 shared-slice-read-wide : tie.Need-shared-slice-read-wide Inv-loop μ-loop
 shared-slice-read-wide c = sound-count _ _ (c .before .before .before .before .before .before .pre .3)
 
-wide-requires : tie.Need-wide-requires Inv-loop μ-loop
-wide-requires c κs = search needs
-
 add-from : tie.Need-add-from Inv-loop μ-loop
 add-from c = omega (arith, sound-count _ _ (c .before .before .before .before .before .before .before .pre .3))
 
@@ -36,12 +33,6 @@ loop-holds : tie.Need-loop-holds Inv-loop μ-loop
 loop-holds c =
     let p = c .before .before .before .before .before .before .before .pre in
     bearing-none _ _ _ _ _ _ _ (p .0) (p .1) (p .3) (c .wide .ensures .0)
-
-head-requires : tie.Need-head-requires Inv-loop μ-loop
-head-requires c κs = search needs
-
-enum-told : tie.Need-enum-told Inv-loop μ-loop
-enum-told c = search needs
 
 returns-2 : tie.Need-returns-2 Inv-loop μ-loop
 returns-2 c =
@@ -51,9 +42,6 @@ returns-2 c =
     absurd
     (bearing-whole _ _ _ _ _ _ _ _ _ _ (a .loop .inv) (p .3) (d .before .loop-test .taken) _ _
     (sym (d .head .ensures) ∙ ap toldPart (c .enum-told .given .1)))
-
-enum-known-start : tie.Need-enum-known-start Inv-loop μ-loop
-enum-known-start c = search needs
 
 -- where the letters stand
 found : (c : tie.After-start Inv-loop μ-loop)
@@ -70,20 +58,11 @@ part-variant-start c = let w = head-is _ _ _ _ (found (c .before)) in omega (ari
 part-variant-end : tie.Need-part-variant-end Inv-loop μ-loop
 part-variant-end c = let w = head-is _ _ _ _ (found (c .before)) in omega (arith, w .ends, w .inside)
 
-slice-aggregate-variant-rows : tie.Need-slice-aggregate-variant-rows Inv-loop μ-loop
-slice-aggregate-variant-rows c = search needs
-
 variant-rows-requires : tie.Need-variant-rows-requires Inv-loop μ-loop
 variant-rows-requires c κs =
     let a = c .before .before .before .before .before .before .before .before in
     let p = a .before .before .before .before .before .before .before .before .pre in
     (p .0, p .1, a .loop .inv .full)
-
-add-j : tie.Need-add-j Inv-loop μ-loop
-add-j c = search needs
-
-loop-less : tie.Need-loop-less Inv-loop μ-loop
-loop-less c = search needs
 
 loop-again : tie.Need-loop-again Inv-loop μ-loop
 loop-again c =
@@ -91,9 +70,6 @@ loop-again c =
     let a = d .before .before .before .before in
     let p = a .before .before .before .before .before .before .before .before .pre in
     bearing-more _ _ _ _ _ _ _ _ _ _ (a .loop .inv) (p .3) (d .before .before .before .loop-test .taken) _ _ _ _ (found d) (c .before .variant-rows .ensures)
-
-slice-aggregate-settle : tie.Need-slice-aggregate-settle Inv-loop μ-loop
-slice-aggregate-settle c = search needs
 
 settle-requires : tie.Need-settle-requires Inv-loop μ-loop
 settle-requires c κs =
@@ -127,22 +103,22 @@ segment-rows-spec =
     μ-loop
     returns
     shared-slice-read-wide
-    wide-requires
+    (λ c κs. search needs)
     add-from
     loop-holds
-    head-requires
-    enum-told
+    (λ c κs. search needs)
+    (λ c. search needs)
     returns-2
-    enum-known-start
+    (λ c. search needs)
     sub-variant
     part-variant-start
     part-variant-end
-    slice-aggregate-variant-rows
+    (λ c. search needs)
     variant-rows-requires
-    add-j
-    loop-less
+    (λ c. search needs)
+    (λ c. search needs)
     loop-again
-    slice-aggregate-settle
+    (λ c. search needs)
     settle-requires
     same-length
     same-length-2

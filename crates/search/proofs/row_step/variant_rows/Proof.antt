@@ -4,17 +4,11 @@ use Rattle.search.proofs.RowSteps.{passed-spread, passed-none, passed-s
 use Rattle.search.proofs.row_step.variant_rows.Statement.{statement}
 use Rattle.search.proofs.row_step.variant_rows.Tie as tie
 
-carry-requires : tie.Need-carry-requires
-carry-requires c κs = search needs
-
 spread-requires : tie.Need-spread-requires
 spread-requires c κs =
     let p = c .before .before .before .before .before .before .before .before .pre in
     let d = c .before in
     (p .0 .short, passed-short _ _ _ _ (c .before .before .before .before .before .before .before .before .args .next .now) _ _ (p .1) (d .before .before .carry .ensures) (d .if1 .taken), p .1 .full, p .2)
-
-same-length : tie.Need-same-length
-same-length c = search needs
 
 returns : tie.Need-returns
 returns c =
@@ -30,4 +24,4 @@ returns-2 c =
 
 pub variant-rows-spec : {M : Type 1} → statement M
 variant-rows-spec =
-    tie.close (tie.spec carry-requires spread-requires same-length returns returns-2)
+    tie.close (tie.spec (λ c κs. search needs) spread-requires (λ c. search needs) returns returns-2)

@@ -18,21 +18,6 @@ abbrev μ-loop : tie.MeasureT-loop
 loop-holds : tie.Need-loop-holds Inv-loop μ-loop
 loop-holds c = (filled-none 0 _ (replicate 64 0) (length-replicate {A = ℕ} 64 0), omega arith)
 
-shl-exits : tie.Need-shl-exits Inv-loop μ-loop
-shl-exits c = search needs
-
-mul-exits : tie.Need-mul-exits Inv-loop μ-loop
-mul-exits c = search needs
-
-array-write-exits : tie.Need-array-write-exits Inv-loop μ-loop
-array-write-exits c = search needs
-
-add-q : tie.Need-add-q Inv-loop μ-loop
-add-q c = search needs
-
-loop-less : tie.Need-loop-less Inv-loop μ-loop
-loop-less c = search needs
-
 loop-again : tie.Need-loop-again Inv-loop μ-loop
 loop-again c = (lone-more (c .before .before .args .m) _ _ (c .before .loop .inv .0) (omega arith), omega arith)
 
@@ -46,10 +31,10 @@ lone-spec =
     Inv-loop
     μ-loop
     loop-holds
-    shl-exits
-    mul-exits
-    array-write-exits
-    add-q
-    loop-less
+    (λ c. search needs)
+    (λ c. search needs)
+    (λ c. search needs)
+    (λ c. search needs)
+    (λ c. search needs)
     loop-again
     returns)

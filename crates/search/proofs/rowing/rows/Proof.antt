@@ -9,18 +9,6 @@ use Rattle.search.proofs.RowWalks.{rowed-none, rows-pattern, rows-stret
 use Rattle.search.proofs.rowing.rows.Statement.{statement}
 use Rattle.search.proofs.rowing.rows.Tie as tie
 
-check-requires : tie.Need-check-requires
-check-requires c κs = search needs
-
-enum-known-wrong : tie.Need-enum-known-wrong
-enum-known-wrong c = search needs
-
-no-rows-requires : tie.Need-no-rows-requires
-no-rows-requires c κs = search needs
-
-enum-told : tie.Need-enum-told
-enum-told c = search needs
-
 -- the pattern was found sound
 sound : (c : tie.After-enum-told) → pattern (c .before .before .before .before .before .args .pattern .now) (ok (tt {0})) ≡ ok tt
 sound c = sym (c .before .before .check .ensures) ∙ ap toldPattern (c .enum-told .given .1)
@@ -28,17 +16,8 @@ sound c = sym (c .before .before .check .ensures) ∙ ap toldPattern (c .enum-to
 masks-requires : tie.Need-masks-requires
 masks-requires c κs = pattern-sound _ (sound c) .short
 
-classes-requires : tie.Need-classes-requires
-classes-requires c κs = search needs
-
 lone-requires : tie.Need-lone-requires
 lone-requires c κs = pattern-sound _ (sound (c .before .before)) .short
-
-slice-aggregate-walk-rows : tie.Need-slice-aggregate-walk-rows
-slice-aggregate-walk-rows c = search needs
-
-slice-aggregate-walk-rows-2 : tie.Need-slice-aggregate-walk-rows-2
-slice-aggregate-walk-rows-2 c = search needs
 
 walk-rows-requires : tie.Need-walk-rows-requires
 walk-rows-requires c κs =
@@ -48,15 +27,6 @@ walk-rows-requires c κs =
       record { some = p .some; short = p .short; vectors = m .masks .ensures; letters = d .before .classes .ensures; state = record { small = pow-lt (p .some); odd = refl } },
       rowed-none _ _ (p .some) (p .short) (d .lone .ensures),
     )
-
-enum-known-wrong-2 : tie.Need-enum-known-wrong-2
-enum-known-wrong-2 c = search needs
-
-no-rows-requires-2 : tie.Need-no-rows-requires-2
-no-rows-requires-2 c κs = search needs
-
-enum-known-segments : tie.Need-enum-known-segments
-enum-known-segments c = search needs
 
 returns : tie.Need-returns
 returns c = c .no-rows .ensures ∙ rows-pattern _ _ _ _ (sym (c .before .before .before .before .check .ensures) ∙ ap toldPattern (c .before .before .wrong .given .1))
@@ -78,19 +48,19 @@ pub rows-spec : {M : Type 1} → statement M
 rows-spec =
     tie.close
     (tie.spec
-    check-requires
-    enum-known-wrong
-    no-rows-requires
-    enum-told
+    (λ c κs. search needs)
+    (λ c. search needs)
+    (λ c κs. search needs)
+    (λ c. search needs)
     masks-requires
-    classes-requires
+    (λ c κs. search needs)
     lone-requires
-    slice-aggregate-walk-rows
-    slice-aggregate-walk-rows-2
+    (λ c. search needs)
+    (λ c. search needs)
     walk-rows-requires
-    enum-known-wrong-2
-    no-rows-requires-2
-    enum-known-segments
+    (λ c. search needs)
+    (λ c κs. search needs)
+    (λ c. search needs)
     returns
     returns-2
     returns-3)

@@ -8,42 +8,15 @@ use Rattle.search.proofs.RowWalks.{through-not, rows-not, along-not, al
 use Rattle.search.proofs.rowing.walk_rows.Statement.{statement}
 use Rattle.search.proofs.rowing.walk_rows.Tie as tie
 
-refused-requires : tie.Need-refused-requires
-refused-requires c κs = search needs
-
 returns : tie.Need-returns
 returns c =
     let e = stretch-long _ (c .before .if1 .taken) in
     (c .refused .ensures ∙ sym (through-not _ _ _ e), rows-not _ _ _ _ _ _ e)
 
-refused-requires-2 : tie.Need-refused-requires-2
-refused-requires-2 c κs = search needs
-
 returns-2 : tie.Need-returns-2
 returns-2 c =
     let e = stretch-cut _ (c .before .before .if1 .left) (c .before .if2 .taken) in
     (c .refused2 .ensures ∙ sym (through-not _ _ _ e), rows-not _ _ _ _ _ _ e)
-
-word-requires : tie.Need-word-requires
-word-requires c κs = search needs
-
-run-rows-requires : tie.Need-run-rows-requires
-run-rows-requires c κs = search needs
-
-enum-known-wrong : tie.Need-enum-known-wrong
-enum-known-wrong c = search needs
-
-enum-known-next : tie.Need-enum-known-next
-enum-known-next c = search needs
-
-refused-requires-3 : tie.Need-refused-requires-3
-refused-requires-3 c κs = search needs
-
-same-length : tie.Need-same-length
-same-length c = search needs
-
-same-length-2 : tie.Need-same-length-2
-same-length-2 c = search needs
 
 returns-3 : tie.Need-returns-3
 returns-3 c =
@@ -53,15 +26,6 @@ returns-3 c =
     let met = along-met _ _ _ (sym (r .run-rows .ensures .0) ∙ ap toldAlong (n .next .given .1)) in
     let none = stretch-left _ (w .before .before .if1 .left) (w .before .if2 .left) _ (w .word .ensures) _ _ (met .1) (c .before .if3 .taken) in
     (c .refused3 .ensures ∙ sym (through-not _ _ _ none), rows-not _ _ _ _ _ _ none)
-
-refused-requires-4 : tie.Need-refused-requires-4
-refused-requires-4 c κs = search needs
-
-same-length-3 : tie.Need-same-length-3
-same-length-3 c = search needs
-
-same-length-4 : tie.Need-same-length-4
-same-length-4 c = search needs
 
 returns-4 : tie.Need-returns-4
 returns-4 c =
@@ -74,15 +38,6 @@ returns-4 c =
     stretch-many _ (w .before .before .if1 .left) (w .before .if2 .left) _ (w .word .ensures) _ _ (met .1) (d .if3 .left) (c .before .if4 .taken) in
     (c .refused4 .ensures ∙ sym (through-not _ _ _ none), rows-not _ _ _ _ _ _ none)
 
-cast-count : tie.Need-cast-count
-cast-count c = search needs
-
-same-length-5 : tie.Need-same-length-5
-same-length-5 c = search needs
-
-same-length-6 : tie.Need-same-length-6
-same-length-6 c = search needs
-
 returns-5 : tie.Need-returns-5
 returns-5 c =
     let r = c .before .before .before .before .before .before .before in
@@ -90,12 +45,6 @@ returns-5 c =
     let wrong = along-not _ _ _ _ (sym (r .run-rows .ensures .0) ∙ ap toldAlong (c .before .wrong .given .1)) in
     let none = stretch-refused _ (w .before .before .if1 .left) (w .before .if2 .left) _ (w .word .ensures) _ _ wrong in
     (sym (through-not _ _ _ none), rows-not _ _ _ _ _ _ none)
-
-same-length-7 : tie.Need-same-length-7
-same-length-7 c = search needs
-
-same-length-8 : tie.Need-same-length-8
-same-length-8 c = search needs
 
 returns-6 : tie.Need-returns-6
 returns-6 c =
@@ -113,26 +62,26 @@ pub walk-rows-spec : {M : Type 1} → statement M
 walk-rows-spec =
     tie.close
     (tie.spec
-    refused-requires
+    (λ c κs. search needs)
     returns
-    refused-requires-2
+    (λ c κs. search needs)
     returns-2
-    word-requires
-    run-rows-requires
-    enum-known-wrong
-    enum-known-next
-    refused-requires-3
-    same-length
-    same-length-2
+    (λ c κs. search needs)
+    (λ c κs. search needs)
+    (λ c. search needs)
+    (λ c. search needs)
+    (λ c κs. search needs)
+    (λ c. search needs)
+    (λ c. search needs)
     returns-3
-    refused-requires-4
-    same-length-3
-    same-length-4
+    (λ c κs. search needs)
+    (λ c. search needs)
+    (λ c. search needs)
     returns-4
-    cast-count
-    same-length-5
-    same-length-6
+    (λ c. search needs)
+    (λ c. search needs)
+    (λ c. search needs)
     returns-5
-    same-length-7
-    same-length-8
+    (λ c. search needs)
+    (λ c. search needs)
     returns-6)

@@ -28,9 +28,6 @@ segment-by-requires c κs =
     let p = a .before .before .before .before .pre .0 in
     (p .0, searching-state _ _ _ _ _ _ _ _ _ _ (a .loop .inv .0) (p .0 .founded .some) (p .1))
 
-enum-known-refused : tie.Need-enum-known-refused Inv-loop μ-loop
-enum-known-refused c = search needs
-
 same-length : tie.Need-same-length Inv-loop μ-loop
 same-length c = c .before .before .before .before .before .loop .inv .2
 
@@ -40,12 +37,6 @@ returns c =
     let wrong = sym (d .segment-by .ensures) ∙ ap toldPassed (c .before .refused .given .1) in
     let told = searching-refused _ _ _ _ _ _ _ _ _ _ (d .before .before .loop .inv .0) _ (d .before .loop-test .taken) _ _ wrong in
     (told .0, told .1)
-
-enum-known-behind : tie.Need-enum-known-behind Inv-loop μ-loop
-enum-known-behind c = search needs
-
-cast-mark : tie.Need-cast-mark Inv-loop μ-loop
-cast-mark c = search needs
 
 slice-write-marks : tie.Need-slice-write-marks Inv-loop μ-loop
 slice-write-marks c =
@@ -74,17 +65,8 @@ loop-again c =
 add-size : tie.Need-add-size Inv-loop μ-loop
 add-size c = let m = loop-again c .0 .sum in omega (arith, m .small, m .inside)
 
-cast-ends : tie.Need-cast-ends Inv-loop μ-loop
-cast-ends c = search needs
-
 add-ends : tie.Need-add-ends Inv-loop μ-loop
 add-ends c = let m = loop-again c .0 in omega (arith, m .few)
-
-add-k : tie.Need-add-k Inv-loop μ-loop
-add-k c = search needs
-
-loop-less : tie.Need-loop-less Inv-loop μ-loop
-loop-less c = search needs
 
 same-length-2 : tie.Need-same-length-2 Inv-loop μ-loop
 same-length-2 c = c .before .loop .inv .2
@@ -103,17 +85,17 @@ run-spec =
     μ-loop
     loop-holds
     segment-by-requires
-    enum-known-refused
+    (λ c. search needs)
     same-length
     returns
-    enum-known-behind
-    cast-mark
+    (λ c. search needs)
+    (λ c. search needs)
     slice-write-marks
     add-size
-    cast-ends
+    (λ c. search needs)
     add-ends
-    add-k
-    loop-less
+    (λ c. search needs)
+    (λ c. search needs)
     loop-again
     same-length-2
     returns-2)

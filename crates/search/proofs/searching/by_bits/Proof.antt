@@ -7,15 +7,6 @@ use Rattle.search.proofs.Searches.{pattern-not, pattern-sound-told}
 use Rattle.search.proofs.searching.by_bits.Statement.{statement}
 use Rattle.search.proofs.searching.by_bits.Tie as tie
 
-check-requires : tie.Need-check-requires
-check-requires c κs = search needs
-
-enum-known-refused : tie.Need-enum-known-refused
-enum-known-refused c = search needs
-
-enum-told : tie.Need-enum-told
-enum-told c = search needs
-
 -- the pattern was found sound
 sound : (c : tie.After-enum-told) → pattern (c .before .before .before .before .before .before .args .pattern .now) (ok (tt {0})) ≡ ok tt
 sound c = sym (c .before .before .check .ensures) ∙ ap toldPattern (c .enum-told .given .1)
@@ -32,9 +23,6 @@ search-requires c κs =
 returns : tie.Need-returns
 returns c = pattern-not _ _ _ _ _ (sym (c .before .before .before .check .ensures) ∙ ap toldPattern (c .before .refused .given .1))
 
-same-length : tie.Need-same-length
-same-length c = search needs
-
 returns-2 : tie.Need-returns-2
 returns-2 c =
     let d = c .before .before in
@@ -44,11 +32,11 @@ pub by-bits-spec : {M : Type 1} → statement M
 by-bits-spec =
     tie.close
     (tie.spec
-    check-requires
-    enum-known-refused
-    enum-told
+    (λ c κs. search needs)
+    (λ c. search needs)
+    (λ c. search needs)
     masks-requires
     search-requires
     returns
-    same-length
+    (λ c. search needs)
     returns-2)

@@ -8,21 +8,6 @@ use borrow.Author.Needs.{needs}
 use Rattle.search.proofs.searching.through.Statement.{statement}
 use Rattle.search.proofs.searching.through.Tie as tie
 
-classes-requires : tie.Need-classes-requires
-classes-requires c κs = search needs
-
-walk-requires : tie.Need-walk-requires
-walk-requires c κs = search needs
-
-enum-known-refused : tie.Need-enum-known-refused
-enum-known-refused c = search needs
-
-enum-known-segments : tie.Need-enum-known-segments
-enum-known-segments c = search needs
-
-same-length : tie.Need-same-length
-same-length c = search needs
-
 returns : tie.Need-returns
 returns c =
     let d = c .before .before .before .before .before .before in
@@ -39,19 +24,10 @@ slice-aggregate-copy c = simp length-take (omega (arith, slice-reshare-prefix-co
 copy-requires : tie.Need-copy-requires
 copy-requires c κs = simp length-take (omega arith)
 
-same-length-2 : tie.Need-same-length-2
-same-length-2 c = search needs
-
 returns-2 : tie.Need-returns-2
 returns-2 c =
     let d = c .before .before .before .before .before in
     into-not _ _ _ _ _ (sym (d .walk .ensures .0) ∙ ap toldSearched (c .before .refused .given .1))
-
-same-length-3 : tie.Need-same-length-3
-same-length-3 c = search needs
-
-same-length-4 : tie.Need-same-length-4
-same-length-4 c = search needs
 
 returns-3 : tie.Need-returns-3
 returns-3 c =
@@ -64,17 +40,17 @@ pub through-spec : {M : Type 1} → statement M
 through-spec =
     tie.close
     (tie.spec
-    classes-requires
-    walk-requires
-    enum-known-refused
-    enum-known-segments
-    same-length
+    (λ c κs. search needs)
+    (λ c κs. search needs)
+    (λ c. search needs)
+    (λ c. search needs)
+    (λ c. search needs)
     returns
     slice-reshare-prefix-copy
     slice-aggregate-copy
     copy-requires
-    same-length-2
+    (λ c. search needs)
     returns-2
-    same-length-3
-    same-length-4
+    (λ c. search needs)
+    (λ c. search needs)
     returns-3)

@@ -4,15 +4,6 @@ use native.Mathlib.Omega.{arith}
 use Rattle.search.proofs.state.alone.Statement.{statement}
 use Rattle.search.proofs.state.alone.Tie as tie
 
-masks-requires : tie.Need-masks-requires
-masks-requires c κs = search needs
-
-classes-requires : tie.Need-classes-requires
-classes-requires c κs = search needs
-
-slice-aggregate-run : tie.Need-slice-aggregate-run
-slice-aggregate-run c = search needs
-
 run-requires : tie.Need-run-requires
 run-requires c κs =
     let m = c .before .before .before .before in
@@ -34,8 +25,8 @@ pub alone-spec : {M : Type 1} → statement M
 alone-spec =
     tie.close
     (tie.spec
-    masks-requires
-    classes-requires
-    slice-aggregate-run
+    (λ c κs. search needs)
+    (λ c κs. search needs)
+    (λ c. search needs)
     run-requires
     returns)

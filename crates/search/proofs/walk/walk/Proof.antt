@@ -9,24 +9,15 @@ use Rattle.search.proofs.Searches.{told-not, marks-not, run-not, run-me
 use Rattle.search.proofs.walk.walk.Statement.{statement}
 use Rattle.search.proofs.walk.walk.Tie as tie
 
-refused-requires : tie.Need-refused-requires
-refused-requires c κs = search needs
-
 returns : tie.Need-returns
 returns c =
     let e = stretch-long _ (c .before .if1 .taken) in
     (c .refused .ensures ∙ sym (told-not _ _ _ _ e), marks-not _ _ _ _ _ e)
 
-refused-requires-2 : tie.Need-refused-requires-2
-refused-requires-2 c κs = search needs
-
 returns-2 : tie.Need-returns-2
 returns-2 c =
     let e = stretch-cut _ (c .before .before .if1 .left) (c .before .if2 .taken) in
     (c .refused2 .ensures ∙ sym (told-not _ _ _ _ e), marks-not _ _ _ _ _ e)
-
-word-requires : tie.Need-word-requires
-word-requires c κs = search needs
 
 run-requires : tie.Need-run-requires
 run-requires c κs =
@@ -36,18 +27,6 @@ run-requires c κs =
     let some = w .before .if2 .left in
     ((p .0, record { small = pow-lt (p .0 .founded .some); odd = refl }), (some, omega (arith, p .1, short, some)))
 
-enum-known-refused : tie.Need-enum-known-refused
-enum-known-refused c = search needs
-
-enum-known-next : tie.Need-enum-known-next
-enum-known-next c = search needs
-
-refused-requires-3 : tie.Need-refused-requires-3
-refused-requires-3 c κs = search needs
-
-same-length : tie.Need-same-length
-same-length c = search needs
-
 returns-3 : tie.Need-returns-3
 returns-3 c =
     let n = c .before .before .before in
@@ -56,12 +35,6 @@ returns-3 c =
     let met = run-met _ _ _ _ _ _ _ (sym (r .run .ensures .0) ∙ ap toldRan (n .next .given .1)) in
     let none = stretch-left _ (w .before .before .if1 .left) (w .before .if2 .left) _ (w .word .ensures) _ _ (met .1) (c .before .if3 .taken) in
     (c .refused4 .ensures ∙ sym (told-not _ _ _ _ none), marks-not _ _ _ _ _ none)
-
-refused-requires-4 : tie.Need-refused-requires-4
-refused-requires-4 c κs = search needs
-
-same-length-2 : tie.Need-same-length-2
-same-length-2 c = search needs
 
 returns-4 : tie.Need-returns-4
 returns-4 c =
@@ -74,9 +47,6 @@ returns-4 c =
     stretch-many _ (w .before .before .if1 .left) (w .before .if2 .left) _ (w .word .ensures) _ _ (met .1) (d .if3 .left) (c .before .if4 .taken) in
     (c .refused5 .ensures ∙ sym (told-not _ _ _ _ none), marks-not _ _ _ _ _ none)
 
-same-length-3 : tie.Need-same-length-3
-same-length-3 c = search needs
-
 returns-5 : tie.Need-returns-5
 returns-5 c =
     let r = c .before .before .before .before .before in
@@ -84,9 +54,6 @@ returns-5 c =
     let wrong = run-not _ _ _ _ _ (sym (r .run .ensures .0) ∙ ap toldRan (c .before .refused3 .given .1)) in
     let none = stretch-refused _ (w .before .before .if1 .left) (w .before .if2 .left) _ (w .word .ensures) _ _ wrong in
     (sym (told-not _ _ _ _ none), marks-not _ _ _ _ _ none)
-
-same-length-4 : tie.Need-same-length-4
-same-length-4 c = search needs
 
 returns-6 : tie.Need-returns-6
 returns-6 c =
@@ -104,21 +71,21 @@ pub walk-spec : {M : Type 1} → statement M
 walk-spec =
     tie.close
     (tie.spec
-    refused-requires
+    (λ c κs. search needs)
     returns
-    refused-requires-2
+    (λ c κs. search needs)
     returns-2
-    word-requires
+    (λ c κs. search needs)
     run-requires
-    enum-known-refused
-    enum-known-next
-    refused-requires-3
-    same-length
+    (λ c. search needs)
+    (λ c. search needs)
+    (λ c κs. search needs)
+    (λ c. search needs)
     returns-3
-    refused-requires-4
-    same-length-2
+    (λ c κs. search needs)
+    (λ c. search needs)
     returns-4
-    same-length-3
+    (λ c. search needs)
     returns-5
-    same-length-4
+    (λ c. search needs)
     returns-6)

@@ -10,24 +10,12 @@ use Rattle.search.proofs.Feeds.{fed-pattern, fed-long, fed-even, fed-hi
 use Rattle.search.proofs.state.State.feed.Statement.{statement}
 use Rattle.search.proofs.state.State.feed.Tie as tie
 
-check-requires : tie.Need-check-requires
-check-requires c κs = search needs
-
-enum-known-refused : tie.Need-enum-known-refused
-enum-known-refused c = search needs
-
 returns : tie.Need-returns
 returns c = sym (fed-pattern _ _ _ _ _ (sym (c .before .before .before .check .ensures) ∙ ap toldPattern (c .before .refused .given .1)))
-
-enum-told : tie.Need-enum-told
-enum-told c = search needs
 
 -- the pattern was found sound
 sound : (c : tie.After-enum-told) → SoundPattern (c .before .before .before .before .before .args .pattern .now)
 sound c = pattern-sound _ (sym (c .before .before .check .ensures) ∙ ap toldPattern (c .enum-told .given .1))
-
-refused-requires : tie.Need-refused-requires
-refused-requires c κs = search needs
 
 returns-2 : tie.Need-returns-2
 returns-2 c = c .refused2 .ensures ∙ sym (fed-long _ _ _ (sound (c .before .before)) (c .before .if1 .taken))
@@ -38,16 +26,10 @@ sub-low c = sound (c .before) .short
 shr-low : tie.Need-shr-low
 shr-low c = let p = sound (c .before) in omega (arith, p .some)
 
-refused-requires-2 : tie.Need-refused-requires-2
-refused-requires-2 c κs = search needs
-
 returns-3 : tie.Need-returns-3
 returns-3 c =
     let d = c .before .before in
     c .refused3 .ensures ∙ sym (fed-even _ _ _ (sound (d .before)) (d .if1 .left) (c .before .if2 .taken))
-
-refused-requires-3 : tie.Need-refused-requires-3
-refused-requires-3 c κs = search needs
 
 returns-4 : tie.Need-returns-4
 returns-4 c =
@@ -61,15 +43,6 @@ alone-requires c κs =
       record { some = p .some; short = p .short },
       fed-state _ (e .before .before .before .before .before .before .args .segment .now) _ p (e .if1 .left) _ refl (c .before .if2 .left) (c .if3 .left),
     )
-
-enum-known-refused-2 : tie.Need-enum-known-refused-2
-enum-known-refused-2 c = search needs
-
-enum-known-next : tie.Need-enum-known-next
-enum-known-next c = search needs
-
-refused-requires-4 : tie.Need-refused-requires-4
-refused-requires-4 c κs = search needs
 
 returns-5 : tie.Need-returns-5
 returns-5 c =
@@ -102,22 +75,22 @@ pub feed-spec : {M : Type 1} → statement M
 feed-spec =
     tie.close
     (tie.spec
-    check-requires
-    enum-known-refused
+    (λ c κs. search needs)
+    (λ c. search needs)
     returns
-    enum-told
-    refused-requires
+    (λ c. search needs)
+    (λ c κs. search needs)
     returns-2
     sub-low
     shr-low
-    refused-requires-2
+    (λ c κs. search needs)
     returns-3
-    refused-requires-3
+    (λ c κs. search needs)
     returns-4
     alone-requires
-    enum-known-refused-2
-    enum-known-next
-    refused-requires-4
+    (λ c. search needs)
+    (λ c. search needs)
+    (λ c κs. search needs)
     returns-5
     returns-6
     returns-7)

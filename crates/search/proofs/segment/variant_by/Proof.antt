@@ -1,4 +1,4 @@
--- `search::bits::variant_bits` meets its contract: each answer is a law of `soundAt`, from what `head`, `scan`, `first_wrong` and
+-- `search::segment::variant_by` meets its contract: each answer is a law of `soundAt`, from what `head`, `scan_by`, `first_wrong` and
 -- `repeated` ensure.
 use borrow.Author.Needs.{needs}
 use borrow.Author.Tests.{not-true, not-false}
@@ -11,17 +11,8 @@ use Rattle.search.proofs.Passes.{wrong-place, letters-wrong, letters-ag
 use Rattle.search.proofs.Words.{swept-not, swept-to}
 use Rattle.stretch.specs.Skips.{UpTo}
 use Rattle.stretch.proofs.Repeats.{repeats-walk}
-use Rattle.search.proofs.bits.variant_bits.Statement.{statement}
-use Rattle.search.proofs.bits.variant_bits.Tie as tie
-
-head-requires : tie.Need-head-requires
-head-requires c κs = search needs
-
-enum-known-wrong : tie.Need-enum-known-wrong
-enum-known-wrong c = search needs
-
-enum-known-start : tie.Need-enum-known-start
-enum-known-start c = search needs
+use Rattle.search.proofs.segment.variant_by.Statement.{statement}
+use Rattle.search.proofs.segment.variant_by.Tie as tie
 
 -- where the letters stand
 found : (c : tie.After-start)
@@ -41,12 +32,6 @@ part-letters-start c = let w = found (c .before) in omega (arith, w .starts, w .
 part-letters-end : tie.Need-part-letters-end
 part-letters-end c = let w = found (c .before) in omega (arith, w .ends, w .inside)
 
-scan-requires : tie.Need-scan-requires
-scan-requires c κs = search needs
-
-first-wrong-requires : tie.Need-first-wrong-requires
-first-wrong-requires c κs = search needs
-
 add-place : tie.Need-add-place
 add-place c =
     let w = found (c .before .before .before .before .before) in
@@ -56,7 +41,7 @@ add-place c =
 returns : tie.Need-returns
 returns c =
     let d = c .before .before in
-    let bad = not-true _ (sym (d .scan .ensures .1) ∙ c .before .if1 .taken) in
+    let bad = not-true _ (sym (d .scan-by .ensures .0) ∙ c .before .if1 .taken) in
     swept-not _ _ _ _ _ _ _ _ (letters-wrong _ _ _ _ _ _ (found (d .before .before .before)) _ (c .first-wrong .ensures) bad)
 
 -- the variants before it, which the walk has passed
@@ -65,13 +50,10 @@ passed : (c : tie.After-start)
     (c .before .before .before .before .before .args .k) (c .before .before .before .before .before .args .at)
 passed c = c .before .before .before .before .before .pre .1
 
-repeated-requires : tie.Need-repeated-requires
-repeated-requires c κs = search needs
-
 returns-2 : tie.Need-returns-2
 returns-2 c =
     let d = c .before .before .before in
-    let good = not-false _ (sym (d .scan .ensures .1) ∙ c .before .before .if1 .left) in
+    let good = not-false _ (sym (d .scan-by .ensures .0) ∙ c .before .before .if1 .left) in
     let w = found (d .before .before .before) in
     let again = sym (repeats-walk _ _ _ _ _ _ (passed (d .before .before .before)) w) ∙ sym (c .before .repeated .ensures) ∙ c .if2 .taken in
     swept-not _ _ _ _ _ _ _ _ (letters-again _ _ _ _ _ _ w good again)
@@ -79,38 +61,35 @@ returns-2 c =
 sub-counted : tie.Need-sub-counted
 sub-counted c = let w = found (c .before .before .before .before .before .before) in omega (arith, w .starts, w .ends)
 
-counted-requires : tie.Need-counted-requires
-counted-requires c κs = search needs
-
 returns-3 : tie.Need-returns-3
 returns-3 c = swept-not _ _ _ _ _ _ _ _ (sound-refused _ _ _ _ _ _ (sym (c .before .before .before .head .ensures) ∙ ap toldPart (c .before .wrong .given .1)))
 
 returns-4 : tie.Need-returns-4
 returns-4 c =
     let d = c .before .before .before .before in
-    let good = not-false _ (sym (d .scan .ensures .1) ∙ c .before .before .before .if1 .left) in
+    let good = not-false _ (sym (d .scan-by .ensures .0) ∙ c .before .before .before .if1 .left) in
     let w = found (d .before .before .before) in
     let unlike = sym (c .before .before .repeated .ensures) ∙ c .before .if2 .left in
     let new = sym (repeats-walk _ _ _ _ _ _ (passed (d .before .before .before)) w) ∙ unlike in
-    swept-to _ _ _ _ _ _ _ _ w good new _ _ _ (c .counted .ensures) (d .scan .ensures .0)
+    swept-to _ _ _ _ _ _ _ _ w good new _ _ _ (c .counted .ensures) (d .scan-by .ensures .1 good)
 
-pub variant-bits-spec : {M : Type 1} → statement M
-variant-bits-spec =
+pub variant-by-spec : {M : Type 1} → statement M
+variant-by-spec =
     tie.close
     (tie.spec
-    head-requires
-    enum-known-wrong
-    enum-known-start
+    (λ c κs. search needs)
+    (λ c. search needs)
+    (λ c. search needs)
     sub-letters
     part-letters-start
     part-letters-end
-    scan-requires
-    first-wrong-requires
+    (λ c κs. search needs)
+    (λ c κs. search needs)
     add-place
     returns
-    repeated-requires
+    (λ c κs. search needs)
     returns-2
     sub-counted
-    counted-requires
+    (λ c κs. search needs)
     returns-3
     returns-4)

@@ -1,0 +1,141 @@
+// The variants of one segment, by either method, and the segment.
+use crate::method::Method;
+use crate::method::scan_by;
+use crate::step::Passed;
+use crate::step::refused;
+use stretch::bytes::wide;
+use stretch::variant::Part;
+use stretch::variant::head;
+use stretch::variant::repeated;
+use text::Refusal;
+use text::letter::first_wrong;
+use text::refusal;
+use text::size::counted;
+ghost use mathlib.Core.Path.{_≡_};
+ghost use Rattle.stretch.specs.Skips.{UpTo};
+ghost use Rattle.search.specs.Step.{toldPassed, segmentPass};
+ghost use Rattle.search.specs.Masks.{StateOf};
+ghost use Rattle.search.specs.Method.{Tools};
+ghost use Rattle.search.specs.Words.{SweptAt};
+
+// How far a sweep over a variant has come in the bytes: the place behind it, its size, the word there, and the union of the words on
+// the way.
+pub enum Swept {
+    To {
+        next: usize,
+        size: usize,
+        bits: u64,
+        hits: u64,
+    },
+    Refused(Refusal),
+}
+
+// The variant at `at`, behind the k of its segment that stand from `first` on: refusals 5, 7 and 8. Its letters are tested and
+// stepped over in one pass; only where one is wrong, a second looks for its place.
+fn variant_by(
+    method: Method,
+    pattern: &[u8],
+    table: &[u64; 256],
+    classes: &[u8; 256],
+    bits: u64,
+    stretch: &[u8],
+    first: usize,
+    k: usize,
+    at: usize,
+) -> Swept
+    requires { ⌜ Tools method (now pattern) (now table) (now classes) × StateOf (now pattern) bits ⌝ }
+    requires { ⌜ UpTo (now stretch) first k at ⌝ }
+    ensures { λ r. ⌜ SweptAt (now (pattern .entry)) bits (now (stretch .entry)) first k at r ⌝ }
+{
+    match head(stretch, at) {
+        Part::Refused(wrong) => Swept::Refused(wrong),
+        Part::At { start, next } => {
+            let letters = &stretch[start..next];
+            let scanned = scan_by(method, pattern, table, classes, bits, letters);
+            if scanned.wrong {
+                let place = start + first_wrong(letters);
+                return Swept::Refused(Refusal {
+                    number: refusal::WRONG_LETTER,
+                    place,
+                });
+            }
+            if repeated(stretch, first, at, letters) {
+                return Swept::Refused(Refusal {
+                    number: refusal::REPEATED,
+                    place: at,
+                });
+            }
+            let size = counted(next - start);
+            Swept::To {
+                next,
+                size,
+                bits: scanned.bits,
+                hits: scanned.hits,
+            }
+        }
+    }
+}
+
+// The segment at `at`: refusals 5 to 8. The state behind it is the union of what its variants lead to.
+pub fn segment_by(
+    method: Method,
+    pattern: &[u8],
+    table: &[u64; 256],
+    classes: &[u8; 256],
+    bits: u64,
+    stretch: &[u8],
+    at: usize,
+) -> Passed
+    requires { ⌜ Tools method (now pattern) (now table) (now classes) × StateOf (now pattern) bits ⌝ }
+    ensures { λ r. ⌜ toldPassed r ≡ segmentPass (now (pattern .entry)) bits (now (stretch .entry)) at ⌝ }
+{
+    if stretch.len() <= at {
+        return refused(refusal::BYTES_END, at);
+    }
+    let count = wide(stretch[at]);
+    if count == 0 {
+        return refused(refusal::NO_VARIANTS, at);
+    }
+    let first = at + 1;
+    let mut next = first;
+    let mut size = 0;
+    let mut state = 1;
+    let mut hits = 0;
+    let mut k = 0;
+    while k < count {
+        match variant_by(
+            method,
+            pattern,
+            table,
+            classes,
+            bits,
+            stretch,
+            first,
+            k,
+            next,
+        ) {
+            Swept::Refused(wrong) => {
+                return Passed::Refused(wrong);
+            }
+            Swept::To {
+                next: behind,
+                size: more,
+                bits: reached,
+                hits: met,
+            } => {
+                size += more;
+                state = state | reached;
+                hits = hits | met;
+                next = behind;
+                k += 1;
+            }
+        }
+    }
+    let low = 0xffff_ffff_ffff_ffff >> (64 - pattern.len());
+    Passed::To {
+        next,
+        size,
+        bits: state & low,
+        ends: low / 2 < hits,
+    }
+}
