@@ -20,3 +20,4 @@ pub mod Linear
 pub mod Cards
 pub mod TextCards
 pub mod Folds
+pub mod States
