@@ -28,14 +28,15 @@ use Rattle.stretch.specs.Answers.{leftBy}
 use Rattle.stretch.proofs.Stands.{Bytes}
 use Rattle.stretch.proofs.Decoding.{stretch-writable}
 use Rattle.stretch.proofs.Encoding.{segment-of}
-use Rattle.search.specs.Answers.{Next, Sums, sumsOf, feeding, feeds, marked, stretchInto, searching, toldSearched}
-use Rattle.search.specs.declared.walk.Searched.{Searched}
-use Rattle.search.specs.declared.walk.Searched.the-variants.{Marked, Refused}
+use Rattle.search.proofs.Entries.{entering-sound, fresh-state}
+use Rattle.search.specs.Answers.{Next, Sums, sumsOf, feeding, feeds, into, stretchInto, searching, toldSearched}
+use Rattle.search.specs.declared.searching.Searched.{Searched}
+use Rattle.search.specs.declared.searching.Searched.the-variants.{Marked, Refused}
 
 -- the byte that an accepted search leaves for segment j is 1 exactly when an occurrence ends there
 pub search-marks :
     (P s out : List ℕ) (t : Text) (j : ℕ) → 0 < length P → searching P s (length out) ≡ ok t → j < length t →
-    (getD (leftBy (marked P) (searching P s (length out)) out) j 0 ≡ 1) ↔ EndsIn P t j
+    (getD (leftBy (marks P) (searching P s (length out)) out) j 0 ≡ 1) ↔ EndsIn P t j
 unfolding over marks
 search-marks P s out t j some e l =
     let inside : j < length (marks P t) = rw (marks-length P fresh t) l in
@@ -59,7 +60,7 @@ told-once (Refused r) (Refused r′) e =
 abbrev Promised : List ℕ → List ℕ → List ℕ → Searched → List ℕ → Type 0
 Promised P s out answer left =
     (toldSearched answer ≡ after (searching P s (length out)) (λ t. ok (sumsOf P t)))
-    × (left ≡ leftBy (marked P) (searching P s (length out)) out)
+    × (left ≡ leftBy (marks P) (searching P s (length out)) out)
 
 -- so they give the same answer and the same marks on every input
 pub searches-agree :
@@ -75,7 +76,7 @@ module _ (P : List ℕ) (y : SoundPattern P) where
   unfolding feeding segmentOf
   fed-segment st g s i e =
       let (short, lone) = demand-met (leb (length s) greatestStretch) 4 0 (loneSegment s) g e in
-      sound-pattern P y _ ∙ rw (short, i, lone)
+      entering-sound P st s (record { sound = y; short = leb-true (length s) greatestStretch short; state = i }) _ ∙ rw lone
 
   -- the states after each segment, and whether an occurrence ends there
   steps : ℕ → Text → List Next
@@ -114,10 +115,6 @@ module _ (P : List ℕ) (y : SoundPattern P) where
   steps-states st (g ∷ T) zero l = refl
   steps-states st (g ∷ T) (suc j) l = steps-states (next P st g) T j (omega arith)
 
-fresh-state : (P : List ℕ) → 0 < length P → isState (length P) fresh ≡ true
-unfolding isState bit
-fresh-state P l = lt-ltb fresh (2 ^ length P) (pow-lt l)
-
 -- what feeding an accepted stretch's text, segment by segment from the fresh state, gives
 pub record Feeds (P : List ℕ) (t : Text) : Type 0 where
   pub steps : List Next
@@ -126,7 +123,7 @@ pub record Feeds (P : List ℕ) (t : Text) : Type 0 where
   pub states : (j : ℕ) → j < length t → getD (map (λ x. x .state) steps) j 0 ≡ run P fresh (take (suc j) t)
 
 pub search-feeds : (P s : List ℕ) (room : ℕ) (t : Text) → Bytes s → searching P s room ≡ ok t → Feeds P t
-unfolding searching stretchInto writable encode wordBytes
+unfolding searching into writable encode wordBytes
 search-feeds P s room t bytes e =
     let (_, f, g) = after-met (pattern P (ok (tt {0}))) (λ _. stretchInto s room) t (sym (pattern-after P _) ∙ e) in
     let (u, h, k) = after-met (stretchOf s) (λ x. demand (leb (length x) room) 10 0 (ok x)) t g in

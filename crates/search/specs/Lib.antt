@@ -7,5 +7,3 @@ pub mod BorderStep
 pub mod Method
 pub mod Answers
 pub mod Carried
-pub mod RowStep
-pub mod Rows

@@ -7,8 +7,8 @@ use Rattle.text.specs.Text.{Variant, weight, total}
 use Rattle.text.specs.State.{next, endsAt, ends}
 use Rattle.text.specs.Refusal.{Outcome, ok, refused, after}
 use Rattle.stretch.specs.Reading.{segmentAt}
-use Rattle.search.specs.declared.step.Passed.{Passed}
-use Rattle.search.specs.declared.step.Passed.the-variants.{To, Refused}
+use Rattle.search.specs.declared.segment.Passed.{Passed}
+use Rattle.search.specs.declared.segment.Passed.the-variants.{To, Refused}
 
 -- from the state st the variant v alone leads to `bits`, and an occurrence ends in it exactly where `ends` says
 pub record Steps (P : List ℕ) (st : ℕ) (v : Variant) (bits : ℕ) (ends : Bool) : Type 0 where
@@ -23,7 +23,7 @@ pub record Pass : Type 0 where
   pub ends : Bool
 
 abbrev pub toldPassed : Passed → Outcome Pass
-toldPassed (To next size bits ends) = ok (record { next = next; size = size; state = bits; ends = ends })
+toldPassed (To next size state ends) = ok (record { next = next; size = size; state = state .bits; ends = ends })
 toldPassed (Refused r) = refused (r .number) (r .place)
 
 -- the segment at `at`

@@ -1,15 +1,18 @@
 // The run over segments that stand one after another, one for both methods: each variant is checked and stepped over at once.
 use crate::method::Method;
-use crate::segment::segment_by;
-use crate::step::Passed;
+use crate::segment::Passed;
+use crate::state::Sought;
+use crate::state::State;
+use stretch::bytes::word;
 use text::Refusal;
+use text::refusal;
 ghost use mathlib.Core.Path.{_≡_};
 ghost use mathlib.Core.List.{[]};
 ghost use Prim.Native.Nat.{_≤_};
 ghost use lib.ListN.{length};
-ghost use Rattle.text.specs.Refusal.{ok, after};
-ghost use Rattle.stretch.specs.Reading.{segmentAt, many};
-ghost use Rattle.search.specs.Answers.{courseOf, toldRan, MarksFrom, RoomyFrom};
+ghost use Rattle.text.specs.Refusal.{Outcome, ok, after};
+ghost use Rattle.stretch.specs.Reading.{segmentAt, many, stretchOf};
+ghost use Rattle.search.specs.Answers.{courseOf, toldRan, MarksFrom, RoomyFrom, seenFrom, toldSought, MarksOf, Roomy};
 ghost use Rattle.search.specs.Masks.{StateOf};
 ghost use Rattle.search.specs.Method.{Tools};
 
@@ -18,7 +21,7 @@ pub enum Ran {
     To {
         next: usize,
         size: usize,
-        bits: u64,
+        state: State,
         ends: usize,
     },
     Refused(Refusal),
@@ -31,40 +34,40 @@ pub fn run(
     pattern: &[u8],
     table: &[u64; 256],
     classes: &[u8; 256],
-    state: u64,
+    state: State,
     stretch: &[u8],
     at: usize,
     segments: usize,
     marks: &mut [u8],
 ) -> Ran
-    requires { ⌜ Tools method (now pattern) (now table) (now classes) × StateOf (now pattern) state ⌝ }
+    requires { ⌜ Tools method (now pattern) (now table) (now classes) × StateOf (now pattern) (state .bits) ⌝ }
     requires { ⌜ (at ≤ length (now stretch)) × RoomyFrom (now stretch) at segments (now marks) ⌝ }
     ensures { λ r. ⌜ toldRan r
-        ≡ after (many (λ _. segmentAt (now (stretch .entry))) segments [] at) (λ x. ok (courseOf (now (pattern .entry)) state x)) ⌝ }
-    ensures { λ r. ⌜ MarksFrom (now (pattern .entry)) state
+        ≡ after (many (λ _. segmentAt (now (stretch .entry))) segments [] at) (λ x. ok (courseOf (now (pattern .entry)) (state .bits) x)) ⌝ }
+    ensures { λ r. ⌜ MarksFrom (now (pattern .entry)) (state .bits)
         (many (λ _. segmentAt (now (stretch .entry))) segments [] at) (now (marks .exit)) ⌝ }
 {
     let mut next = at;
     let mut size = 0;
     let mut ends = 0;
-    let mut bits = state;
+    let mut reached = state;
     let mut k = 0;
     while k < segments {
-        match segment_by(method, pattern, table, classes, bits, stretch, next) {
+        match reached.over(method, pattern, table, classes, stretch, next) {
             Passed::Refused(refused) => {
                 return Ran::Refused(refused);
             }
             Passed::To {
                 next: behind,
                 size: more,
-                bits: reached,
+                state: further,
                 ends: hit,
             } => {
                 let mark = hit as u8;
                 marks[k] = mark;
                 size += more;
                 ends += hit as usize;
-                bits = reached;
+                reached = further;
                 next = behind;
                 k += 1;
             }
@@ -73,7 +76,71 @@ pub fn run(
     Ran::To {
         next,
         size,
-        bits,
+        state: reached,
         ends,
     }
+}
+
+// Takes a state over a whole stretch: its count, its segments, and what may be wrong behind them. A refusal may leave some marks in
+// `marks`, so they are not the caller's yet.
+pub fn run_stretch(
+    method: Method,
+    pattern: &[u8],
+    table: &[u64; 256],
+    classes: &[u8; 256],
+    state: State,
+    stretch: &[u8],
+    marks: &mut [u8],
+) -> Sought
+    requires { ⌜ Tools method (now pattern) (now table) (now classes) × StateOf (now pattern) (state .bits) ⌝ }
+    requires { ⌜ Roomy (now stretch) (now marks) ⌝ }
+    ensures { λ r. ⌜ toldSought r ≡ after (stretchOf (now (stretch .entry))) (λ t. ok (seenFrom (now (pattern .entry)) (state .bits) t)) ⌝ }
+    ensures { λ r. ⌜ MarksOf (now (pattern .entry)) (state .bits) (stretchOf (now (stretch .entry))) (now (marks .exit)) ⌝ }
+{
+    let end = stretch.len();
+    if refusal::GREATEST_STRETCH < end {
+        return refused(refusal::STRETCH_LONG, 0);
+    }
+    if end < 2 {
+        return refused(refusal::BYTES_END, 0);
+    }
+    let segments = word(stretch, 0);
+    match run(
+        method,
+        pattern,
+        table,
+        classes,
+        state,
+        stretch,
+        2,
+        segments,
+        &mut *marks,
+    ) {
+        Ran::Refused(refused) => Sought::Refused(refused),
+        Ran::To {
+            next,
+            size,
+            state: reached,
+            ends,
+        } => {
+            if next != end {
+                return refused(refusal::BYTES_LEFT, next);
+            }
+            if refusal::MOST_IN_STRETCH < segments {
+                return refused(refusal::SEGMENTS_MANY, 0);
+            }
+            Sought::Marked {
+                segments,
+                size,
+                ends,
+                state: reached,
+            }
+        }
+    }
+}
+
+fn refused(number: u64, place: usize) -> Sought
+    ensures { λ r. ⌜ toldSought r ≡ Outcome.refused number place ⌝ }
+{
+    Sought::Refused(Refusal { number, place })
 }

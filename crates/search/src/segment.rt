@@ -1,8 +1,7 @@
-// The variants of one segment, by either method, and the segment.
+// One segment: its variants one after another, by either method, and the state behind them.
 use crate::method::Method;
 use crate::method::scan_by;
-use crate::step::Passed;
-use crate::step::refused;
+use crate::state::State;
 use stretch::bytes::wide;
 use stretch::variant::Part;
 use stretch::variant::head;
@@ -12,11 +11,24 @@ use text::letter::first_wrong;
 use text::refusal;
 use text::size::counted;
 ghost use mathlib.Core.Path.{_≡_};
+ghost use Rattle.text.specs.Refusal.{Outcome};
 ghost use Rattle.stretch.specs.Skips.{UpTo};
 ghost use Rattle.search.specs.Step.{toldPassed, segmentPass};
 ghost use Rattle.search.specs.Masks.{StateOf};
 ghost use Rattle.search.specs.Method.{Tools};
 ghost use Rattle.search.specs.Words.{SweptAt};
+
+// How far a step over a segment has come in the bytes: the place behind it, its size, the state there, and whether an occurrence
+// ends in it.
+pub enum Passed {
+    To {
+        next: usize,
+        size: usize,
+        state: State,
+        ends: bool,
+    },
+    Refused(Refusal),
+}
 
 // How far a sweep over a variant has come in the bytes: the place behind it, its size, the word there, and the union of the words on
 // the way.
@@ -76,66 +88,68 @@ fn variant_by(
     }
 }
 
-// The segment at `at`: refusals 5 to 8. The state behind it is the union of what its variants lead to.
-pub fn segment_by(
-    method: Method,
-    pattern: &[u8],
-    table: &[u64; 256],
-    classes: &[u8; 256],
-    bits: u64,
-    stretch: &[u8],
-    at: usize,
-) -> Passed
-    requires { ⌜ Tools method (now pattern) (now table) (now classes) × StateOf (now pattern) bits ⌝ }
-    ensures { λ r. ⌜ toldPassed r ≡ segmentPass (now (pattern .entry)) bits (now (stretch .entry)) at ⌝ }
-{
-    if stretch.len() <= at {
-        return refused(refusal::BYTES_END, at);
-    }
-    let count = wide(stretch[at]);
-    if count == 0 {
-        return refused(refusal::NO_VARIANTS, at);
-    }
-    let first = at + 1;
-    let mut next = first;
-    let mut size = 0;
-    let mut state = 1;
-    let mut hits = 0;
-    let mut k = 0;
-    while k < count {
-        match variant_by(
-            method,
-            pattern,
-            table,
-            classes,
-            bits,
-            stretch,
-            first,
-            k,
-            next,
-        ) {
-            Swept::Refused(wrong) => {
-                return Passed::Refused(wrong);
-            }
-            Swept::To {
-                next: behind,
-                size: more,
-                bits: reached,
-                hits: met,
-            } => {
-                size += more;
-                state = state | reached;
-                hits = hits | met;
-                next = behind;
-                k += 1;
+impl State {
+    // The state behind the segment at `at`: refusals 5 to 8. It is the union of what the segment's variants lead to.
+    pub fn over(
+        self,
+        method: Method,
+        pattern: &[u8],
+        table: &[u64; 256],
+        classes: &[u8; 256],
+        stretch: &[u8],
+        at: usize,
+    ) -> Passed
+        requires { ⌜ Tools method (now pattern) (now table) (now classes) × StateOf (now pattern) (self .bits) ⌝ }
+        ensures { λ r. ⌜ toldPassed r ≡ segmentPass (now (pattern .entry)) (self .bits) (now (stretch .entry)) at ⌝ }
+    {
+        if stretch.len() <= at {
+            return refused(refusal::BYTES_END, at);
+        }
+        let count = wide(stretch[at]);
+        if count == 0 {
+            return refused(refusal::NO_VARIANTS, at);
+        }
+        let bits = self.bits;
+        let first = at + 1;
+        let mut next = first;
+        let mut size = 0;
+        let mut word = 1;
+        let mut hits = 0;
+        let mut k = 0;
+        while k < count {
+            match variant_by(
+                method, pattern, table, classes, bits, stretch, first, k, next,
+            ) {
+                Swept::Refused(wrong) => {
+                    return Passed::Refused(wrong);
+                }
+                Swept::To {
+                    next: behind,
+                    size: more,
+                    bits: reached,
+                    hits: met,
+                } => {
+                    size += more;
+                    word = word | reached;
+                    hits = hits | met;
+                    next = behind;
+                    k += 1;
+                }
             }
         }
+        let low = 0xffff_ffff_ffff_ffff >> (64 - pattern.len());
+        let state = State { bits: word & low };
+        Passed::To {
+            next,
+            size,
+            state,
+            ends: low / 2 < hits,
+        }
     }
-    let low = 0xffff_ffff_ffff_ffff >> (64 - pattern.len());
-    Passed::To {
-        next,
-        size,
-        bits: state & low,
-        ends: low / 2 < hits,
-    }
+}
+
+fn refused(number: u64, place: usize) -> Passed
+    ensures { λ r. ⌜ toldPassed r ≡ Outcome.refused number place ⌝ }
+{
+    Passed::Refused(Refusal { number, place })
 }

@@ -1,4 +1,4 @@
--- `search::searching::copy` meets its contract. The loop's invariant, `Copied`: the first i bytes are written. The measure is the number
+-- `search::marking::copy` meets its contract. The loop's invariant, `Copied`: the first i bytes are written. The measure is the number
 -- of bytes left.
 use Prim.Native.Nat.{ℕ, _+_, _-_, _≤_}
 use native.Mathlib.Nat.{zero-add}
@@ -7,8 +7,8 @@ use native.Mathlib.Omega.{arith}
 use mathlib.Core.Path.{subst}
 use lib.ListN.{length, getD, set}
 use Rattle.stretch.proofs.Overs.{Copied, copied-none, copied-room, copied-more, copied-end, emitted-length}
-use Rattle.search.proofs.searching.copy.Statement.{statement}
-use Rattle.search.proofs.searching.copy.Tie as tie
+use Rattle.search.proofs.marking.copy.Statement.{statement}
+use Rattle.search.proofs.marking.copy.Tie as tie
 
 abbrev Inv-loop : tie.InvT-loop
 Inv-loop from to₀ i₀ to i = Copied to₀ 0 from to i × (i ≤ length from)

@@ -1,4 +1,4 @@
--- `search::segment::segment_by` meets its contract. The loop's invariant, `Sweeping`: k variants are read, and the words are theirs.
+-- `search::State::over` meets its contract. The loop's invariant, `Sweeping`: k variants are read, and the words are theirs.
 -- The measure is the number of variants left.
 use Prim.Native.Nat.{_-_, _≤_}
 use borrow.Author.Needs.{needs}
@@ -7,15 +7,15 @@ use mathlib.Core.Path.{refl, sym, _∙_}
 use Rattle.stretch.proofs.Segments.{in-whole, segment-cut, segment-none, segment-variants, segment-all}
 use Rattle.search.proofs.Passes.{segment-passed-not, segment-passed}
 use Rattle.search.proofs.Words.{Sweeping, sweeping-none, sweeping-more, sweeping-refused, sweeping-taken}
-use Rattle.search.proofs.segment.segment_by.Statement.{statement}
-use Rattle.search.proofs.segment.segment_by.Tie as tie
+use Rattle.search.proofs.state.State.over.Statement.{statement}
+use Rattle.search.proofs.state.State.over.Tie as tie
 
 abbrev Inv-loop : tie.InvT-loop
-Inv-loop method pattern table classes bits stretch at count first next₀ size₀ state₀ hits₀ k₀ next size state hits k =
-    Sweeping pattern bits stretch first k next size state hits × (k ≤ count)
+Inv-loop method pattern table classes stretch at count bits first next₀ size₀ word₀ hits₀ k₀ next size word hits k =
+    Sweeping pattern bits stretch first k next size word hits × (k ≤ count)
 
 abbrev μ-loop : tie.MeasureT-loop
-μ-loop method pattern table classes bits stretch at count first next₀ size₀ state₀ hits₀ k₀ next size state hits k = count - k
+μ-loop method pattern table classes stretch at count bits first next₀ size₀ word₀ hits₀ k₀ next size word hits k = count - k
 
 returns : tie.Need-returns Inv-loop μ-loop
 returns c = c .refused .ensures ∙ sym (segment-passed-not _ _ _ _ _ _ (segment-cut _ _ (c .before .if1 .taken)))
@@ -63,8 +63,8 @@ returns-4 c =
     segment-all _ _ (e .before .before .if1 .left) _ (e .wide .ensures .0) (a .before .if2 .left) _ _ _ _ (t .sum) (omega arith) in
     sym (segment-passed _ _ _ _ _ _ _ _ _ t all)
 
-pub segment-by-spec : {M : Type 1} → statement M
-segment-by-spec =
+pub over-spec : {M : Type 1} → statement M
+over-spec =
     tie.close
     (tie.spec
     Inv-loop

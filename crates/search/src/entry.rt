@@ -1,0 +1,37 @@
+// What every call from a state asks before it reads a byte.
+use crate::state::State;
+use text::Refusal;
+use text::pattern::PatternIs;
+use text::pattern::check;
+use text::refusal;
+use text::state::is_state;
+ghost use mathlib.Core.Path.{_≡_};
+ghost use Rattle.text.specs.Refusal.{Outcome, ok};
+ghost use Rattle.search.specs.Answers.{entering, toldEntry};
+
+pub enum Entry {
+    Open,
+    Refused(Refusal),
+}
+
+fn refused(number: u64) -> Entry
+    ensures { λ r. ⌜ toldEntry r ≡ Outcome.refused number 0 ⌝ }
+{
+    Entry::Refused(Refusal { number, place: 0 })
+}
+
+// Refusals 1, 2, 3 of the pattern, 4 of the bytes, and 17 of the state.
+pub fn enter(pattern: &[u8], state: State, bytes: &[u8]) -> Entry
+    ensures { λ r. ⌜ toldEntry r ≡ entering (now (pattern .entry)) (state .bits) (now (bytes .entry)) (ok tt) ⌝ }
+{
+    if let PatternIs::Refused(refused) = check(pattern) {
+        return Entry::Refused(refused);
+    }
+    if refusal::GREATEST_STRETCH < bytes.len() {
+        return refused(refusal::STRETCH_LONG);
+    }
+    if !is_state(pattern.len(), state.bits) {
+        return refused(refusal::STATE_WRONG);
+    }
+    Entry::Open
+}
