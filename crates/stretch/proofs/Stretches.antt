@@ -114,3 +114,8 @@ stretch-most s t e =
     let d = after-met (whole s (c .0)) _ t (c .2) in
     let f = demand-met (leb (length (d .0)) mostInStretch) 16 0 _ t (d .2) in
     subst (λ (u : Text). length u ≤ mostInStretch) (ok-inj (f .1)) (leb-true (length (d .0)) mostInStretch (f .0))
+
+-- and at most 32,768 bytes
+pub stretch-short : (s : List ℕ) (t : Text) → stretchOf s ≡ ok t → length s ≤ greatestStretch
+unfolding stretchOf
+stretch-short s t e = leb-true (length s) greatestStretch (demand-met (leb (length s) greatestStretch) 4 0 _ t e .0)
