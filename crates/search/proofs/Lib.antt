@@ -1,5 +1,5 @@
 -- Laws of the definitions in specs/, and the theorems about them.
-pub mod Vectors
+pub mod BitScans
 pub mod Words
 pub mod Carrieds
 pub mod Passes

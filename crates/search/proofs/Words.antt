@@ -28,7 +28,7 @@ use Rattle.search.specs.Step.{Steps}
 use Rattle.search.specs.Words.{Words, LettersBy, SweptAt}
 use Rattle.search.specs.declared.segment.Swept.{Swept}
 use Rattle.search.specs.declared.segment.Swept.the-variants.{To, Refused}
-use Rattle.search.proofs.Vectors.{low-ones, top-bit, ends-lone}
+use Rattle.search.proofs.BitScans.{low-ones, top-bit, ends-lone}
 use Rattle.search.proofs.Passes.{Taking}
 
 words-none : (P : List ℕ) (st : ℕ) → 0 < length P → st % 2 ≡ 1 → Words P st [] 1 0

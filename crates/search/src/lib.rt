@@ -3,12 +3,12 @@ mod bits;
 mod borders;
 mod entry;
 mod marking;
-mod masks;
 mod method;
 mod run;
 mod searching;
 mod segment;
 mod state;
+mod vectors;
 
 pub use searching::Searched;
 pub use searching::by_bits;
@@ -17,3 +17,4 @@ pub use state::Carried;
 pub use state::Fed;
 pub use state::Sought;
 pub use state::State;
+pub use vectors::masks;

@@ -1,9 +1,9 @@
 // Marks reach the caller's buffer only once the whole stretch is accepted: a search runs into a buffer of its own, and copies.
-use crate::masks::classes;
 use crate::method::Method;
 use crate::run::run_stretch;
 use crate::state::Sought;
 use crate::state::State;
+use crate::vectors::classes;
 use text::Refusal;
 use text::refusal;
 ghost use mathlib.Core.Path.{_≡_};

@@ -3,11 +3,11 @@
 use crate::entry::Entry;
 use crate::entry::enter;
 use crate::marking::mark;
-use crate::masks::classes;
-use crate::masks::masks;
 use crate::method::Method;
 use crate::run::Ran;
 use crate::run::run;
+use crate::vectors::classes;
+use crate::vectors::masks;
 use stretch::pieces::Verdict;
 use stretch::pieces::closed;
 use text::Refusal;

@@ -7,7 +7,7 @@ use mathlib.Core.Path.{refl}
 use mathlib.Core.List.{List}
 use lib.ListN.{length, getD}
 use Rattle.search.specs.Masks.{Ready}
-use Rattle.search.proofs.Vectors.{Scanning, scanning-none, scanning-more, scanning-all, scanning-wrong}
+use Rattle.search.proofs.BitScans.{Scanning, scanning-none, scanning-more, scanning-all, scanning-wrong}
 use Rattle.search.proofs.bits.scan.Statement.{statement}
 use Rattle.search.proofs.bits.scan.Tie as tie
 

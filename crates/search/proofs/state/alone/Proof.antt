@@ -1,6 +1,7 @@
 -- `search::state::alone` meets its contract: `run` has it, and one mark has room.
 use borrow.Author.Needs.{needs}
 use native.Mathlib.Omega.{arith}
+use Rattle.search.proofs.BitScans.{masks-short}
 use Rattle.search.proofs.state.alone.Statement.{statement}
 use Rattle.search.proofs.state.alone.Tie as tie
 
@@ -10,7 +11,7 @@ run-requires c κs =
     let p = m .before .before .before .pre in (
       (
         record {
-          founded = record { some = p .0 .some; short = p .0 .short; holds = m .masks .ensures };
+          founded = record { some = p .0 .some; short = p .0 .short; holds = masks-short _ _ (p .0 .short) (m .masks .ensures) };
           letters = c .before .before .before .classes .ensures;
         },
         p .1,

@@ -3,6 +3,7 @@ use borrow.Author.Needs.{needs}
 use mathlib.Core.Path.{sym, ap, _∙_}
 use Rattle.search.specs.Answers.{toldEntry}
 use Rattle.search.proofs.Entries.{Entered, entered, state-of}
+use Rattle.search.proofs.BitScans.{masks-short}
 use Rattle.search.proofs.Searches.{seek-not, seek-sound}
 use Rattle.search.proofs.state.State.through.Statement.{statement}
 use Rattle.search.proofs.state.State.through.Tie as tie
@@ -11,14 +12,11 @@ use Rattle.search.proofs.state.State.through.Tie as tie
 entry : (c : tie.After-enum-told) → let a = c .before .before .before .before .before .before .args in Entered (a .pattern .now) (a .self .bits) (a .stretch .now)
 entry c = entered _ _ _ (sym (c .before .before .enter .ensures) ∙ ap toldEntry (c .enum-told .given .1))
 
-masks-requires : tie.Need-masks-requires
-masks-requires c κs = entry c .sound .short
-
 mark-requires : tie.Need-mark-requires
 mark-requires c κs =
     let d = c .before .before in
     let y = entry (d .before) in
-    (record { some = y .sound .some; short = y .sound .short; holds = d .masks .ensures }, state-of _ _ (y .state))
+    (record { some = y .sound .some; short = y .sound .short; holds = masks-short _ _ (y .sound .short) (d .masks .ensures) }, state-of _ _ (y .state))
 
 returns : tie.Need-returns
 returns c = seek-not _ _ _ _ _ _ (sym (c .before .before .before .enter .ensures) ∙ ap toldEntry (c .before .refused .given .1))
@@ -35,7 +33,7 @@ through-spec =
     (λ c κs. search needs)
     (λ c. search needs)
     (λ c. search needs)
-    masks-requires
+    (λ c κs. search needs)
     mark-requires
     returns
     (λ c. search needs)

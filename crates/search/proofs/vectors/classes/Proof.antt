@@ -1,4 +1,4 @@
--- `search::masks::classes` meets its contract: one computed test over the whole table, and its rule at each byte.
+-- `search::vectors::classes` meets its contract: one computed test over the whole table, and its rule at each byte.
 use Prim.Native.Nat.{ℕ, _<_}
 use borrow.Author.Needs.{needs}
 use borrow.Author.Tests.{eqb-true}
@@ -10,8 +10,8 @@ use lib.ListN.{getD, set, replicate}
 use Rattle.text.specs.Letter.{base, letter}
 use Rattle.text.specs.Bits.{anyBelow}
 use Rattle.text.proofs.Truth.{some-anyBelow}
-use Rattle.search.proofs.masks.classes.Statement.{statement}
-use Rattle.search.proofs.masks.classes.Tie as tie
+use Rattle.search.proofs.vectors.classes.Statement.{statement}
+use Rattle.search.proofs.vectors.classes.Tie as tie
 
 table : List ℕ
 table = set (set (set (set (replicate 256 1) 0x41 0) 0x43 0) 0x47 0) 0x54 0

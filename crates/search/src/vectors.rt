@@ -1,16 +1,21 @@
 // The tables of the search by bit-vectors, filled once for each call and lent to the loops.
-ghost use Prim.Native.Nat.{_≤_};
-ghost use lib.ListN.{length};
-ghost use Rattle.search.specs.Masks.{Masks, Classes};
+use text::refusal;
+ghost use Rattle.search.specs.Masks.{bases, Masks, Classes};
 
-// The letter vector of each byte: bit k is set where base k of the pattern is that byte.
+// The letter vector of each byte: bit k is set where base k of the pattern is that byte. Of a pattern over 64 bytes the first 64
+// count, since a word has no more bits.
 pub fn masks(pattern: &[u8]) -> [u64; 256]
-    requires { ⌜ length (now pattern) ≤ 64 ⌝ }
-    ensures { λ r. ⌜ Masks (now (pattern .entry)) r ⌝ }
+    ensures { λ r. ⌜ Masks (bases (now (pattern .entry))) r ⌝ }
 {
+    let all = pattern.len();
+    let m = if refusal::GREATEST_PATTERN < all {
+        refusal::GREATEST_PATTERN
+    } else {
+        all
+    };
     let mut table = [0u64; 256];
     let mut k = 0;
-    while k < pattern.len() {
+    while k < m {
         let c = pattern[k] as usize;
         table[c] = table[c] | (1 << k);
         k += 1;

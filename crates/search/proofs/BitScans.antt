@@ -12,9 +12,9 @@ use borrow.Author.Tests.{lt-ltb, le-ltb, eq-eqb, ne-eqb}
 use lib.Arith.{digits-div}
 use lib.Bits.{bitAnd, bitOr, and-le-r, or-lt, or-zero-r}
 use lib.Dec.{eqb, ltb, lit<}
-use lib.ListN.{length, getD, take, set, replicate, length-set, length-replicate, getD-replicate}
+use lib.ListN.{length, getD, take, set, replicate, length-set, length-take, length-replicate, getD-replicate}
 use lib.Pow.{pow-pos, pow-lt, ones-split, ones-lt}
-use lib.Seq.{take-suc, take-all, getD-set-same, getD-set-other}
+use lib.Seq.{take-suc, take-all, getD-take, getD-set-same, getD-set-other}
 use Rattle.text.specs.Letter.{letter, every}
 use Rattle.text.specs.Text.{Variant}
 use Rattle.text.specs.Bits.{bit, fromBits, anyOf}
@@ -25,7 +25,7 @@ use Rattle.text.proofs.Bits.{bit-ext, bit-above, bit-zero, bit-or, bit-and, bit
 use Rattle.text.proofs.Snoc.{_▸_}
 use Rattle.text.proofs.Steps.{next-open}
 use Rattle.text.proofs.Scan.{empty-state, empty-ends, scan-state, scan-ends}
-use Rattle.search.specs.Masks.{maskOf, Masks, Ready}
+use Rattle.search.specs.Masks.{maskOf, bases, Masks, Ready}
 use Rattle.search.specs.Words.{Words}
 
 -- one bit more
@@ -72,14 +72,14 @@ unfolding fromBits
 filling-none P = record { most = omega arith; full = length-replicate {A = ℕ} 256 0; each = λ c l. getD-replicate {A = ℕ} 256 c 0 0 l }
 
 -- base k is entered at its byte b
-pub filling-more : (P table : List ℕ) (k b : ℕ) → Filling P table k → k < length P → length P ≤ 64 → b ≡ getD P k 0 → b < 256
+pub filling-more : (P table : List ℕ) (k b : ℕ) → Filling P table k → k < length P → k < 64 → b ≡ getD P k 0 → b < 256
     → Filling P (set table b (bitOr (getD table b 0) (1 * 2 ^ k % 2 ^ 64))) (k + 1)
 filling-more P table k b f l short e small =
     record { most = omega arith; full = length-set table b _ ∙ f .full; each = each }
   where
     one : 1 * 2 ^ k % 2 ^ 64 ≡ 2 ^ k
     one =
-        let fits : 2 ^ k < 2 ^ 64 = pow-lt (let z : k < 64 = omega arith in z) in
+        let fits : 2 ^ k < 2 ^ 64 = pow-lt short in
         ap (λ (n : ℕ). n % 2 ^ 64) (one-mul (2 ^ k)) ∙ mod-eq-of-lt fits
 
     test : ℕ → ℕ → Bool
@@ -106,6 +106,34 @@ unfolding maskOf
 filling-all P table k f l =
     let e : k ≡ length P = omega (arith, f .most) in
     record { full = f .full; each = λ c h. f .each c h ∙ ap (fromBits (λ j. eqb (getD P j 0) c)) e }
+
+-- of a pattern over 64 bytes the first 64 are entered
+module _ (P : List ℕ) where
+  pub bases-long : 64 < length P → length (bases P) ≡ 64
+  unfolding bases
+  bases-long l = simp length-take (omega arith)
+
+  pub bases-all : length P ≤ 64 → bases P ≡ P
+  unfolding bases
+  bases-all l = take-all 64 P l
+
+  -- a base that is entered stands where it stands in the pattern
+  module _ (k : ℕ) (l : k < length (bases P)) where
+    pub bases-near : k < 64
+    unfolding bases
+    bases-near = omega (arith, length-take 64 P)
+
+    pub bases-inside : k < length P
+    unfolding bases
+    bases-inside = omega (arith, length-take 64 P)
+
+    pub bases-at : getD P k 0 ≡ getD (bases P) k 0
+    unfolding bases
+    bases-at = sym (getD-take 64 P k 0 bases-near)
+
+-- the letter vectors of a pattern of at most 64 bytes
+pub masks-short : (P table : List ℕ) → length P ≤ 64 → Masks (bases P) table → Masks P table
+masks-short P table l m = rw (bases-all P l) at m
 
 -- a letter keeps those bits of a word whose base it is
 module _ (P masks : List ℕ) (vectors : Masks P masks) (d c : ℕ) (small : c < 256) where
