@@ -25,3 +25,4 @@ pub mod States
 pub mod Turned
 pub mod Padding
 pub mod Strands
+pub mod Opposites

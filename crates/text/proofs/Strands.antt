@@ -107,6 +107,10 @@ pub text-twice : (T : Text) → oppositeText (oppositeText T) ≡ T
 unfolding oppositeText
 text-twice = turned-twice oppositeSegment segment-twice
 
+pub text-cons : (g : Segment) (T : Text) → oppositeText (g ∷ T) ≡ oppositeText T ++ (oppositeSegment g ∷ [])
+unfolding oppositeText
+text-cons = turned-cons oppositeSegment
+
 pub text-length : (T : Text) → length (oppositeText T) ≡ length T
 unfolding oppositeText
 text-length = turned-length oppositeSegment

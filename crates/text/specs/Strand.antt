@@ -1,5 +1,5 @@
 -- Strands: a sequence as given, and as the opposite strand reads it: A with T, C with G, the order reversed.
-use Prim.Native.Nat.{ℕ}
+use Prim.Native.Nat.{ℕ, _-_}
 use mathlib.Core.Bool.{cond}
 use mathlib.Core.List.{List, map, reverse}
 use lib.Dec.{eqb, leb}
@@ -25,6 +25,10 @@ oppositeSegment g = map opposite g
 -- the opposite of a text: the segments in reverse order, each variant reverse-complemented
 unfoldable pub oppositeText : Text → Text
 oppositeText T = reverse (map oppositeSegment T)
+
+-- where the opposite text has segment i of n: at n - 1 - i
+abbrev pub facing : Text → ℕ → ℕ
+facing T i = length T - 1 - i
 
 -- the pattern as a strand reads it
 abbrev pub onStrand : Strand → List ℕ → List ℕ
