@@ -61,7 +61,8 @@ spells-opposite (g ∷ T) w x =
     let turned : opposite w ≡ opposite u ++ opposite s = ap opposite (x .is .2) ∙ opposite-append s u in
     let last : Spells (oppositeSegment g ∷ []) (opposite s) =
     record { variant = opposite s; listed = Memᴰ·map opposite (x .listed); is = ([], refl, sym (append-nil (opposite s))) } in
-    rw (text-cons g T, turned) (spells-append (oppositeText T) (oppositeSegment g ∷ []) (opposite u) (opposite s) (spells-opposite T u (x .is .1)) last)
+    let before = spells-opposite T u (x .is .1) in
+    rw (text-cons g T, turned) (spells-append (oppositeText T) (oppositeSegment g ∷ []) (opposite u) (opposite s) before last)
 
 -- where segments stand in the opposite text, and what stands between them
 segment-opposite : (T : Text) (i : ℕ) → i < length T → segment (oppositeText T) (facing T i) ≡ oppositeSegment (segment T i)

@@ -4,7 +4,7 @@ use native.Mathlib.Omega.{arith}
 use mathlib.Core.Path.{_≡_, refl, sym, ap, ap₂, _∙_}
 use mathlib.Core.List.{List, [], _∷_, _++_, map, reverse, reverse-cons, reverse-append, map-append}
 use lib.ListN.{length, getD, take, drop, length-reverse, length-map, length-drop, take-append-drop}
-use lib.Seq.{append-snoc, split-at, take-at, drop-at, getD-at, length-take-le}
+use lib.Seq.{append-snoc, split-at, take-at, drop-at, getD-at}
 
 module _ {A : Type 0} (f : A → A) where
   abbrev pub turned : List A → List A

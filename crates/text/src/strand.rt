@@ -1,7 +1,7 @@
 // Strands: the pattern as it is given, and as the opposite strand reads it, its reverse complement.
 ghost use Prim.Native.Nat.{_≤_};
 ghost use mathlib.Core.Path.{_≡_};
-ghost use lib.ListN.{length, take};
+ghost use lib.ListN.{length};
 ghost use Rattle.text.specs.Refusal.{greatestPattern};
 ghost use Rattle.text.specs.Card.{padded};
 ghost use Rattle.text.specs.Strand.{complement, opposite, readOn};
