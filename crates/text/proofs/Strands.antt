@@ -163,3 +163,11 @@ module _ (strand : Strand) (P : List ℕ) where
 -- the same, where the strand is known
 pub read-known : (strand known : Strand) (P : List ℕ) → strand ≡ known → length P ≤ 64 → padded (onStrand known P) ≡ readOn strand P
 read-known strand known P e short = ap (λ (s : Strand). padded (onStrand s P)) (sym e) ∙ sym (read-padded strand P short)
+
+-- for callers: the first m of the 64 bytes that were read, and how many they are
+module _ (strand : Strand) (P bytes : List ℕ) (e : bytes ≡ readOn strand P) (short : length P ≤ 64) where
+  pub part-read : take (length P) bytes ≡ onStrand strand P
+  part-read = ap (take (length P)) e ∙ read-front strand P short
+
+  pub part-length : length P ≡ length (take (length P) bytes)
+  part-length = sym (ap length part-read ∙ strand-length strand P)
