@@ -4,6 +4,7 @@ pub mod Words
 pub mod Carrieds
 pub mod Passes
 pub mod Entries
+pub mod ReadOns
 pub mod Searches
 pub mod Methods
 pub mod Feeds

@@ -228,41 +228,41 @@ module _ (P : List ℕ) (st : ℕ) (o : Outcome Text) where
           rw (seen .1, le-leb (length (seen .0)) (length out) fit)
           (ap ok (sym (seen .2)), w ∙ ap (over out 0) (ap (λ (i : ℕ). take i found) (sym segments-are) ∙ h (seen .0) (seen .1)))
 
--- a search from a state, whatever was to be read
-module _ (P : List ℕ) (st : ℕ) (s out : List ℕ) where
+-- a search from a state, of P as a strand reads it: Q
+module _ (P Q : List ℕ) (st : ℕ) (s out : List ℕ) where
   pub seek-not : (j p : ℕ) → entering P st s (ok (tt {0})) ≡ refused j p
-      → Told P st (stretchOf s) out (seeking P st s (length out)) (refused j p) out
+      → Told Q st (stretchOf s) out (seeking P st s (length out)) (refused j p) out
   unfolding seeking
   seek-not j p e = rw (entering-refused P st s j p e (stretchInto s (length out))) (refl, refl)
 
-  pub seek-sound : Entered P st s → (told : Outcome Seen) (left : List ℕ)
-      → Told P st (stretchOf s) out (stretchInto s (length out)) told left → Told P st (stretchOf s) out (seeking P st s (length out)) told left
+  pub seek-sound : Entered P st s → (R : List ℕ) → R ≡ Q → (told : Outcome Seen) (left : List ℕ)
+      → Told R st (stretchOf s) out (stretchInto s (length out)) told left → Told Q st (stretchOf s) out (seeking P st s (length out)) told left
   unfolding seeking
-  seek-sound y told left h = rw (entering-sound P st s y (stretchInto s (length out))) h
+  seek-sound y R is told left h = rw (entering-sound P st s y (stretchInto s (length out)), ← is) h
 
--- a search
-module _ (P s out : List ℕ) where
+-- a search of P as a strand reads it: Q
+module _ (P Q s out : List ℕ) where
   -- what a search promises of its answer and of the buffer that it leaves, for an outcome o
   abbrev pub Answered : Outcome Text → Outcome Sums → List ℕ → Type 0
-  Answered o said left = (said ≡ after o (λ t. ok (sumsOf P t))) × (left ≡ leftBy (marks P) o out)
+  Answered o said left = (said ≡ after o (λ t. ok (sumsOf Q t))) × (left ≡ leftBy (marks Q) o out)
 
-  answered : (o : Outcome Text) (told : Outcome Seen) (said : Outcome Sums) (left : List ℕ) → Told P fresh o out o told left
+  answered : (o : Outcome Text) (told : Outcome Seen) (said : Outcome Sums) (left : List ℕ) → Told Q fresh o out o told left
       → said ≡ after told (λ x. ok (sums x)) → Answered o said left
   unfolding sumsOf marks
   answered o told said left h e =
-      (e ∙ ap (λ (k : Outcome Seen). after k (λ x. ok (sums x))) (h .0) ∙ after-after o (λ t. ok (seenFrom P fresh t)) (λ x. ok (sums x)), h .1)
+      (e ∙ ap (λ (k : Outcome Seen). after k (λ x. ok (sums x))) (h .0) ∙ after-after o (λ t. ok (seenFrom Q fresh t)) (λ x. ok (sums x)), h .1)
 
   -- with the pattern asked first
   pub pattern-not : (j p : ℕ) → pattern P (ok (tt {0})) ≡ refused j p → Answered (searching P s (length out)) (refused j p) out
   unfolding searching
   pattern-not j p e = rw (pattern-refused P j p e (stretchInto s (length out))) (refl, refl)
 
-  pub pattern-marked : SoundPattern P → (told : Outcome Seen) (said : Outcome Sums) (left : List ℕ)
-      → Told P fresh (stretchOf s) out (stretchInto s (length out)) told left → said ≡ after told (λ x. ok (sums x))
+  pub pattern-marked : SoundPattern P → (R : List ℕ) → R ≡ Q → (told : Outcome Seen) (said : Outcome Sums) (left : List ℕ)
+      → Told R fresh (stretchOf s) out (stretchInto s (length out)) told left → said ≡ after told (λ x. ok (sums x))
       → Answered (searching P s (length out)) said left
   unfolding searching
-  pattern-marked y told said left h e =
-      rw (sound-pattern P y (stretchInto s (length out))) (answered (stretchInto s (length out)) told said left h e)
+  pattern-marked y R is told said left h e =
+      rw (sound-pattern P y (stretchInto s (length out))) (answered (stretchInto s (length out)) told said left (rw (← is) h) e)
 
   long-refused : greatestStretch < length s → stretchInto s (length out) ≡ refused 4 0
   unfolding into
@@ -287,6 +287,6 @@ module _ (P s out : List ℕ) where
       go (refused j p) e = entering-pattern P fresh s j p e (stretchInto s (length out)) ∙ sym (pattern-refused P j p e (stretchInto s (length out)))
 
   pub fresh-marked : (told : Outcome Seen) (said : Outcome Sums) (left : List ℕ)
-      → Told P fresh (stretchOf s) out (seeking P fresh s (length out)) told left → said ≡ after told (λ x. ok (sums x))
+      → Told Q fresh (stretchOf s) out (seeking P fresh s (length out)) told left → said ≡ after told (λ x. ok (sums x))
       → Answered (searching P s (length out)) said left
   fresh-marked told said left h e = rw fresh-searching at (answered (seeking P fresh s (length out)) told said left h e)

@@ -8,6 +8,8 @@ use lib.ListN.{length, take}
 use Rattle.text.specs.Text.{Text, total, size}
 use Rattle.text.specs.State.{isState, fresh, next, ends, run, marksFrom, marks}
 use Rattle.text.specs.Refusal.{Outcome, ok, refused, demand, after, pattern}
+use Rattle.text.specs.Strand.{onStrand}
+use Rattle.text.specs.declared.strand.Strand.{Strand}
 use Rattle.stretch.specs.Bytes.{greatestStretch}
 use Rattle.stretch.specs.Reading.{Taken, fits, loneSegment, stretchOf}
 use Rattle.search.specs.declared.entry.Entry.{Entry}
@@ -120,9 +122,13 @@ pub record Next : Type 0 where
   pub state : ℕ
   pub ends : Bool
 
--- a feed: 1, 2, 3, 4, 17, then 5 to 9
-unfoldable pub feeding : List ℕ → ℕ → List ℕ → Outcome Next
-feeding P st s = entering P st s (after (loneSegment s) λ g. ok (record { state = next P st g; ends = ends P st g }))
+-- a step of P over a lone segment
+abbrev pub stepped : List ℕ → ℕ → List ℕ → Outcome Next
+stepped P st s = after (loneSegment s) λ g. ok (record { state = next P st g; ends = ends P st g })
+
+-- a feed of the pattern as a strand reads it: 1, 2, 3 of the pattern as given, 4, 17, then 5 to 9
+unfoldable pub feeding : List ℕ → Strand → ℕ → List ℕ → Outcome Next
+feeding P strand st s = entering P st s (stepped (onStrand strand P) st s)
 
 abbrev pub toldFed : Fed → Outcome Next
 toldFed (Fed.Next state ends) = ok (record { state = state .bits; ends = ends })
