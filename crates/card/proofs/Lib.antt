@@ -8,5 +8,10 @@ pub mod Formed
 pub mod Joins
 pub mod Answered
 pub mod Numbers
+pub mod FirstEnds
+pub mod Meets
+pub mod Carries
+pub mod RowSteps
+pub mod RowSegments
+pub mod RowWalks
 pub mod OfStretches
-pub mod Calls
