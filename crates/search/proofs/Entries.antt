@@ -16,7 +16,10 @@ use Rattle.text.proofs.Bits.{bit-first}
 use Rattle.text.proofs.Outcomes.{demand-met, after-met, after-demand}
 use Rattle.text.proofs.Patterns.{SoundPattern, pattern-sound, sound-pattern, pattern-refused, pattern-after}
 use Rattle.stretch.specs.Bytes.{greatestStretch}
-use Rattle.stretch.specs.Reading.{fits}
+use Rattle.text.specs.declared.refusal.Refusal.{Refusal}
+use Rattle.stretch.specs.Pieces.{fitsAt, fits, toldVerdict}
+use Rattle.stretch.specs.declared.pieces.Verdict.{Verdict}
+use Rattle.stretch.proofs.Frames.{fits-refused}
 use Rattle.search.specs.Masks.{StateOf}
 use Rattle.search.specs.Answers.{entering}
 
@@ -42,14 +45,14 @@ pub record Entered (P : List ℕ) (st : ℕ) (s : List ℕ) : Type 0 where
 module _ (P : List ℕ) (st : ℕ) (s : List ℕ) where
   -- what is asked first is asked before all else
   pub entering-after : {A : Type 0} (o : Outcome A) → entering P st s o ≡ after (entering P st s (ok (tt {0}))) (λ _. o)
-  unfolding entering pattern
+  unfolding entering pattern fitsAt
   entering-after o = simp after-demand
 
   pub entering-refused : (j p : ℕ) → entering P st s (ok (tt {0})) ≡ refused j p → {A : Type 0} (o : Outcome A) → entering P st s o ≡ refused j p
   entering-refused j p e o = entering-after o ∙ rw e
 
   pub entered : entering P st s (ok (tt {0})) ≡ ok tt → Entered P st s
-  unfolding entering
+  unfolding entering fitsAt
   entered e =
       let a = after-met (pattern P (ok (tt {0}))) (λ _. fits s (demand (isState (length P) st) 17 0 (ok tt))) tt (sym (pattern-after P _) ∙ e) in
       let b = demand-met (leb (length s) greatestStretch) 4 0 (demand (isState (length P) st) 17 0 (ok tt)) tt (a .2) in
@@ -66,9 +69,14 @@ module _ (P : List ℕ) (st : ℕ) (s : List ℕ) where
   entering-pattern j p e o = pattern-refused P j p e _
 
   module _ (y : SoundPattern P) where
-    pub entering-long : greatestStretch < length s → {A : Type 0} (o : Outcome A) → entering P st s o ≡ refused 4 0
+    pub entering-long : {v : Verdict} → toldVerdict v ≡ fitsAt s → {w : Refusal} → v ≡ Verdict.Refused w → {A : Type 0} (o : Outcome A)
+        → entering P st s o ≡ refused (w .number) (w .place)
     unfolding entering
-    entering-long l o = sound-pattern P y _ ∙ rw (lt-leb (length s) greatestStretch l)
+    entering-long told is o = sound-pattern P y _ ∙ fits-refused s told is _
+
+    pub entering-over : greatestStretch < length s → {A : Type 0} (o : Outcome A) → entering P st s o ≡ refused 4 0
+    unfolding entering
+    entering-over l o = sound-pattern P y _ ∙ rw (lt-leb (length s) greatestStretch l)
 
     pub entering-wrong : length s ≤ greatestStretch → isState (length P) st ≡ false → {A : Type 0} (o : Outcome A) → entering P st s o ≡ refused 17 0
     unfolding entering

@@ -3,14 +3,17 @@ use Prim.Native.Nat.{ℕ, _+_}
 use mathlib.Core.Path.{_≡_, refl, ap, ap₂, _∙_}
 use mathlib.Core.Bool.{Bool, true, false, not, cond}
 use mathlib.Core.List.{List, [], _∷_}
-use borrow.Author.Tests.{eq-eqb, ne-eqb}
 use lib.Dec.{eqb}
-use lib.ListN.{length}
 use Rattle.text.specs.Text.{Segment, Text, total}
 use Rattle.text.specs.State.{next, ends, run, marksFrom}
 use Rattle.text.specs.Refusal.{ok, refused, after}
 use Rattle.text.proofs.Outcomes.{told-met, told-refused}
-use Rattle.stretch.specs.Reading.{Taken, many, segmentAt, loneSegment}
+use Rattle.text.specs.declared.refusal.Refusal.{Refusal}
+use Rattle.stretch.specs.Pieces.{closedAt, toldVerdict}
+use Rattle.stretch.specs.Reading.{Taken, many, segmentAt}
+use Rattle.stretch.specs.declared.pieces.Verdict.{Verdict}
+use Rattle.stretch.specs.declared.pieces.Verdict.the-variants.{Sound}
+use Rattle.stretch.proofs.Frames.{lone-refused-inside, lone-refused-closed, lone-sound}
 use Rattle.search.specs.Answers.{Course, courseOf, entering, feeding}
 use Rattle.search.proofs.Entries.{Entered, entering-refused, entering-sound}
 
@@ -56,21 +59,22 @@ module _ (P s : List ℕ) (st : ℕ) where
 
   module _ (y : Entered P st s) where
     pub fed-refused : (j p : ℕ) → after (many (λ _. segmentAt s) 1 [] 0) (λ x. ok (courseOf P st x)) ≡ refused j p → feeding P st s ≡ refused j p
-    unfolding feeding loneSegment
-    fed-refused j p e = entering-sound P st s y _ ∙ rw (lone-not P s st j p e)
+    unfolding feeding
+    fed-refused j p e = entering-sound P st s y _ ∙ rw (lone-refused-inside s (lone-not P s st j p e))
 
     module _ (behind size bits hits : ℕ)
-        (e : after (many (λ _. segmentAt s) 1 [] 0) (λ x. ok (courseOf P st x)) ≡ ok (record { next = behind; size = size; state = bits; ends = hits })) where
+        (e : after (many (λ _. segmentAt s) 1 [] 0) (λ x. ok (courseOf P st x)) ≡ ok (record { next = behind; size = size; state = bits; ends = hits }))
+        (v : Verdict) (told : toldVerdict v ≡ closedAt s behind 1) where
       met : Lone P s st behind bits hits
       met = lone-met P s st behind size bits hits e
 
-      pub fed-left : (behind ≡ length s → ⊥) → feeding P st s ≡ refused 9 behind
-      unfolding feeding loneSegment
-      fed-left l = entering-sound P st s y _ ∙ rw (met .read, ne-eqb behind (length s) l)
+      pub fed-left : {w : Refusal} → v ≡ Verdict.Refused w → feeding P st s ≡ refused (w .number) (w .place)
+      unfolding feeding
+      fed-left is = entering-sound P st s y _ ∙ rw (lone-refused-closed s (met .read) told is)
 
-      pub fed-next : behind ≡ length s → feeding P st s ≡ ok (record { state = bits; ends = not (eqb hits 0) })
-      unfolding feeding loneSegment
-      fed-next l =
+      pub fed-next : v ≡ Sound → feeding P st s ≡ ok (record { state = bits; ends = not (eqb hits 0) })
+      unfolding feeding
+      fed-next is =
           entering-sound P st s y _
-          ∙ rw (met .read, eq-eqb behind (length s) l)
+          ∙ rw (lone-sound s (met .read) told is)
           (ap₂ (λ (n : ℕ) (b : Bool). ok (record { state = n; ends = b })) (met .state) (met .end))

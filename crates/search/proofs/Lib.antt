@@ -17,4 +17,5 @@ pub mod BorderChains
 pub mod BorderCarried
 pub mod BorderWalks
 pub mod BorderSteps
-pub mod Calls
+pub mod Chains
+pub mod Theorems

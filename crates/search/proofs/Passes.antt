@@ -1,58 +1,15 @@
--- Steps over a variant and over a segment: each answer, from the tests and the callees that lead there.
-use Prim.Native.Nat.{ℕ, _+_, _-_, _≤_, _<_}
-use native.Mathlib.Decide.{decLt}
-use native.Mathlib.Omega.{arith}
-use mathlib.Core.Path.{_≡_, refl, sym, ap, _∙_}
-use mathlib.Core.Logic.{by-cases}
-use mathlib.Core.Bool.{Bool, true, false, true≢false}
+-- Steps over a segment: each answer, from the tests and the callees that lead there; and what an answer says of the segment.
+use Prim.Native.Nat.{ℕ, _+_}
+use mathlib.Core.Path.{_≡_, ap, _∙_}
+use mathlib.Core.Bool.{Bool}
 use mathlib.Core.List.{List}
-use lib.ListN.{length, take, drop}
-use Rattle.text.specs.Letter.{letter, every, firstNot}
 use Rattle.text.specs.Text.{Segment, weight, total}
 use Rattle.text.specs.State.{next, ends}
 use Rattle.text.specs.Refusal.{ok, refused}
-use Rattle.text.proofs.Letters.{first-le, every-first, first-every}
 use Rattle.text.proofs.Outcomes.{told-met, told-refused}
-use Rattle.stretch.specs.Reading.{Taken, behind, segmentAt}
-use Rattle.stretch.specs.Variants.{repeated, soundAt}
-use Rattle.stretch.proofs.Heads.{Whole, whole-part, whole-length}
-use Rattle.stretch.proofs.Units.{sound-wrong, sound-repeated, sound-ok}
+use Rattle.stretch.specs.Reading.{Taken, segmentAt}
 use Rattle.stretch.proofs.Segments.{InSegment}
 use Rattle.search.specs.Step.{Pass, segmentPass}
-
--- the letters of a whole variant, as the code has them
-module _ (s : List ℕ) (at start next : ℕ) (w : Whole s at start next) where
-  long : length (take (next - start) (drop start s)) ≡ next - start
-  long = ap length (whole-part s at start next w) ∙ whole-length s at start next w
-
-  -- the place of the first wrong one is in the bytes
-  pub wrong-place : (x : ℕ) → x ≡ firstNot letter (take (next - start) (drop start s)) → start + x ≤ length s
-  wrong-place x e = omega (arith, first-le letter (take (next - start) (drop start s)), long, w .starts, w .ends, w .inside)
-
--- what the test of a whole variant answers
-module _ (s : List ℕ) (first k at start next : ℕ) (w : Whole s at start next) where
-  pub letters-wrong : (x : ℕ) → x ≡ firstNot letter (take (next - start) (drop start s)) → every letter (take (next - start) (drop start s)) ≡ false
-      → soundAt s first k at ≡ refused 7 (start + x)
-  letters-wrong x e bad = sound-wrong s first k at start next w x e near
-    where
-      near : x < next - start
-      near =
-          by-cases (decLt x (next - start))
-          (λ (l : x < next - start). l)
-          (λ (l : ¬ (x < next - start)).
-          let all : firstNot letter (take (next - start) (drop start s)) ≡ length (take (next - start) (drop start s)) =
-          omega (arith, first-le letter (take (next - start) (drop start s)), long s at start next w) in
-          absurd (true≢false (sym (first-every letter (take (next - start) (drop start s)) all) ∙ bad)))
-
-  module _ (good : every letter (take (next - start) (drop start s)) ≡ true) where
-    all : next - start ≤ firstNot letter (take (next - start) (drop start s))
-    all = omega (arith, every-first letter (take (next - start) (drop start s)) good, long s at start next w)
-
-    pub letters-again : repeated s (take (next - start) (drop start s)) k first ≡ true → soundAt s first k at ≡ refused 8 at
-    letters-again r = sound-repeated s first k at start next w _ refl all r
-
-    pub letters-new : repeated s (take (next - start) (drop start s)) k first ≡ false → soundAt s first k at ≡ ok (record { start = start; next = next })
-    letters-new r = sound-ok s first k at start next w _ refl all r
 
 -- the variants of a segment, taken one after another
 pub record Taking (P : List ℕ) (st : ℕ) (s : List ℕ) (first k at size state : ℕ) (end : Bool) : Type 0 where

@@ -30,7 +30,7 @@ use Rattle.search.specs.Masks.{StateOf}
 use Rattle.search.specs.Step.{segmentPass}
 use Rattle.search.specs.Answers.{Course, courseOf, MarksFrom, RoomyFrom, Seen, seenFrom, Sums, sums, sumsOf, MarksOf}
 use Rattle.search.specs.Answers.{entering, into, stretchInto, searching, seeking}
-use Rattle.search.proofs.Entries.{Entered, fresh-state, entering-refused, entering-sound, entering-pattern, entering-long}
+use Rattle.search.proofs.Entries.{Entered, fresh-state, entering-refused, entering-sound, entering-pattern, entering-over}
 use Rattle.search.proofs.Passes.{Stepped, segment-met, segment-not}
 
 -- a mark as the code writes it
@@ -272,7 +272,7 @@ module _ (P s out : List ℕ) where
   unfolding seeking
   seek-fresh y =
       by-cases (decLt greatestStretch (length s))
-      (λ (l : greatestStretch < length s). entering-long P fresh s y l (stretchInto s (length out)) ∙ sym (long-refused l))
+      (λ (l : greatestStretch < length s). entering-over P fresh s y l (stretchInto s (length out)) ∙ sym (long-refused l))
       (λ (l : ¬ (greatestStretch < length s)).
       let short : length s ≤ greatestStretch = omega arith in
       entering-sound P fresh s (record { sound = y; short = short; state = fresh-state P (y .some) }) (stretchInto s (length out)))

@@ -2,14 +2,13 @@
 use Prim.Native.Nat.{ℕ, _+_, _-_, _*_, _/_, _≤_, min}
 use mathlib.Core.Path.{_≡_}
 use mathlib.Core.Bool.{Bool}
-use mathlib.Core.List.{List, [], _∷_}
+use mathlib.Core.List.{List}
 use lib.Dec.{leb}
 use lib.ListN.{length, take}
 use Rattle.text.specs.Text.{Text, total, size}
 use Rattle.text.specs.State.{isState, fresh, next, ends, run, marksFrom, marks}
 use Rattle.text.specs.Refusal.{Outcome, ok, refused, demand, after, pattern}
 use Rattle.stretch.specs.Bytes.{greatestStretch}
-use Rattle.stretch.specs.Encoding.{encodeSegment}
 use Rattle.stretch.specs.Reading.{Taken, fits, loneSegment, stretchOf}
 use Rattle.search.specs.declared.entry.Entry.{Entry}
 use Rattle.search.specs.declared.entry.Entry.the-variants.{Open}
@@ -128,11 +127,3 @@ feeding P st s = entering P st s (after (loneSegment s) λ g. ok (record { state
 abbrev pub toldFed : Fed → Outcome Next
 toldFed (Fed.Next state ends) = ok (record { state = state .bits; ends = ends })
 toldFed (Fed.Refused r) = refused (r .number) (r .place)
-
--- the segments of a text fed one by one, each as its bytes
-unfoldable pub feeds : List ℕ → ℕ → Text → Outcome (List Next)
-feeds P st [] = ok []
-feeds P st (g ∷ T) =
-    after (feeding P st (encodeSegment g)) λ x.
-    (after (feeds P (x .state) T) λ xs.
-    (ok (x ∷ xs)))

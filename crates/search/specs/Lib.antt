@@ -6,4 +6,5 @@ pub mod Border
 pub mod BorderStep
 pub mod Method
 pub mod Answers
+pub mod Chain
 pub mod Carried

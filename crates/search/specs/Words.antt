@@ -5,12 +5,11 @@ use mathlib.Core.Bool.{Bool, true, not}
 use mathlib.Core.List.{List, [], _∷_}
 use lib.ListN.{length}
 use Rattle.text.specs.Letter.{letter, every}
-use Rattle.text.specs.Text.{Variant, Segment, counted}
+use Rattle.text.specs.Text.{Variant, Segment, weight}
 use Rattle.text.specs.Bits.{bit}
 use Rattle.text.specs.State.{next, ends}
 use Rattle.text.specs.Refusal.{ok, refused}
-use Rattle.stretch.specs.Reading.{lettersAt}
-use Rattle.stretch.specs.Variants.{soundAt}
+use Rattle.stretch.specs.Reading.{valueOf, variantAt, valuesFrom}
 use Rattle.search.specs.Masks.{Ready}
 use Rattle.search.specs.declared.segment.Swept.{Swept}
 use Rattle.search.specs.declared.segment.Swept.the-variants.{To, Refused}
@@ -34,5 +33,6 @@ LettersBy P st v bits hits wrong = (wrong ≡ not (every letter v)) × (every le
 -- what a sweep over the variant at `at` comes to, behind the k of its segment that stand from `first` on
 unfoldable pub SweptAt : List ℕ → ℕ → List ℕ → ℕ → ℕ → ℕ → Swept → Type 0
 SweptAt P st s first k at (To next size bits hits) =
-    (start : ℕ) × (soundAt s first k at ≡ ok (record { start = start; next = next })) × (size ≡ counted (next - start)) × Words P st (lettersAt s at ∷ []) bits hits
-SweptAt P st s first k at (Refused r) = soundAt s first k at ≡ refused (r .number) (r .place)
+    (variantAt s (valuesFrom s k first) at ≡ ok (record { value = valueOf s at; next = next }))
+    × (size ≡ weight (valueOf s at)) × Words P st (valueOf s at ∷ []) bits hits
+SweptAt P st s first k at (Refused r) = variantAt s (valuesFrom s k first) at ≡ refused (r .number) (r .place)

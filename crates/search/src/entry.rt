@@ -1,23 +1,19 @@
 // What every call from a state asks before it reads a byte.
 use crate::state::State;
+use stretch::pieces::Verdict;
+use stretch::pieces::fits;
 use text::Refusal;
 use text::pattern::PatternIs;
 use text::pattern::check;
 use text::refusal;
 use text::state::is_state;
 ghost use mathlib.Core.Path.{_≡_};
-ghost use Rattle.text.specs.Refusal.{Outcome, ok};
+ghost use Rattle.text.specs.Refusal.{ok};
 ghost use Rattle.search.specs.Answers.{entering, toldEntry};
 
 pub enum Entry {
     Open,
     Refused(Refusal),
-}
-
-fn refused(number: u64) -> Entry
-    ensures { λ r. ⌜ toldEntry r ≡ Outcome.refused number 0 ⌝ }
-{
-    Entry::Refused(Refusal { number, place: 0 })
 }
 
 // Refusals 1, 2, 3 of the pattern, 4 of the bytes, and 17 of the state.
@@ -27,11 +23,14 @@ pub fn enter(pattern: &[u8], state: State, bytes: &[u8]) -> Entry
     if let PatternIs::Refused(refused) = check(pattern) {
         return Entry::Refused(refused);
     }
-    if refusal::GREATEST_STRETCH < bytes.len() {
-        return refused(refusal::STRETCH_LONG);
+    if let Verdict::Refused(refused) = fits(bytes) {
+        return Entry::Refused(refused);
     }
     if !is_state(pattern.len(), state.bits) {
-        return refused(refusal::STATE_WRONG);
+        return Entry::Refused(Refusal {
+            number: refusal::STATE_WRONG,
+            place: 0,
+        });
     }
     Entry::Open
 }

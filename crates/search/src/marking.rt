@@ -47,7 +47,15 @@ fn mark_by_way_of(
         (stretchInto (now (stretch .entry)) (length (now (marks .entry)))) (now (marks .entry)) ⌝ }
 {
     let letters = classes();
-    match run_stretch(method, pattern, table, &letters, state, stretch, &mut *found) {
+    match run_stretch(
+        method,
+        pattern,
+        table,
+        &letters,
+        state,
+        stretch,
+        &mut *found,
+    ) {
         Sought::Refused(refused) => Sought::Refused(refused),
         Sought::Marked {
             segments,
@@ -91,11 +99,23 @@ pub fn mark(
     if stretch.len() <= 1024 {
         let mut found = [0u8; 340];
         return mark_by_way_of(
-            method, pattern, table, state, stretch, &mut found, &mut *marks,
+            method,
+            pattern,
+            table,
+            state,
+            stretch,
+            &mut found,
+            &mut *marks,
         );
     }
     let mut found = [0u8; refusal::MOST_IN_STRETCH];
     mark_by_way_of(
-        method, pattern, table, state, stretch, &mut found, &mut *marks,
+        method,
+        pattern,
+        table,
+        state,
+        stretch,
+        &mut found,
+        &mut *marks,
     )
 }

@@ -3,14 +3,16 @@ use crate::method::Method;
 use crate::segment::Passed;
 use crate::state::Sought;
 use crate::state::State;
-use stretch::bytes::word;
+use stretch::pieces::Opened;
+use stretch::pieces::Verdict;
+use stretch::pieces::closed;
+use stretch::pieces::open;
 use text::Refusal;
-use text::refusal;
 ghost use mathlib.Core.Path.{_≡_};
 ghost use mathlib.Core.List.{[]};
 ghost use Prim.Native.Nat.{_≤_};
 ghost use lib.ListN.{length};
-ghost use Rattle.text.specs.Refusal.{Outcome, ok, after};
+ghost use Rattle.text.specs.Refusal.{ok, after};
 ghost use Rattle.stretch.specs.Reading.{segmentAt, many, stretchOf};
 ghost use Rattle.search.specs.Answers.{courseOf, toldRan, MarksFrom, RoomyFrom, seenFrom, toldSought, MarksOf, Roomy};
 ghost use Rattle.search.specs.Masks.{StateOf};
@@ -27,8 +29,8 @@ pub enum Ran {
     Refused(Refusal),
 }
 
-// Takes a state over so many segments from `at` on, and puts their marks into `marks`. A refusal may leave some there. Every walk
-// takes this one loop: a step over a segment that is written down once is made part of the loop, and each segment is spared a call.
+// Takes a state over so many segments from `at` on, and puts their marks into `marks`. A refusal may leave some there. The step over a
+// segment is called here alone: the compiler then makes it part of the loop, and each segment is spared a call.
 pub fn run(
     method: Method,
     pattern: &[u8],
@@ -97,14 +99,12 @@ pub fn run_stretch(
     ensures { λ r. ⌜ toldSought r ≡ after (stretchOf (now (stretch .entry))) (λ t. ok (seenFrom (now (pattern .entry)) (state .bits) t)) ⌝ }
     ensures { λ r. ⌜ MarksOf (now (pattern .entry)) (state .bits) (stretchOf (now (stretch .entry))) (now (marks .exit)) ⌝ }
 {
-    let end = stretch.len();
-    if refusal::GREATEST_STRETCH < end {
-        return refused(refusal::STRETCH_LONG, 0);
-    }
-    if end < 2 {
-        return refused(refusal::BYTES_END, 0);
-    }
-    let segments = word(stretch, 0);
+    let segments = match open(stretch) {
+        Opened::Refused(wrong) => {
+            return Sought::Refused(wrong);
+        }
+        Opened::Segments(segments) => segments,
+    };
     match run(
         method,
         pattern,
@@ -116,31 +116,20 @@ pub fn run_stretch(
         segments,
         &mut *marks,
     ) {
-        Ran::Refused(refused) => Sought::Refused(refused),
+        Ran::Refused(wrong) => Sought::Refused(wrong),
         Ran::To {
             next,
             size,
             state: reached,
             ends,
-        } => {
-            if next != end {
-                return refused(refusal::BYTES_LEFT, next);
-            }
-            if refusal::MOST_IN_STRETCH < segments {
-                return refused(refusal::SEGMENTS_MANY, 0);
-            }
-            Sought::Marked {
+        } => match closed(stretch, next, segments) {
+            Verdict::Refused(wrong) => Sought::Refused(wrong),
+            Verdict::Sound => Sought::Marked {
                 segments,
                 size,
                 ends,
                 state: reached,
-            }
-        }
+            },
+        },
     }
-}
-
-fn refused(number: u64, place: usize) -> Sought
-    ensures { λ r. ⌜ toldSought r ≡ Outcome.refused number place ⌝ }
-{
-    Sought::Refused(Refusal { number, place })
 }

@@ -2,16 +2,15 @@
 use crate::method::Method;
 use crate::method::scan_by;
 use crate::state::State;
-use stretch::bytes::wide;
-use stretch::variant::Part;
-use stretch::variant::head;
-use stretch::variant::repeated;
+use stretch::pieces::Counted;
+use stretch::pieces::Part;
+use stretch::pieces::Verdict;
+use stretch::pieces::head;
+use stretch::pieces::judged;
+use stretch::pieces::variants;
 use text::Refusal;
-use text::letter::first_wrong;
-use text::refusal;
 use text::size::counted;
 ghost use mathlib.Core.Path.{_≡_};
-ghost use Rattle.text.specs.Refusal.{Outcome};
 ghost use Rattle.stretch.specs.Skips.{UpTo};
 ghost use Rattle.search.specs.Step.{toldPassed, segmentPass};
 ghost use Rattle.search.specs.Masks.{StateOf};
@@ -43,7 +42,7 @@ pub enum Swept {
 }
 
 // The variant at `at`, behind the k of its segment that stand from `first` on: refusals 5, 7 and 8. Its letters are tested and
-// stepped over in one pass; only where one is wrong, a second looks for its place.
+// stepped over in one pass.
 fn variant_by(
     method: Method,
     pattern: &[u8],
@@ -64,25 +63,14 @@ fn variant_by(
         Part::At { start, next } => {
             let letters = &stretch[start..next];
             let scanned = scan_by(method, pattern, table, classes, bits, letters);
-            if scanned.wrong {
-                let place = start + first_wrong(letters);
-                return Swept::Refused(Refusal {
-                    number: refusal::WRONG_LETTER,
-                    place,
-                });
-            }
-            if repeated(stretch, first, at, letters) {
-                return Swept::Refused(Refusal {
-                    number: refusal::REPEATED,
-                    place: at,
-                });
-            }
-            let size = counted(next - start);
-            Swept::To {
-                next,
-                size,
-                bits: scanned.bits,
-                hits: scanned.hits,
+            match judged(stretch, first, at, letters, scanned.wrong) {
+                Verdict::Refused(wrong) => Swept::Refused(wrong),
+                Verdict::Sound => Swept::To {
+                    next,
+                    size: counted(next - start),
+                    bits: scanned.bits,
+                    hits: scanned.hits,
+                },
             }
         }
     }
@@ -102,13 +90,12 @@ impl State {
         requires { ⌜ Tools method (now pattern) (now table) (now classes) × StateOf (now pattern) (self .bits) ⌝ }
         ensures { λ r. ⌜ toldPassed r ≡ segmentPass (now (pattern .entry)) (self .bits) (now (stretch .entry)) at ⌝ }
     {
-        if stretch.len() <= at {
-            return refused(refusal::BYTES_END, at);
-        }
-        let count = wide(stretch[at]);
-        if count == 0 {
-            return refused(refusal::NO_VARIANTS, at);
-        }
+        let count = match variants(stretch, at) {
+            Counted::Refused(wrong) => {
+                return Passed::Refused(wrong);
+            }
+            Counted::Variants(count) => count,
+        };
         let bits = self.bits;
         let first = at + 1;
         let mut next = first;
@@ -118,7 +105,15 @@ impl State {
         let mut k = 0;
         while k < count {
             match variant_by(
-                method, pattern, table, classes, bits, stretch, first, k, next,
+                method,
+                pattern,
+                table,
+                classes,
+                bits,
+                stretch,
+                first,
+                k,
+                next,
             ) {
                 Swept::Refused(wrong) => {
                     return Passed::Refused(wrong);
@@ -146,10 +141,4 @@ impl State {
             ends: low / 2 < hits,
         }
     }
-}
-
-fn refused(number: u64, place: usize) -> Passed
-    ensures { λ r. ⌜ toldPassed r ≡ Outcome.refused number place ⌝ }
-{
-    Passed::Refused(Refusal { number, place })
 }

@@ -8,12 +8,13 @@ use crate::run::Ran;
 use crate::run::run;
 use crate::vectors::classes;
 use crate::vectors::masks;
+use stretch::pieces::Verdict;
+use stretch::pieces::closed;
 use text::Refusal;
-use text::refusal;
 ghost use mathlib.Core.Path.{_≡_};
 ghost use mathlib.Core.List.{[]};
 ghost use lib.ListN.{length};
-ghost use Rattle.text.specs.Refusal.{Outcome, ok, after};
+ghost use Rattle.text.specs.Refusal.{ok, after};
 ghost use Rattle.text.specs.State.{marksFrom};
 ghost use Rattle.stretch.specs.Reading.{segmentAt, many};
 ghost use Rattle.stretch.specs.Answers.{leftBy};
@@ -70,11 +71,8 @@ impl State {
                 state,
                 ends,
             } => {
-                if next != segment.len() {
-                    return Fed::Refused(Refusal {
-                        number: refusal::BYTES_LEFT,
-                        place: next,
-                    });
+                if let Verdict::Refused(refused) = closed(segment, next, 1) {
+                    return Fed::Refused(refused);
                 }
                 let hit = ends != 0;
                 Fed::Next { state, ends: hit }

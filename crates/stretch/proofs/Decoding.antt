@@ -1,11 +1,11 @@
 -- What an accepted reading says: the bytes are those of what was read, and what was read can be written.
 use Prim.Native.Nat.{ℕ, _+_, _*_, _≤_, _<_}
 use native.Mathlib.Omega.{arith}
-use mathlib.Core.Path.{_≡_, refl, sym, ap, subst₂, _∙_}
+use mathlib.Core.Path.{_≡_, refl, sym, ap, _∙_}
 use mathlib.Core.Bool.{true, not}
 use mathlib.Core.List.{List, [], _∷_, _++_}
-use borrow.Author.Tests.{ltb-true, leb-true, eqb-true, lt-ltb, le-leb}
-use lib.Dec.{ltb, leb, eqb}
+use borrow.Author.Tests.{leb-true, lt-ltb, le-leb}
+use lib.Dec.{leb}
 use lib.ListN.{length, getD}
 use Rattle.text.specs.Letter.{letter, every}
 use Rattle.text.specs.Text.{Variant, Segment, Text}
@@ -13,22 +13,17 @@ use Rattle.text.specs.Refusal.{ok}
 use Rattle.text.proofs.Truth.{and-both}
 use Rattle.text.proofs.Outcomes.{ok-inj, demand-met, after-met}
 use Rattle.stretch.specs.Bytes.{greatestStretch, word, wordBytes}
-use Rattle.stretch.specs.Reading.{Taken, lettersAt, among, whole, mostInStretch, many, variantAt, segmentAt}
-use Rattle.stretch.specs.Reading.{stretchOf, loneSegment, segmentOf}
+use Rattle.stretch.specs.Pieces.{lettersAt, closedAt}
+use Rattle.stretch.specs.Reading.{Taken, valueOf, among, many, variantAt, segmentAt, stretchOf, loneSegment, segmentOf}
 use Rattle.stretch.specs.Encoding.{bytesOf, encodeVariant, encodeSegment, encode, distinct, all, writableSegment, writable}
-use Rattle.stretch.proofs.Heads.{whole-letters}
-use Rattle.stretch.proofs.Segments.{variant-read}
+use Rattle.stretch.proofs.Heads.{whole-letters, value-part}
+use Rattle.stretch.proofs.Frames.{Opens, segment-met, stretch-met, closed-met}
+use Rattle.stretch.proofs.Units.{variant-read}
 use Rattle.stretch.proofs.Stands.{Bytes, stands-both, stands-byte, stands-word, stands-whole}
 use Rattle.stretch.proofs.Lengths.{filled, filled-lengths}
 use Rattle.stretch.proofs.Rows.{Row, Spans, many-row, row-all, row-spans}
 
 module _ (s : List ℕ) where
-  -- nothing was left behind what was read
-  whole-met : {A : Type 0} (x : Taken A ℕ) (a : A) → whole s x ≡ ok a → (x .next ≡ length s) × (x .value ≡ a)
-  whole-met x a e =
-      let w = demand-met (eqb (x .next) (length s)) 9 (x .next) _ a e in
-      (eqb-true (x .next) (length s) (w .0), ok-inj (w .1))
-
   -- a variant that was read has the bytes from its length on
   pub variant-spans :
       (seen : Segment) (at : ℕ) (x : Taken Variant ℕ) → variantAt s seen at ≡ ok x → Spans s at (x .next) (encodeVariant (x .value))
@@ -37,14 +32,14 @@ module _ (s : List ℕ) where
       let r = variant-read s seen at x e in
       let v : Variant = lettersAt s at in
       let n : length v ≡ word s at = whole-letters s at (r .inside) in
-      rw (r .is)
+      rw (r .is, value-part s at)
       (record {
         ends = omega arith;
         stands = λ bytes. stands-both s at (wordBytes (length v)) v (rw n (stands-word s at bytes (omega arith))) (rw n);
       })
 
   variant-letters : (seen : Segment) (at : ℕ) (x : Taken Variant ℕ) → variantAt s seen at ≡ ok x → every letter (x .value) ≡ true
-  variant-letters seen at x e = rw (variant-read s seen at x e .is) (variant-read s seen at x e .letters)
+  variant-letters seen at x e = let r = variant-read s seen at x e in rw (r .is, value-part s at) (r .letters)
 
   -- a row of variants has none twice
   row-distinct : (l seen : Segment) (at next : ℕ) → Row (variantAt s) seen at l next → distinct seen l ≡ true
@@ -52,7 +47,7 @@ module _ (s : List ℕ) where
   row-distinct [] seen at next r = refl
   row-distinct (v ∷ l) seen at next r =
       let p = variant-read s seen at (record { value = v; next = r .0 }) (r .1) in
-      let w : v ≡ lettersAt s at = ap (λ (y : Taken Variant ℕ). y .value) (p .is) in
+      let w : v ≡ valueOf s at = ap (λ (y : Taken Variant ℕ). y .value) (p .is) in
       and-both (not (among v seen)) (distinct (seen ++ (v ∷ [])) l) (rw w (p .new)) (row-distinct l (seen ++ (v ∷ [])) (r .0) next (r .2))
 
   -- a segment that was read: its count and the row of its variants
@@ -63,16 +58,14 @@ module _ (s : List ℕ) where
     pub row : Row (variantAt s) [] (at + 1) (x .value) (x .next)
 
   pub segment-read : (at : ℕ) (x : Taken Segment ℕ) → segmentAt s at ≡ ok x → SegmentRead at x
-  unfolding segmentAt
   segment-read at x e =
-      let a = demand-met (ltb at (length s)) 5 at _ x e in
-      let b = demand-met (ltb 0 (getD s at 0)) 6 at _ x (a .1) in
-      let m = many-row (variantAt s) (getD s at 0) [] (at + 1) x (b .1) in
-      let n : length (x .value) ≡ getD s at 0 = ap length (m .value) ∙ m .count in
+      let t = segment-met s at x e in
+      let m = many-row (variantAt s) (t .count) [] (at + 1) x (t .all) in
+      let n : length (x .value) ≡ t .count = ap length (m .value) ∙ m .count in
       record {
-        inside = ltb-true at (length s) (a .0);
-        some = omega (arith, ltb-true 0 (getD s at 0) (b .0));
-        count = sym n;
+        inside = t .counts .inside;
+        some = omega (arith, t .counts .some);
+        count = sym (n ∙ t .counts .count);
         row = rw (m .value) (m .row);
       }
 
@@ -108,29 +101,20 @@ module _ (s : List ℕ) where
     pub count : word s 0 ≡ length t
     pub row : Row (λ _. segmentAt s) [] 2 t (length s)
 
-  -- the segments were read, and nothing is left behind them
+  -- the segments were read up to the end
   pub segments-read :
-      (x : Taken Text ℕ) (t : Text) → length s ≤ greatestStretch → 2 ≤ length s → many (λ _. segmentAt s) (word s 0) [] 2 ≡ ok x →
-      whole s x ≡ ok t → StretchRead t
-  segments-read x t short counted e w =
-      let m = many-row (λ _. segmentAt s) (word s 0) [] 2 x e in
-      let v : m .more ≡ t = sym (m .value) ∙ whole-met x t w .1 in
+      (n : ℕ) (t : Text) → Opens s n → many (λ _. segmentAt s) n [] 2 ≡ ok (record { value = t; next = length s }) → StretchRead t
+  segments-read n t o e =
+      let m = many-row (λ _. segmentAt s) n [] 2 _ e in
       record {
-        short = short;
-        counted = counted;
-        count = sym (m .count) ∙ ap length v;
-        row = subst₂ (Row (λ _. segmentAt s) [] 2) v (whole-met x t w .0) (m .row);
+        short = o .short;
+        counted = o .counted;
+        count = sym (o .count) ∙ sym (m .count) ∙ ap length (sym (m .value));
+        row = rw (m .value) (m .row);
       }
 
   pub stretch-read : (t : Text) → stretchOf s ≡ ok t → StretchRead t
-  unfolding stretchOf
-  stretch-read t e =
-      let a = demand-met (leb (length s) greatestStretch) 4 0 _ t e in
-      let b = demand-met (leb 2 (length s)) 5 0 _ t (a .1) in
-      let c = after-met (many (λ _. segmentAt s) (word s 0) [] 2) _ t (b .1) in
-      let d = after-met (whole s (c .0)) _ t (c .2) in
-      let f = demand-met (leb (length (d .0)) mostInStretch) 16 0 _ t (d .2) in
-      segments-read (c .0) t (leb-true (length s) greatestStretch (a .0)) (leb-true 2 (length s) (b .0)) (c .1) (d .1 ∙ f .1)
+  stretch-read t e = let m = stretch-met s t e in segments-read (m .count) t (m .opens) (m .all)
 
   module _ (t : Text) (r : StretchRead t) where
     -- each segment has variants
@@ -172,10 +156,11 @@ module _ (s : List ℕ) where
       (length s ≤ greatestStretch) × (segmentAt s 0 ≡ ok (record { value = g; next = length s }))
   unfolding segmentOf loneSegment
   lone-read g e =
-      let a = demand-met (leb (length s) greatestStretch) 4 0 _ g e in
-      let b = after-met (segmentAt s 0) (whole s) g (a .1) in
-      let w = whole-met (b .0) g (b .2) in
-      (leb-true (length s) greatestStretch (a .0), b .1 ∙ (λ i. ok (record { value = w .1 i; next = w .0 i })))
+      let (a, b) = demand-met (leb (length s) greatestStretch) 4 0 _ g e in
+      let (x, read, f) = after-met (segmentAt s 0) _ g b in
+      let (_, c, h) = after-met (closedAt s (x .next) 1) (λ _. ok (x .value)) g f in
+      let end = closed-met s (x .next) 1 c .0 in
+      (leb-true (length s) greatestStretch a, read ∙ (λ i. ok (record { value = ok-inj h i; next = end i })))
 
   pub lone-bytes : Bytes s → (g : Segment) → segmentOf s ≡ ok g → encodeSegment g ≡ s
   lone-bytes bytes g e =

@@ -5,7 +5,7 @@ use native.Mathlib.Omega.{arith}
 use mathlib.Core.Path.{_≡_, refl, _∙_}
 use mathlib.Core.Bool.{Bool, true, false, not, _&&_}
 use mathlib.Core.List.{List, [], _∷_, _++_}
-use borrow.Author.Tests.{ltb-true, leb-true, not-true, lt-ltb, le-leb, eq-eqb}
+use borrow.Author.Tests.{ltb-true, leb-true, not-true, lt-ltb, le-leb}
 use lib.Dec.{ltb, leb}
 use lib.ListN.{length, getD}
 use lib.Seq.{take-length}
@@ -14,9 +14,11 @@ use Rattle.text.specs.Text.{Variant, Segment, Text}
 use Rattle.text.specs.Refusal.{ok}
 use Rattle.text.proofs.Truth.{and-both, and-left, and-right}
 use Rattle.stretch.specs.Bytes.{greatestStretch, word, wordBytes}
-use Rattle.stretch.specs.Reading.{behind, among, many, variantAt, segmentAt, mostInStretch, lettersAt}
-use Rattle.stretch.specs.Reading.{stretchOf, loneSegment, segmentOf}
+use Rattle.stretch.specs.Pieces.{lettersAt, nextOf, headAt, variantsAt, mostInStretch}
+use Rattle.stretch.specs.Reading.{among, formed, many, variantAt, segmentAt, stretchOf, loneSegment, segmentOf}
 use Rattle.stretch.specs.Encoding.{bytesOf, encodeVariant, encodeSegment, encode, distinct, all, writableSegment, writable}
+use Rattle.stretch.proofs.Heads.{value-part}
+use Rattle.stretch.proofs.Frames.{open-counts, closed-sound}
 use Rattle.stretch.proofs.Stands.{Stands, stands-front, stands-back, stands-inside, stands-at, word-stands}
 use Rattle.stretch.proofs.Rows.{row-many, written-row}
 use Rattle.stretch.proofs.Lengths.{filled, filled-lengths}
@@ -75,18 +77,25 @@ module _ (s : List ℕ) (short : length s ≤ greatestStretch) where
   variant-written :
       (seen : Segment) (v : Variant) (l : Segment) (at : ℕ) → Fresh seen (v ∷ l) → Stands s at (encodeVariant v) →
       variantAt s seen at ≡ ok (record { value = v; next = at + length (encodeVariant v) })
-  unfolding variantAt encodeVariant wordBytes
+  unfolding variantAt formed headAt encodeVariant wordBytes
   variant-written seen v l at f h =
       let fits : at + length (encodeVariant v) ≤ length s = stands-inside s at (encodeVariant v) h (omega arith) in
       let n : word s at ≡ length v = word-stands s at (length v) (omega arith) (stands-front s at (wordBytes (length v)) v h) in
-      let value : lettersAt s at ≡ v = rw n (stands-back s at (wordBytes (length v)) v h) in
-      let next : behind s at ≡ at + length (encodeVariant v) = omega arith in
-      rw (value, next, le-leb (at + length (encodeVariant v)) (length s) fits, fresh-letters seen v l f, fresh-once seen v l f)
+      let letters : lettersAt s at ≡ v = rw n (stands-back s at (wordBytes (length v)) v h) in
+      let next : nextOf s at ≡ at + length (encodeVariant v) = omega arith in
+      rw (
+        value-part s at,
+        letters,
+        next,
+        le-leb (at + length (encodeVariant v)) (length s) fits,
+        fresh-letters seen v l f,
+        fresh-once seen v l f,
+      )
 
   segment-written :
       (g : Segment) (at : ℕ) → writableSegment g ≡ true → Stands s at (encodeSegment g) →
       segmentAt s at ≡ ok (record { value = g; next = at + length (encodeSegment g) })
-  unfolding segmentAt encodeSegment
+  unfolding segmentAt variantsAt encodeSegment
   segment-written g at w h =
       let r = writable-segment g w in
       let fits : at + length (encodeSegment g) ≤ length s = stands-inside s at (encodeSegment g) h (omega arith) in
@@ -117,14 +126,7 @@ accepted :
     many (λ _. segmentAt s) (length t) [] 2 ≡ ok (record { value = t; next = next }) → next ≡ length s → stretchOf s ≡ ok t
 unfolding stretchOf
 accepted s t next short two few n segments e =
-    rw (
-      le-leb (length s) greatestStretch short,
-      le-leb 2 (length s) two,
-      n,
-      segments,
-      eq-eqb next (length s) e,
-      le-leb (length t) mostInStretch few,
-    )
+    rw (open-counts s short two, n, segments, closed-sound s next (length t) e few)
 
 -- a text that can be written is what its bytes mean
 pub stretch-of : (t : Text) → writable t ≡ true → stretchOf (encode t) ≡ ok t
@@ -148,4 +150,4 @@ unfolding segmentOf loneSegment
 segment-of g w l =
     let s : List ℕ = encodeSegment g in
     let e : 0 + length s ≡ length s = omega arith in
-    rw (le-leb (length s) greatestStretch l, segment-written s l g 0 w (take-length s), eq-eqb (0 + length s) (length s) e)
+    rw (le-leb (length s) greatestStretch l, segment-written s l g 0 w (take-length s), closed-sound s (0 + length s) 1 e (omega arith))

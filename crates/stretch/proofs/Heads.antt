@@ -1,7 +1,7 @@
--- Laws of a variant's head and of the test for repetition.
+-- Laws of a variant's head, and of its letters as they stand.
 use Prim.Native.Nat.{ℕ, _+_, _-_, _≤_, _<_}
 use native.Mathlib.Omega.{arith}
-use mathlib.Core.Path.{_≡_, refl, sym, ap}
+use mathlib.Core.Path.{_≡_, refl, sym, ap, _∙_}
 use mathlib.Core.Bool.{Bool, true, false}
 use mathlib.Core.List.{List}
 use borrow.Author.Tests.{leb-true, leb-false, le-leb, lt-leb}
@@ -9,41 +9,41 @@ use lib.Dec.{leb}
 use lib.ListN.{length, take, drop, length-take, length-drop}
 use Rattle.text.specs.Refusal.{ok, refused, demand}
 use Rattle.stretch.specs.Bytes.{word}
-use Rattle.stretch.specs.Reading.{lettersAt, behind}
-use Rattle.stretch.specs.Variants.{Span, headAt}
+use Rattle.stretch.specs.Pieces.{lettersAt, nextOf, Span, headAt}
+use Rattle.stretch.specs.Reading.{valueOf}
 
 -- a variant that is whole: where its letters start, and where the next one begins
 pub record Whole (s : List ℕ) (at start next : ℕ) : Type 0 where
   pub starts : start ≡ at + 2
-  pub ends : next ≡ behind s at
-  pub inside : behind s at ≤ length s
+  pub ends : next ≡ nextOf s at
+  pub inside : nextOf s at ≤ length s
 
-pub head-cut : (s : List ℕ) (at : ℕ) → length s < behind s at → headAt s at ≡ refused 5 at
+pub head-cut : (s : List ℕ) (at : ℕ) → length s < nextOf s at → headAt s at ≡ refused 5 at
 unfolding headAt
-head-cut s at l = rw (lt-leb (behind s at) (length s) l)
+head-cut s at l = rw (lt-leb (nextOf s at) (length s) l)
 
 -- found with the number n that its length states
-pub head-found : (s : List ℕ) (at n : ℕ) → n ≡ word s at → behind s at ≤ length s → headAt s at ≡ ok (record { start = at + 2; next = at + 2 + n })
+pub head-found : (s : List ℕ) (at n : ℕ) → n ≡ word s at → nextOf s at ≤ length s → headAt s at ≡ ok (record { start = at + 2; next = at + 2 + n })
 unfolding headAt
-head-found s at n e l = rw (le-leb (behind s at) (length s) l, e)
+head-found s at n e l = rw (le-leb (nextOf s at) (length s) l, e)
 
 pub head-is : (s : List ℕ) (at start next : ℕ) → headAt s at ≡ ok (record { start = start; next = next }) → Whole s at start next
 unfolding headAt
-head-is s at start next e = go (leb (behind s at) (length s)) refl e
+head-is s at start next e = go (leb (nextOf s at) (length s)) refl e
   where
-    go : (b : Bool) → leb (behind s at) (length s) ≡ b → demand {A = Span} b 5 at (ok (record { start = at + 2; next = behind s at })) ≡ ok (record { start = start; next = next }) → Whole s at start next
+    go : (b : Bool) → leb (nextOf s at) (length s) ≡ b → demand {A = Span} b 5 at (ok (record { start = at + 2; next = nextOf s at })) ≡ ok (record { start = start; next = next }) → Whole s at start next
     go true t e =
-        let p : _≡_ {A = Span} (record { start = at + 2; next = behind s at }) (record { start = start; next = next }) = cc in
-        record { starts = sym (ap (λ (x : Span). x .start) p); ends = sym (ap (λ (x : Span). x .next) p); inside = leb-true (behind s at) (length s) t }
+        let p : _≡_ {A = Span} (record { start = at + 2; next = nextOf s at }) (record { start = start; next = next }) = cc in
+        record { starts = sym (ap (λ (x : Span). x .start) p); ends = sym (ap (λ (x : Span). x .next) p); inside = leb-true (nextOf s at) (length s) t }
     go false t e = absurd (let z : _≡_ {A = ℕ} 0 1 = cc in let y : ⊥ = omega arith in y)
 
-pub head-not : (s : List ℕ) (at n p : ℕ) → headAt s at ≡ refused n p → length s < behind s at
+pub head-not : (s : List ℕ) (at n p : ℕ) → headAt s at ≡ refused n p → length s < nextOf s at
 unfolding headAt
-head-not s at n p e = go (leb (behind s at) (length s)) refl e
+head-not s at n p e = go (leb (nextOf s at) (length s)) refl e
   where
-    go : (b : Bool) → leb (behind s at) (length s) ≡ b → demand {A = Span} b 5 at (ok (record { start = at + 2; next = behind s at })) ≡ refused n p → length s < behind s at
+    go : (b : Bool) → leb (nextOf s at) (length s) ≡ b → demand {A = Span} b 5 at (ok (record { start = at + 2; next = nextOf s at })) ≡ refused n p → length s < nextOf s at
     go true t e = absurd (let z : _≡_ {A = ℕ} 0 1 = cc in let y : ⊥ = omega arith in y)
-    go false t e = leb-false (behind s at) (length s) t
+    go false t e = leb-false (nextOf s at) (length s) t
 
 -- the part from start to next is the variant's letters
 pub whole-part : (s : List ℕ) (at start next : ℕ) → Whole s at start next → take (next - start) (drop start s) ≡ lettersAt s at
@@ -52,8 +52,16 @@ whole-part s at start next w =
     rw (long, w .starts)
 
 -- a variant that is whole has as many letters as its length states
-pub whole-letters : (s : List ℕ) (at : ℕ) → behind s at ≤ length s → length (lettersAt s at) ≡ word s at
+pub whole-letters : (s : List ℕ) (at : ℕ) → nextOf s at ≤ length s → length (lettersAt s at) ≡ word s at
 whole-letters s at l = simp (length-take, length-drop) (omega arith)
 
 pub whole-length : (s : List ℕ) (at start next : ℕ) → Whole s at start next → length (lettersAt s at) ≡ next - start
 whole-length s at start next w = omega (arith, whole-letters s at (w .inside), w .starts, w .ends)
+
+-- what a variant spells are the letters that stand there
+pub value-part : (s : List ℕ) (at : ℕ) → valueOf s at ≡ lettersAt s at
+unfolding valueOf
+value-part s at = refl
+
+pub value-length : (s : List ℕ) (at : ℕ) → nextOf s at ≤ length s → length (valueOf s at) ≡ word s at
+value-length s at l = ap length (value-part s at) ∙ whole-letters s at l

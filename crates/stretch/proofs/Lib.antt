@@ -3,6 +3,8 @@ pub mod Words
 pub mod Heads
 pub mod Repeats
 pub mod Walks
+pub mod Frames
+pub mod Verdicts
 pub mod Units
 pub mod Segments
 pub mod Stretches

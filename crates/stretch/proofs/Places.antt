@@ -8,13 +8,14 @@ use lib.ListN.{length, getD, take}
 use Rattle.text.specs.Text.{Variant, Segment, Text, segment, total}
 use Rattle.text.specs.Refusal.{Outcome, ok}
 use Rattle.stretch.specs.Bytes.{word, part}
-use Rattle.stretch.specs.Reading.{Taken, behind, lettersAt, variantAt, segmentAt}
+use Rattle.stretch.specs.Pieces.{nextOf}
+use Rattle.stretch.specs.Reading.{Taken, valueOf, variantAt, segmentAt}
 use Rattle.stretch.specs.Encoding.{encodeVariant, encodeSegment}
 use Rattle.stretch.specs.Skips.{stepped, behindVariants, behindSegment, segmentPlace}
 use Rattle.stretch.specs.Places.{variant, startOf, handed}
 use Rattle.stretch.specs.Answers.{handedAt}
-use Rattle.stretch.proofs.Heads.{whole-letters}
-use Rattle.stretch.proofs.Segments.{variant-read}
+use Rattle.stretch.proofs.Heads.{value-length, value-part}
+use Rattle.stretch.proofs.Units.{variant-read}
 use Rattle.stretch.proofs.Rows.{Row}
 use Rattle.stretch.proofs.Decoding.{variant-spans, SegmentRead, segment-read, segment-spans, StretchRead}
 
@@ -66,18 +67,18 @@ variantPlace s j v = behindVariants s v (segmentPlace s j + 1)
 
 -- a variant whose length stands at `at`
 record VariantThere (s : List ℕ) (at : ℕ) (v : Variant) : Type 0 where
-  letters : v ≡ lettersAt s at
+  letters : v ≡ valueOf s at
   long : length v ≡ word s at
-  inside : behind s at ≤ length s
+  inside : nextOf s at ≤ length s
 
 module _ (s : List ℕ) where
-  variant-ends : (seen : Segment) (at : ℕ) (x : Taken Variant ℕ) → variantAt s seen at ≡ ok x → x .next ≡ behind s at
+  variant-ends : (seen : Segment) (at : ℕ) (x : Taken Variant ℕ) → variantAt s seen at ≡ ok x → x .next ≡ nextOf s at
   variant-ends seen at x e = ap (λ (y : Taken Variant ℕ). y .next) (variant-read s seen at x e .is)
 
   segment-ends : (seen : Text) (at : ℕ) (x : Taken Segment ℕ) → segmentAt s at ≡ ok x → x .next ≡ behindSegment s at
   segment-ends seen at x e =
       let r = segment-read s at x e in
-      sym (row-end (variantAt s) (behind s) variant-ends (x .value) [] (at + 1) (x .next) (r .row))
+      sym (row-end (variantAt s) (nextOf s) variant-ends (x .value) [] (at + 1) (x .next) (r .row))
       ∙ ap (λ (n : ℕ). behindVariants s n (at + 1)) (sym (r .count))
 
   module _ (t : Text) (r : StretchRead s t) (j : ℕ) (h : j < length t) where
@@ -91,10 +92,10 @@ module _ (s : List ℕ) where
     module _ (v : ℕ) (l : v < length (segment t j)) where
       variant-there : VariantThere s (variantPlace s j v) (variant t j v)
       variant-there =
-          let m = row-member (variantAt s) (behind s) variant-ends (segment t j) [] (segmentPlace s j + 1) _ v [] (segment-there .row) l in
+          let m = row-member (variantAt s) (nextOf s) variant-ends (segment t j) [] (segmentPlace s j + 1) _ v [] (segment-there .row) l in
           let p = variant-read s (m .seen) (variantPlace s j v) _ (m .read) in
-          let w : variant t j v ≡ lettersAt s (variantPlace s j v) = ap (λ (y : Taken Variant ℕ). y .value) (p .is) in
-          record { letters = w; long = ap length w ∙ whole-letters s (variantPlace s j v) (p .inside); inside = p .inside }
+          let w : variant t j v ≡ valueOf s (variantPlace s j v) = ap (λ (y : Taken Variant ℕ). y .value) (p .is) in
+          record { letters = w; long = ap length w ∙ value-length s (variantPlace s j v) (p .inside); inside = p .inside }
 
       pub variant-inside : variantPlace s j v < length s
       variant-inside = omega (arith, variant-there .inside)
@@ -104,7 +105,7 @@ module _ (s : List ℕ) where
       letters-there =
           let p = row-place (λ _. segmentAt s) (behindSegment s) segment-ends encodeSegment (λ _ at x e. segment-spans s at x e .ends)
           t [] 2 (length s) j (r .row) (omega arith) in
-          let q = row-place (variantAt s) (behind s) variant-ends encodeVariant (λ seen at x e. variant-spans s seen at x e .ends)
+          let q = row-place (variantAt s) (nextOf s) variant-ends encodeVariant (λ seen at x e. variant-spans s seen at x e .ends)
           (segment t j) [] (segmentPlace s j + 1) _ v (segment-there .row) (omega arith) in
           omega (arith, p, q)
 
@@ -113,7 +114,7 @@ module _ (s : List ℕ) where
 
       -- the part of the stretch where a variant's letters stand
       pub part-there : part s (startOf t j v) (length (variant t j v)) ≡ variant t j v
-      part-there = rw (← letters-there, variant-there .long) (sym (variant-there .letters))
+      part-there = rw (← letters-there, variant-there .long) (sym (variant-there .letters ∙ value-part s (variantPlace s j v)))
 
       -- what is handed out by the place is what is handed out by the text
       pub handed-there : handedAt s (segmentPlace s j) j v ≡ handed t j v

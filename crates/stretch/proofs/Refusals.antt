@@ -1,20 +1,22 @@
 -- Every refusal of a reading has a number from 4 to 9 and a place up to 32,768; so 16, "more than 10,922 segments", is never given.
-use Prim.Native.Nat.{ℕ, zero, suc, _+_, _*_, _≤_}
+use Prim.Native.Nat.{ℕ, zero, suc, _+_, _*_, _≤_, _<_}
 use native.Mathlib.Omega.{arith}
-use mathlib.Core.Path.{_≡_, refl, subst}
+use mathlib.Core.Path.{_≡_, refl, ap, subst, _∙_}
 use mathlib.Core.Bool.{Bool, true, false, not}
 use mathlib.Core.List.{List, [], _∷_, _++_}
-use borrow.Author.Tests.{ltb-true, leb-true, le-leb}
+use borrow.Author.Tests.{ltb-true, leb-true, eqb-true, le-leb}
 use lib.Dec.{leb, ltb, eqb}
 use lib.ListN.{length, getD, drop, length-take}
-use Rattle.text.specs.Letter.{letter, every, firstNot}
-use Rattle.text.specs.Text.{Segment}
+use Rattle.text.specs.Letter.{letter, every}
+use Rattle.text.specs.Text.{Segment, Text}
 use Rattle.text.specs.Refusal.{Outcome, ok, refused, demand, after}
 use Rattle.text.proofs.Letters.{first-le}
 use Rattle.stretch.specs.Bytes.{greatestStretch, word}
+use Rattle.stretch.specs.Pieces.{openAt, variantsAt, headAt, lettersAt, nextOf, wrongPlace, mostInStretch, closedAt}
+use Rattle.stretch.specs.Reading.{Taken, valueOf, among, formed, many, variantAt, segmentAt, stretchOf, loneSegment, segmentOf}
+use Rattle.stretch.proofs.Walks.{walk-length}
+use Rattle.stretch.proofs.Frames.{Opens}
 use Rattle.stretch.proofs.Decoding.{segments-read, stretch-room}
-use Rattle.stretch.specs.Reading.{Taken, many, whole, behind, lettersAt, among, mostInStretch, variantAt, segmentAt}
-use Rattle.stretch.specs.Reading.{stretchOf, loneSegment, segmentOf}
 
 -- such a number and place
 pub record Low (n p : ℕ) : Type 0 where
@@ -56,47 +58,65 @@ module _ (s : List ℕ) where
 
   module _ (short : length s ≤ greatestStretch) where
     variant-kept : (seen : Segment) (at : ℕ) → at ≤ length s → Kept Inside (variantAt s seen at)
-    unfolding variantAt
+    unfolding variantAt formed headAt
     variant-kept seen at l =
-        demand-kept Inside (leb (behind s at) (length s)) 5 at _ (omega arith) λ whole.
-        let fits : behind s at ≤ length s = leb-true (behind s at) (length s) whole in
-        let wrong : Low 7 (at + 2 + firstNot letter (lettersAt s at)) =
-        omega (arith, first-le letter (lettersAt s at), length-take (word s at) (drop (at + 2) s)) in
-        demand-kept Inside (every letter (lettersAt s at)) 7 (at + 2 + firstNot letter (lettersAt s at)) _ wrong λ _.
-        demand-kept Inside (not (among (lettersAt s at) seen)) 8 at _ (omega arith) λ _.
+        after-kept (λ _. nextOf s at ≤ length s) Inside (headAt s at) _
+        (demand-kept (λ _. nextOf s at ≤ length s) (leb (nextOf s at) (length s)) 5 at _ (omega arith) (leb-true (nextOf s at) (length s)))
+        λ _ _ fits.
+        let wrong : Low 7 (wrongPlace s at) = omega (arith, first-le letter (lettersAt s at), length-take (word s at) (drop (at + 2) s)) in
+        demand-kept Inside (every letter (lettersAt s at)) 7 (wrongPlace s at) _ wrong λ _.
+        demand-kept Inside (not (among (valueOf s at) seen)) 8 at _ (omega arith) λ _.
         fits
 
     segment-kept : (at : ℕ) → at ≤ length s → Kept Inside (segmentAt s at)
-    unfolding segmentAt
+    unfolding segmentAt variantsAt
     segment-kept at l =
-        demand-kept Inside (ltb at (length s)) 5 at _ (omega arith) λ inside.
-        demand-kept Inside (ltb 0 (getD s at 0)) 6 at _ (omega arith) λ _.
-        many-kept (variantAt s) variant-kept (getD s at 0) [] (at + 1) (omega (arith, ltb-true at (length s) inside))
+        after-kept (λ _. at < length s) Inside (variantsAt s at) _
+        (demand-kept (λ _. at < length s) (ltb at (length s)) 5 at _ (omega arith) λ inside.
+        demand-kept (λ _. at < length s) (ltb 0 (getD s at 0)) 6 at _ (omega arith) λ _.
+        ltb-true at (length s) inside)
+        λ n _ inside. many-kept (variantAt s) variant-kept n [] (at + 1) (omega arith)
 
-  -- bytes left behind the end are refused where they begin
-  whole-kept : {A : Type 0} → length s ≤ greatestStretch → (x : Taken A ℕ) → Inside x → Kept Any (whole s x)
-  whole-kept short x l = demand-kept Any (eqb (x .next) (length s)) 9 (x .next) _ (omega arith) (λ _. tt)
+  -- bytes left behind the end are refused where they begin; where none are, the segments are few
+  closed-kept :
+      (at n : ℕ) → length s ≤ greatestStretch → at ≤ length s → (at ≡ length s → n ≤ mostInStretch) → Kept Any (closedAt s at n)
+  unfolding closedAt
+  closed-kept at n short l few =
+      demand-kept Any (eqb at (length s)) 9 at _ (omega arith) λ end.
+      let low : n ≤ mostInStretch = few (eqb-true at (length s) end) in
+      rw (le-leb n mostInStretch low) tt
+
+  open-kept : Kept (Opens s) (openAt s)
+  unfolding openAt
+  open-kept =
+      demand-kept (Opens s) (leb (length s) greatestStretch) 4 0 _ (omega arith) λ short.
+      demand-kept (Opens s) (leb 2 (length s)) 5 0 _ (omega arith) λ two.
+      record { short = leb-true (length s) greatestStretch short; counted = leb-true 2 (length s) two; count = refl }
 
   stretch-kept : Kept Any (stretchOf s)
   unfolding stretchOf
   stretch-kept =
-      demand-kept Any (leb (length s) greatestStretch) 4 0 _ (omega arith) λ fits.
-      let short : length s ≤ greatestStretch = leb-true (length s) greatestStretch fits in
-      demand-kept Any (leb 2 (length s)) 5 0 _ (omega arith) λ counted.
-      let two : 2 ≤ length s = leb-true 2 (length s) counted in
-      after-kept Inside Any (many (λ _. segmentAt s) (word s 0) [] 2) _
-      (many-kept (λ _. segmentAt s) (λ _. segment-kept short) (word s 0) [] 2 two) λ x e k.
-      after-kept Any Any (whole s x) _ (whole-kept short x k) λ t w _.
-      let room : 2 + 3 * length t ≤ length s = stretch-room s t (segments-read s x t short two e w) in
-      let few : length t ≤ mostInStretch = omega arith in
-      rw (le-leb (length t) mostInStretch few) tt
+      after-kept (Opens s) Any (openAt s) _ open-kept λ n _ o.
+      after-kept Inside Any (many (λ _. segmentAt s) n [] 2) _
+      (many-kept (λ _. segmentAt s) (λ _. segment-kept (o .short)) n [] 2 (o .counted)) λ x e k.
+      after-kept Any Any (closedAt s (x .next) n) _ (closed-kept (x .next) n (o .short) k (few n o x e)) (λ _ _ _. tt)
+    where
+      -- where the segments end with the bytes, they take three bytes each
+      few : (n : ℕ) → Opens s n → (x : Taken Text ℕ) → many (λ _. segmentAt s) n [] 2 ≡ ok x → x .next ≡ length s → n ≤ mostInStretch
+      few n o x e end =
+          let all : many (λ _. segmentAt s) n [] 2 ≡ ok (record { value = x .value; next = length s }) =
+          e ∙ ap (λ (at : ℕ). ok (record { value = x .value; next = at })) end in
+          let room : 2 + 3 * length (x .value) ≤ length s = stretch-room s (x .value) (segments-read s n (x .value) o all) in
+          let count : length (x .value) ≡ n = walk-length (λ _. segmentAt s) 2 n (x .value) (length s) all in
+          omega (arith, o .short)
 
   segment-of-kept : Kept Any (segmentOf s)
   unfolding segmentOf loneSegment
   segment-of-kept =
       demand-kept Any (leb (length s) greatestStretch) 4 0 _ (omega arith) λ fits.
       let short : length s ≤ greatestStretch = leb-true (length s) greatestStretch fits in
-      after-kept Inside Any (segmentAt s 0) (whole s) (segment-kept short 0 (omega arith)) (λ x _. whole-kept short x)
+      after-kept Inside Any (segmentAt s 0) _ (segment-kept short 0 (omega arith)) λ x _ k.
+      after-kept Any Any (closedAt s (x .next) 1) _ (closed-kept (x .next) 1 short k (λ _. omega arith)) (λ _ _ _. tt)
 
 -- the refusals of a stretch and of a lone segment are low
 pub stretch-low : (s : List ℕ) (n p : ℕ) → stretchOf s ≡ refused n p → Low n p

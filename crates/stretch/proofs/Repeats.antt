@@ -10,11 +10,12 @@ use lib.ListN.{length, take, drop, length-take, length-drop}
 use Rattle.text.specs.Text.{Variant}
 use Rattle.text.specs.Compare.{same}
 use Rattle.text.proofs.Strings.{same-lengths}
-use Rattle.stretch.specs.Reading.{lettersAt, behind}
+use Rattle.text.specs.Bits.{anyOf}
+use Rattle.stretch.specs.Pieces.{lettersAt, nextOf, repeatedBefore, repeats}
+use Rattle.stretch.specs.Reading.{among, valuesFrom}
 use Rattle.stretch.specs.Skips.{stepped, behindVariants, UpTo}
-use Rattle.stretch.specs.Variants.{repeated, repeatedBefore, repeats}
 use Rattle.stretch.proofs.Skips.{variants-grow}
-use Rattle.stretch.proofs.Heads.{Whole}
+use Rattle.stretch.proofs.Heads.{Whole, value-part}
 
 module _ (s : List ℕ) (v : Variant) (first at : ℕ) where
   -- no room for the variant itself
@@ -40,7 +41,7 @@ before-none s v at zero place l = refl
 before-none s v at (suc n) place l = rw (le-ltb place at l)
 
 module _ (s : List ℕ) (v : Variant) (at rest place : ℕ) (enough : at ≤ place + rest) (l : place < at) where
-  one-more : repeatedBefore s v at rest place ≡ (same v (lettersAt s place) || repeatedBefore s v at (rest - 1) (behind s place))
+  one-more : repeatedBefore s v at rest place ≡ (same v (lettersAt s place) || repeatedBefore s v at (rest - 1) (nextOf s place))
   unfolding repeatedBefore
   one-more =
       let e : rest ≡ suc (rest - 1) = omega arith in
@@ -49,39 +50,38 @@ module _ (s : List ℕ) (v : Variant) (at rest place : ℕ) (enough : at ≤ pla
   pub before-found : same v (lettersAt s place) ≡ true → repeatedBefore s v at rest place ≡ true
   before-found e = one-more ∙ rw e
 
-  pub before-other : same v (lettersAt s place) ≡ false → repeatedBefore s v at rest place ≡ repeatedBefore s v at (rest - 1) (behind s place)
+  pub before-other : same v (lettersAt s place) ≡ false → repeatedBefore s v at rest place ≡ repeatedBefore s v at (rest - 1) (nextOf s place)
   before-other e = one-more ∙ rw e
 
 -- the k variants from `place` on that end at `at` are all that begin before it
-module _ (s : List ℕ) (v : Variant) (at : ℕ) (inside : at ≤ length s) where
-  before-all : (k n place : ℕ) → behindVariants s k place ≡ at → k ≤ n → repeatedBefore s v at n place ≡ repeated s v k place
-  unfolding repeatedBefore repeated stepped
+module _ (s : List ℕ) (v : Variant) (at : ℕ) where
+  before-all : (k n place : ℕ) → behindVariants s k place ≡ at → k ≤ n → repeatedBefore s v at n place ≡ among v (valuesFrom s k place)
+  unfolding repeatedBefore among anyOf valuesFrom stepped
   before-all zero zero place e l = refl
   before-all zero (suc n) place e l =
       let here : at ≤ place = omega arith in
       rw (le-ltb place at here)
   before-all (suc k) zero place e l = absurd (let z : ⊥ = omega arith in z)
   before-all (suc k) (suc n) place e l =
-      let others : behindVariants s k (behind s place) ≡ at = e in
-      let grown : behind s place ≤ at = omega (arith, variants-grow s k (behind s place)) in
+      let others : behindVariants s k (nextOf s place) ≡ at = e in
+      let grown : nextOf s place ≤ at = omega (arith, variants-grow s k (nextOf s place)) in
       let ahead : place < at = omega arith in
-      let whole : behind s place ≤ length s = omega arith in
-      rw (lt-ltb place at ahead, le-leb (behind s place) (length s) whole, before-all k n (behind s place) others (omega arith))
+      rw (lt-ltb place at ahead, before-all k n (nextOf s place) others (omega arith), value-part s place)
 
   few : (k place : ℕ) → behindVariants s k place ≡ at → place + k ≤ at
   unfolding stepped
   few zero place e = omega arith
   few (suc k) place e =
-      let others : behindVariants s k (behind s place) ≡ at = e in
-      omega (arith, few k (behind s place) others)
+      let others : behindVariants s k (nextOf s place) ≡ at = e in
+      omega (arith, few k (nextOf s place) others)
 
 -- the test before a variant that a walk has reached
 pub repeats-walk :
     (s : List ℕ) (first k at start next : ℕ) → UpTo s first k at → Whole s at start next →
-    repeats s (take (next - start) (drop start s)) first at ≡ repeated s (take (next - start) (drop start s)) k first
+    repeats s (take (next - start) (drop start s)) first at ≡ among (take (next - start) (drop start s)) (valuesFrom s k first)
 repeats-walk s first k at start next up w =
     let v : Variant = take (next - start) (drop start s) in
     let long : length v ≡ next - start = length-take (next - start) (drop start s) ∙ omega (arith, length-drop start s, w .starts, w .ends, w .inside) in
     let room : at + 2 + length v ≤ length s = omega (arith, w .starts, w .ends, w .inside) in
-    let enough : k ≤ at = omega (arith, few s v at (up .inside) k first (up .ends)) in
-    repeats-room s v first at room ∙ before-all s v at (up .inside) k at first (up .ends) enough
+    let enough : k ≤ at = omega (arith, few s v at k first (up .ends)) in
+    repeats-room s v first at room ∙ before-all s v at k at first (up .ends) enough

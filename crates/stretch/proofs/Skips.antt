@@ -4,7 +4,7 @@ use native.Mathlib.Omega.{arith}
 use mathlib.Core.Path.{_≡_, refl, sym, ap, _∙_}
 use mathlib.Core.List.{List}
 use lib.ListN.{getD}
-use Rattle.stretch.specs.Reading.{behind}
+use Rattle.stretch.specs.Pieces.{nextOf}
 use Rattle.stretch.specs.Skips.{stepped, behindVariants, behindSegment}
 
 module _ (step : ℕ → ℕ) where
@@ -47,11 +47,11 @@ module _ (step : ℕ → ℕ) where
         omega (arith, m .rest, stepped-grows (k - (i + 1)) (step at))
 
 module _ (s : List ℕ) where
-  pub behind-grows : (at : ℕ) → at ≤ behind s at
+  pub behind-grows : (at : ℕ) → at ≤ nextOf s at
   behind-grows at = omega arith
 
   pub variants-grow : (k at : ℕ) → at ≤ behindVariants s k at
-  variants-grow = stepped-grows (behind s) behind-grows
+  variants-grow = stepped-grows (nextOf s) behind-grows
 
   pub segment-grows : (at : ℕ) → at ≤ behindSegment s at
   segment-grows at = omega (arith, variants-grow (getD s at 0) (at + 1))

@@ -2,29 +2,28 @@
 -- the tests that lead there.
 use Prim.Native.Nat.{ℕ, _+_, _≤_, _<_}
 use native.Mathlib.Omega.{arith}
-use mathlib.Core.Path.{_≡_, ap, subst}
+use mathlib.Core.Path.{_≡_, sym, ap, _∙_}
 use mathlib.Core.List.{List, [], _∷_, _++_}
-use borrow.Author.Tests.{ltb-true, leb-true, le-leb, lt-leb, eq-eqb, ne-eqb}
-use lib.Dec.{leb, ltb}
-use lib.ListN.{length, getD}
+use borrow.Author.Tests.{lt-leb}
+use lib.ListN.{length}
 use Rattle.text.specs.Text.{Variant, Segment, Text, weight, total, size}
 use Rattle.text.specs.Refusal.{ok, refused}
 use Rattle.text.proofs.Sizes.{total-each}
-use Rattle.text.proofs.Outcomes.{ok-inj, demand-met, after-met}
 use Rattle.stretch.specs.Bytes.{greatestStretch, word}
-use Rattle.stretch.specs.Reading.{Taken, variantAt, many, segmentAt, whole, stretchOf, mostInStretch}
+use Rattle.stretch.specs.Pieces.{openAt, mostInStretch}
+use Rattle.stretch.specs.Reading.{Taken, variantAt, many, segmentAt, stretchOf}
 use Rattle.stretch.specs.Answers.{checking}
 use Rattle.stretch.proofs.Walks.{Step, walk-refused, walk-length, Summed, summed-none, summed-more, many-steps, many-length}
-use Rattle.stretch.proofs.Segments.{variant-read, variant-steps}
+use Rattle.stretch.proofs.Frames.{open-cut, open-counts, closed-left, closed-many, closed-sound, segment-met, stretch-met}
+use Rattle.stretch.proofs.Units.{variant-read}
+use Rattle.stretch.proofs.Segments.{variant-steps}
 
 -- a segment counts no more than its bytes
 pub segment-steps : (s : List ℕ) (seen : List Segment) (at : ℕ) (x : Taken Segment ℕ) → segmentAt s at ≡ ok x → Step (total weight) (length s) at x
-unfolding segmentAt total
+unfolding total
 segment-steps s seen at x e =
-    let a = demand-met (ltb at (length s)) 5 at _ x e in
-    let b = demand-met (ltb 0 (getD s at 0)) 6 at _ x (a .1) in
-    let inside : at < length s = ltb-true at (length s) (a .0) in
-    let m = many-steps (variantAt s) weight (length s) (variant-steps s) (getD s at 0) [] (at + 1) x (omega arith) (b .1) in
+    let t = segment-met s at x e in
+    let m = many-steps (variantAt s) weight (length s) (variant-steps s) (t .count) [] (at + 1) x (omega (arith, t .counts .inside)) (t .all) in
     record { counts = omega (arith, m .0); inside = m .1 }
 
 -- the segments that stand one after another from `from` on, walked and summed up
@@ -49,18 +48,21 @@ module _ (s : List ℕ) (from k : ℕ) (seen : Text) (at size : ℕ) (m : InStre
 -- what reading a stretch answers, from the tests and the walk
 module _ (s : List ℕ) where
   pub stretch-long : greatestStretch < length s → stretchOf s ≡ refused 4 0
-  unfolding stretchOf
+  unfolding stretchOf openAt
   stretch-long l = rw (lt-leb (length s) greatestStretch l)
 
   module _ (short : length s ≤ greatestStretch) where
     pub stretch-cut : length s < 2 → stretchOf s ≡ refused 5 0
     unfolding stretchOf
-    stretch-cut l = rw (le-leb (length s) greatestStretch short, lt-leb 2 (length s) l)
+    stretch-cut l = rw (open-cut s short l)
 
     module _ (some : 2 ≤ length s) (n : ℕ) (e : n ≡ word s 0) where
+      opens : openAt s ≡ ok n
+      opens = open-counts s short some ∙ ap ok (sym e)
+
       pub stretch-refused : (j p : ℕ) → many (λ _. segmentAt s) n [] 2 ≡ refused j p → stretchOf s ≡ refused j p
       unfolding stretchOf
-      stretch-refused j p r = rw (le-leb (length s) greatestStretch short, le-leb 2 (length s) some, ← e, r)
+      stretch-refused j p r = rw (opens, r)
 
       module _ (seen : Text) (at : ℕ) (all : many (λ _. segmentAt s) n [] 2 ≡ ok (record { value = seen; next = at })) where
         pub stretch-count : length seen ≡ n
@@ -68,18 +70,16 @@ module _ (s : List ℕ) where
 
         pub stretch-left : (at ≡ length s → ⊥) → stretchOf s ≡ refused 9 at
         unfolding stretchOf
-        stretch-left l = rw (le-leb (length s) greatestStretch short, le-leb 2 (length s) some, ← e, all, ne-eqb at (length s) l)
+        stretch-left l = rw (opens, all, closed-left s at n l)
 
         module _ (end : at ≡ length s) where
           pub stretch-many : mostInStretch < n → stretchOf s ≡ refused 16 0
           unfolding stretchOf
-          stretch-many l =
-              rw (le-leb (length s) greatestStretch short, le-leb 2 (length s) some, ← e, all, eq-eqb at (length s) end, stretch-count, lt-leb n mostInStretch l)
+          stretch-many l = rw (opens, all, closed-many s at n end l)
 
           pub stretch-sound : n ≤ mostInStretch → stretchOf s ≡ ok seen
           unfolding stretchOf
-          stretch-sound l =
-              rw (le-leb (length s) greatestStretch short, le-leb 2 (length s) some, ← e, all, eq-eqb at (length s) end, stretch-count, le-leb n mostInStretch l)
+          stretch-sound l = rw (opens, all, closed-sound s at n end l)
 
 -- what a check tells
 pub check-refused : (s : List ℕ) (j p : ℕ) → stretchOf s ≡ refused j p → checking s ≡ refused j p
@@ -92,25 +92,21 @@ check-sound s t n sum e count whole = rw (e, whole) (ap (λ (j : ℕ). ok (recor
 
 -- a segment takes at least three bytes
 pub segment-bytes : (s : List ℕ) (at : ℕ) (x : Taken Segment ℕ) → segmentAt s at ≡ ok x → at + 3 ≤ x .next
-unfolding segmentAt total
+unfolding total
 segment-bytes s at x e =
-    let a = demand-met (ltb at (length s)) 5 at _ x e in
-    let b = demand-met (ltb 0 (getD s at 0)) 6 at _ x (a .1) in
-    let some : 0 < getD s at 0 = ltb-true 0 (getD s at 0) (b .0) in
-    let inside : at < length s = ltb-true at (length s) (a .0) in
-    let m = many-steps (variantAt s) (λ v. 2) (length s) two (getD s at 0) [] (at + 1) x (omega arith) (b .1) in
-    omega (arith, m .0, total-each 2 (x .value), many-length (variantAt s) (getD s at 0) [] (at + 1) x (b .1))
+    let t = segment-met s at x e in
+    let n = t .count in
+    let m = many-steps (variantAt s) (λ v. 2) (length s) two n [] (at + 1) x (omega (arith, t .counts .inside)) (t .all) in
+    omega (arith, m .0, total-each 2 (x .value), many-length (variantAt s) n [] (at + 1) x (t .all), t .counts .some)
   where
     two : (seen : Segment) (at : ℕ) (x : Taken Variant ℕ) → variantAt s seen at ≡ ok x → Step (λ v. 2) (length s) at x
     two seen at x e = let r = variant-read s seen at x e in rw (r .is) (record { counts = omega arith; inside = r .inside })
 
--- an accepted stretch has at most 10,922 segments
+-- an accepted stretch has at most 32,768 bytes and 10,922 segments
+pub stretch-short : (s : List ℕ) (t : Text) → stretchOf s ≡ ok t → length s ≤ greatestStretch
+stretch-short s t e = stretch-met s t e .opens .short
+
 pub stretch-most : (s : List ℕ) (t : Text) → stretchOf s ≡ ok t → length t ≤ mostInStretch
-unfolding stretchOf
 stretch-most s t e =
-    let a = demand-met (leb (length s) greatestStretch) 4 0 _ t e in
-    let b = demand-met (leb 2 (length s)) 5 0 _ t (a .1) in
-    let c = after-met (many (λ _. segmentAt s) (word s 0) [] 2) _ t (b .1) in
-    let d = after-met (whole s (c .0)) _ t (c .2) in
-    let f = demand-met (leb (length (d .0)) mostInStretch) 16 0 _ t (d .2) in
-    subst (λ (u : Text). length u ≤ mostInStretch) (ok-inj (f .1)) (leb-true (length (d .0)) mostInStretch (f .0))
+    let m = stretch-met s t e in
+    omega (arith, m .few, walk-length (λ _. segmentAt s) 2 (m .count) t (length s) (m .all))

@@ -1,39 +1,110 @@
--- Laws of the unit that checks one variant: each of its answers, from the tests that lead there; and that it answers what reading
--- the variant behind those seen answers.
+-- Laws of one variant of a walk: what reading it behind those before it answers, from what its head and its verdict tell.
 use Prim.Native.Nat.{ℕ, _+_, _-_, _≤_, _<_}
 use native.Mathlib.Omega.{arith}
-use mathlib.Core.Path.{_≡_, refl, ap, _∙_}
-use mathlib.Core.Bool.{true, false, not}
+use mathlib.Core.Path.{_≡_, refl, sym, ap, ap₂, _∙_}
+use mathlib.Core.Bool.{Bool, true, false, not}
 use mathlib.Core.List.{List}
+use borrow.Author.Tests.{leb-true}
 use lib.ListN.{length, take, drop}
 use Rattle.text.specs.Letter.{letter, every, firstNot}
-use Rattle.text.specs.Refusal.{ok, refused}
+use Rattle.text.specs.Text.{Variant, Segment}
+use Rattle.text.specs.Refusal.{Outcome, ok, refused, after}
+use Rattle.text.specs.declared.refusal.Refusal.{Refusal}
 use Rattle.text.proofs.Letters.{first-le, first-every, first-not-every}
-use Rattle.text.proofs.Outcomes.{demand-met, after-met}
-use Rattle.stretch.specs.Reading.{lettersAt, behind}
-use Rattle.stretch.specs.Variants.{headAt, repeated, soundAt}
-use Rattle.stretch.proofs.Heads.{Whole, head-cut, head-found, head-is, whole-part, whole-length}
+use Rattle.text.proofs.Outcomes.{ok-inj, demand-met, after-met, after-demand, told-met}
+use Rattle.stretch.specs.Skips.{UpTo}
+use Rattle.stretch.specs.Pieces.{lettersAt, nextOf, Span, headAt, misspeltAt, judgedAt, toldPart, toldVerdict}
+use Rattle.stretch.specs.Reading.{Taken, among, valueOf, formed, variantAt, valuesFrom}
+use Rattle.stretch.specs.Variants.{soundAt}
+use Rattle.stretch.specs.declared.pieces.Part.{Part}
+use Rattle.stretch.specs.declared.pieces.Verdict.{Verdict}
+use Rattle.stretch.specs.declared.pieces.Verdict.the-variants.{Sound}
+use Rattle.stretch.proofs.Heads.{Whole, head-found, head-is, whole-part, whole-length, value-part}
+use Rattle.stretch.proofs.Repeats.{repeats-walk}
 
-pub sound-refused : (s : List ℕ) (first k at n p : ℕ) → headAt s at ≡ refused n p → soundAt s first k at ≡ refused n p
-unfolding soundAt
-sound-refused s first k at n p e = rw e
+-- a variant that was read: its letters, whole, and where the next one begins
+pub record Read (s : List ℕ) (seen : Segment) (at : ℕ) (x : Taken Variant ℕ) : Type 0 where
+  pub inside : nextOf s at ≤ length s
+  pub letters : every letter (lettersAt s at) ≡ true
+  pub new : not (among (valueOf s at) seen) ≡ true
+  pub is : x ≡ record { value = valueOf s at; next = nextOf s at }
 
-pub sound-cut : (s : List ℕ) (first k at : ℕ) → length s < behind s at → soundAt s first k at ≡ refused 5 at
-sound-cut s first k at l = sound-refused s first k at 5 at (head-cut s at l)
+pub variant-read : (s : List ℕ) (seen : Segment) (at : ℕ) (x : Taken Variant ℕ) → variantAt s seen at ≡ ok x → Read s seen at x
+unfolding variantAt formed
+variant-read s seen at x e =
+    let h = after-met (headAt s at) _ x e in
+    let b = demand-met _ 7 _ _ x (h .2) in
+    let c = demand-met _ 8 at _ x (b .1) in
+    record { inside = head-is s at _ _ (h .1) .inside; letters = b .0; new = c .0; is = sym (ok-inj (c .1)) }
 
--- a sound variant is whole
-pub sound-whole : (s : List ℕ) (first k at start next : ℕ) → soundAt s first k at ≡ ok (record { start = start; next = next }) → Whole s at start next
-unfolding soundAt
-sound-whole s first k at start next e =
-    let t = after-met (headAt s at) _ (record { start = start; next = next }) e in
-    let a = demand-met (every letter (lettersAt s at)) 7 _ _ (record { start = start; next = next }) (t .2) in
-    let b = demand-met (not (repeated s (lettersAt s at) k first)) 8 at _ (record { start = start; next = next }) (a .1) in
-    head-is s at start next (t .1 ∙ b .1)
+-- it is cut off
+pub head-refused : (s : List ℕ) (at : ℕ) {r : Part} {f : Refusal} → toldPart r ≡ headAt s at → r ≡ Part.Refused f → (seen : Segment)
+    → variantAt s seen at ≡ refused (f .number) (f .place)
+unfolding variantAt formed
+head-refused s at told is seen = rw (← told, is)
 
-module _ (s : List ℕ) (first k at start next : ℕ) (w : Whole s at start next) where
-  here : headAt s at ≡ ok (record { start = at + 2; next = behind s at })
+-- it is whole, and was judged behind the k of its segment that stand from `first` on
+module _ {s : List ℕ} {first k at start next : ℕ} (up : UpTo s first k at) (w : Whole s at start next) where
+  here : headAt s at ≡ ok (record { start = at + 2; next = nextOf s at })
   here = head-found s at _ refl (w .inside)
 
+  letters : Variant
+  letters = take (next - start) (drop start s)
+
+  spells : letters ≡ valueOf s at
+  unfolding letters
+  spells = whole-part s at start next w ∙ sym (value-part s at)
+
+  -- what the verdict on its letters is
+  judged-is : (b : Bool) → every letter letters ≡ b
+      → after (judgedAt s first at letters (not b)) (λ _. ok (record { value = valueOf s at; next = nextOf s at }))
+      ≡ variantAt s (valuesFrom s k first) at
+  unfolding letters judgedAt misspeltAt variantAt formed
+  judged-is true good =
+      rw (here, ← whole-part s at start next w, good, repeats-walk s first k at start next up w, ← spells) (simp after-demand)
+  judged-is false bad = rw (here, ← whole-part s at start next w, bad)
+
+  module _ {wrong : Bool} (spelt : wrong ≡ not (every letter (take (next - start) (drop start s))))
+      {v : Verdict} (told : toldVerdict v ≡ judgedAt s first at (take (next - start) (drop start s)) wrong) where
+    pub judged-refused : {f : Refusal} → v ≡ Verdict.Refused f → variantAt s (valuesFrom s k first) at ≡ refused (f .number) (f .place)
+    unfolding letters
+    judged-refused is = sym (judged-is _ refl) ∙ rw (← spelt, ← told, is)
+
+    pub judged-sound : v ≡ Sound → variantAt s (valuesFrom s k first) at ≡ ok (record { value = valueOf s at; next = next })
+    unfolding letters
+    judged-sound is = sym (judged-is _ refl) ∙ rw (← spelt, ← told, is, w .ends)
+
+-- the same told by the span of the variant
+pub sound-refused : (s : List ℕ) (first k at n p : ℕ) → headAt s at ≡ refused n p → soundAt s first k at ≡ refused n p
+unfolding soundAt variantAt formed
+sound-refused s first k at n p e = rw e
+
+pub sound-not : (s : List ℕ) (first k at n p : ℕ) → variantAt s (valuesFrom s k first) at ≡ refused n p → soundAt s first k at ≡ refused n p
+unfolding soundAt
+sound-not s first k at n p e = rw e
+
+pub sound-is : (s : List ℕ) (first k at start next : ℕ) → Whole s at start next
+    → variantAt s (valuesFrom s k first) at ≡ ok (record { value = valueOf s at; next = next })
+    → soundAt s first k at ≡ ok (record { start = start; next = next })
+unfolding soundAt
+sound-is s first k at start next w e = rw (e, w .starts)
+
+-- a sound variant is whole, and was read
+pub sound-read : (s : List ℕ) (first k at start next : ℕ) → soundAt s first k at ≡ ok (record { start = start; next = next })
+    → Whole s at start next × (variantAt s (valuesFrom s k first) at ≡ ok (record { value = valueOf s at; next = next }))
+unfolding soundAt
+sound-read s first k at start next e =
+    let v = valuesFrom s k first in
+    let t = told-met (variantAt s v at) (λ x. record { start = at + 2; next = x .next }) (record { start = start; next = next }) e in
+    let r = variant-read s v at (t .0) (t .1) in
+    let same : t .0 .next ≡ nextOf s at = ap (λ (x : Taken Variant ℕ). x .next) (r .is) in
+    let ends : next ≡ nextOf s at = sym (ap (λ (x : Span). x .next) (t .2)) ∙ same in (
+      record { starts = sym (ap (λ (x : Span). x .start) (t .2)); ends = ends; inside = r .inside },
+      t .1 ∙ ap ok (r .is) ∙ rw ends,
+    )
+
+-- the same from the tests
+module _ (s : List ℕ) (first k at start next : ℕ) (w : Whole s at start next) where
   long : length (lettersAt s at) ≡ next - start
   long = omega (arith, whole-length s at start next w)
 
@@ -42,10 +113,10 @@ module _ (s : List ℕ) (first k at start next : ℕ) (w : Whole s at start next
     wrong = e ∙ ap (firstNot letter) (whole-part s at start next w)
 
     pub sound-wrong : x < next - start → soundAt s first k at ≡ refused 7 (start + x)
-    unfolding soundAt
+    unfolding soundAt variantAt formed
     sound-wrong l =
         let short : firstNot letter (lettersAt s at) < length (lettersAt s at) = omega (arith, wrong, long) in
-        rw (here, first-not-every letter (lettersAt s at) short, wrong, w .starts)
+        rw (head-found s at _ refl (w .inside), first-not-every letter (lettersAt s at) short, wrong, w .starts)
 
     module _ (l : next - start ≤ x) where
       right : every letter (lettersAt s at) ≡ true
@@ -53,10 +124,13 @@ module _ (s : List ℕ) (first k at start next : ℕ) (w : Whole s at start next
           first-every letter (lettersAt s at)
           (let all : firstNot letter (lettersAt s at) ≡ length (lettersAt s at) = omega (arith, wrong, long, first-le letter (lettersAt s at)) in all)
 
-      pub sound-repeated : repeated s (take (next - start) (drop start s)) k first ≡ true → soundAt s first k at ≡ refused 8 at
-      unfolding soundAt
-      sound-repeated r = rw (here, right, rw (whole-part s at start next w) at r)
+      own : take (next - start) (drop start s) ≡ valueOf s at
+      own = whole-part s at start next w ∙ sym (value-part s at)
 
-      pub sound-ok : repeated s (take (next - start) (drop start s)) k first ≡ false → soundAt s first k at ≡ ok (record { start = start; next = next })
-      unfolding soundAt
-      sound-ok r = rw (here, right, rw (whole-part s at start next w) at r, w .starts, w .ends)
+      pub sound-repeated : among (take (next - start) (drop start s)) (valuesFrom s k first) ≡ true → soundAt s first k at ≡ refused 8 at
+      unfolding soundAt variantAt formed
+      sound-repeated r = rw (head-found s at _ refl (w .inside), right, rw own at r)
+
+      pub sound-ok : among (take (next - start) (drop start s)) (valuesFrom s k first) ≡ false → soundAt s first k at ≡ ok (record { start = start; next = next })
+      unfolding soundAt variantAt formed
+      sound-ok r = rw (head-found s at _ refl (w .inside), right, rw own at r, w .starts, w .ends)

@@ -1,5 +1,6 @@
 -- The bytes of a stretch and their meaning, by document 01 ("Bytes of a stretch", "What can be called").
 pub mod Bytes
+pub mod Pieces
 pub mod Reading
 pub mod Variants
 pub mod Encoding

@@ -3,7 +3,7 @@ use Prim.Native.Nat.{ℕ, zero, suc, _+_, _≤_}
 use mathlib.Core.Path.{_≡_}
 use mathlib.Core.List.{List}
 use lib.ListN.{length, getD}
-use Rattle.stretch.specs.Reading.{behind}
+use Rattle.stretch.specs.Pieces.{nextOf}
 
 -- the place after k steps
 unfoldable pub stepped : (ℕ → ℕ) → ℕ → ℕ → ℕ
@@ -12,7 +12,7 @@ stepped step (suc k) at = stepped step k (step at)
 
 -- the place behind the k variants from `at` on
 abbrev pub behindVariants : List ℕ → ℕ → ℕ → ℕ
-behindVariants s k at = stepped (behind s) k at
+behindVariants s k at = stepped (nextOf s) k at
 
 -- the k variants from `first` on are whole and end at `at`
 pub record UpTo (s : List ℕ) (first k at : ℕ) : Type 0 where

@@ -1,11 +1,12 @@
 // The check of a whole stretch, in one walk.
-use crate::bytes::word;
+use crate::pieces::Opened;
+use crate::pieces::Verdict;
+use crate::pieces::closed;
+use crate::pieces::open;
 use crate::segment::Walked;
 use crate::segment::segment_at;
 use text::Refusal;
-use text::refusal;
 ghost use mathlib.Core.Path.{_≡_};
-ghost use Rattle.text.specs.Refusal.{Outcome};
 ghost use Rattle.stretch.specs.Answers.{toldChecked, checking};
 
 // The segment count and the size of a sound stretch.
@@ -18,21 +19,19 @@ pub enum Checked {
 pub fn check(stretch: &[u8]) -> Checked
     ensures { λ r. ⌜ toldChecked r ≡ checking (now (stretch .entry)) ⌝ }
 {
-    let end = stretch.len();
-    if refusal::GREATEST_STRETCH < end {
-        return refused(refusal::STRETCH_LONG, 0);
-    }
-    if end < 2 {
-        return refused(refusal::BYTES_END, 0);
-    }
-    let segments = word(stretch, 0);
+    let segments = match open(stretch) {
+        Opened::Refused(wrong) => {
+            return Checked::Refused(wrong);
+        }
+        Opened::Segments(segments) => segments,
+    };
     let mut at = 2;
     let mut size = 0;
     let mut k = 0;
     while k < segments {
         match segment_at(stretch, at) {
-            Walked::Refused(refused) => {
-                return Checked::Refused(refused);
+            Walked::Refused(wrong) => {
+                return Checked::Refused(wrong);
             }
             Walked::To { next, size: more } => {
                 size += more;
@@ -41,17 +40,8 @@ pub fn check(stretch: &[u8]) -> Checked
             }
         }
     }
-    if at != end {
-        return refused(refusal::BYTES_LEFT, at);
+    match closed(stretch, at, segments) {
+        Verdict::Refused(wrong) => Checked::Refused(wrong),
+        Verdict::Sound => Checked::Sound { segments, size },
     }
-    if refusal::MOST_IN_STRETCH < segments {
-        return refused(refusal::SEGMENTS_MANY, 0);
-    }
-    Checked::Sound { segments, size }
-}
-
-fn refused(number: u64, place: usize) -> Checked
-    ensures { λ r. ⌜ toldChecked r ≡ Outcome.refused number place ⌝ }
-{
-    Checked::Refused(Refusal { number, place })
 }

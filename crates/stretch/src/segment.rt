@@ -1,9 +1,9 @@
 // One segment in the bytes: its count and its variants, one after another.
-use crate::bytes::wide;
-use crate::variant::Part;
+use crate::pieces::Counted;
+use crate::pieces::Part;
+use crate::pieces::variants;
 use crate::variant::variant_at;
 use text::Refusal;
-use text::refusal;
 use text::size::counted;
 ghost use mathlib.Core.Path.{_≡_};
 ghost use Rattle.stretch.specs.Answers.{toldWalked, walkedSegment};
@@ -18,27 +18,20 @@ pub enum Walked {
 pub fn segment_at(stretch: &[u8], at: usize) -> Walked
     ensures { λ r. ⌜ toldWalked r ≡ walkedSegment (now (stretch .entry)) at ⌝ }
 {
-    if stretch.len() <= at {
-        return Walked::Refused(Refusal {
-            number: refusal::BYTES_END,
-            place: at,
-        });
-    }
-    let count = wide(stretch[at]);
-    if count == 0 {
-        return Walked::Refused(Refusal {
-            number: refusal::NO_VARIANTS,
-            place: at,
-        });
-    }
+    let count = match variants(stretch, at) {
+        Counted::Refused(wrong) => {
+            return Walked::Refused(wrong);
+        }
+        Counted::Variants(count) => count,
+    };
     let first = at + 1;
     let mut next = first;
     let mut size = 0;
     let mut k = 0;
     while k < count {
         match variant_at(stretch, first, k, next) {
-            Part::Refused(refused) => {
-                return Walked::Refused(refused);
+            Part::Refused(wrong) => {
+                return Walked::Refused(wrong);
             }
             Part::At {
                 start,

@@ -25,7 +25,7 @@ pair-requires : tie.Need-pair-requires
 pair-requires c κs = search needs
 
 returns-3 : tie.Need-returns-3
-returns-3 c = search needs
+returns-3 c = c .pair .ensures .0
 
 pub word-spec : {M : Type 1} → statement M
 word-spec =

@@ -28,7 +28,7 @@ add-result c = search needs
 
 returns : tie.Need-returns
 unfolding word
-returns c = omega (arith, c .before .before .wide .ensures .0, c .wide2 .ensures .0)
+returns c = let low = c .before .before .wide .ensures in let high = c .wide2 .ensures in (omega (arith, low .0, high .0), omega (arith, low .1, high .1))
 
 pub pair-spec : {M : Type 1} → statement M
 pair-spec =

@@ -1,4 +1,4 @@
--- `search::State::feed` meets its contract: each answer is a law of `feeding`, from what `enter` and `alone` ensure.
+-- `search::State::feed` meets its contract: each answer is a law of `feeding`, from what `enter`, `alone` and `closed` ensure.
 use borrow.Author.Needs.{needs}
 use mathlib.Core.Path.{sym, ap, _∙_}
 use Rattle.search.specs.Answers.{toldEntry, toldRan}
@@ -21,9 +21,11 @@ alone-requires c κs =
 
 returns-2 : tie.Need-returns-2
 returns-2 c =
-    let n = c .before .before in
+    let d = c .before .before .before in
+    let n = d .before .before in
     let g = n .before .before in
-    sym (fed-left _ _ _ (entry (g .before)) _ _ _ _ (sym (g .alone .ensures) ∙ ap toldRan (n .next .given .1)) (c .if1 .taken))
+    let on = sym (g .alone .ensures) ∙ ap toldRan (n .next .given .1) in
+    sym (fed-left _ _ _ (entry (g .before)) _ _ _ _ on _ (d .closed .ensures) (c .before .refused3 .given .1))
 
 returns-3 : tie.Need-returns-3
 returns-3 c =
@@ -32,9 +34,11 @@ returns-3 c =
 
 returns-4 : tie.Need-returns-4
 returns-4 c =
-    let n = c .before .before in
+    let d = c .before .before in
+    let n = d .before .before in
     let g = n .before .before in
-    sym (fed-next _ _ _ (entry (g .before)) _ _ _ _ (sym (g .alone .ensures) ∙ ap toldRan (n .next .given .1)) (c .if1 .left))
+    let on = sym (g .alone .ensures) ∙ ap toldRan (n .next .given .1) in
+    sym (fed-next _ _ _ (entry (g .before)) _ _ _ _ on _ (d .closed .ensures) (c .enum-told2 .given .1))
 
 pub feed-spec : {M : Type 1} → statement M
 feed-spec =
@@ -47,6 +51,9 @@ feed-spec =
     alone-requires
     (λ c. search needs)
     (λ c. search needs)
+    (λ c κs. search needs)
+    (λ c. search needs)
     returns-2
+    (λ c. search needs)
     returns-3
     returns-4)

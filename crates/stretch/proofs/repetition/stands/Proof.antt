@@ -1,4 +1,4 @@
--- `stretch::variant::stands` meets its contract: letters of another length are others, and as many are compared.
+-- `stretch::repetition::stands` meets its contract: letters of another length are others, and as many are compared.
 use Prim.Native.Nat.{ℕ, _+_, _-_}
 use native.Mathlib.Omega.{arith}
 use mathlib.Core.Path.{_≡_, sym, ap, _∙_}
@@ -6,8 +6,8 @@ use lib.ListN.{take, drop}
 use Rattle.text.specs.Compare.{same}
 use Rattle.stretch.proofs.Repeats.{other-length}
 use borrow.Author.Needs.{needs}
-use Rattle.stretch.proofs.variant.stands.Statement.{statement}
-use Rattle.stretch.proofs.variant.stands.Tie as tie
+use Rattle.stretch.proofs.repetition.stands.Statement.{statement}
+use Rattle.stretch.proofs.repetition.stands.Tie as tie
 
 returns : tie.Need-returns
 returns c = let d = c .before .before .before in sym (other-length _ _ _ _ (d .pre) (c .if1 .taken))

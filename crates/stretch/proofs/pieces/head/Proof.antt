@@ -1,11 +1,11 @@
--- `stretch::variant::head` meets its contract: each test compares the end with the place behind the letters, or with the least
+-- `stretch::pieces::head` meets its contract: each test compares the end with the place behind the letters, or with the least
 -- that it can be.
 use borrow.Author.Needs.{needs}
 use native.Mathlib.Omega.{arith}
 use mathlib.Core.Path.{sym, _∙_}
 use Rattle.stretch.proofs.Heads.{head-cut, head-found}
-use Rattle.stretch.proofs.variant.head.Statement.{statement}
-use Rattle.stretch.proofs.variant.head.Tie as tie
+use Rattle.stretch.proofs.pieces.head.Statement.{statement}
+use Rattle.stretch.proofs.pieces.head.Tie as tie
 
 cut-off-requires : tie.Need-cut-off-requires
 cut-off-requires c κs = search needs
@@ -29,7 +29,7 @@ cut-off-requires-3 : tie.Need-cut-off-requires-3
 cut-off-requires-3 c κs = search needs
 
 returns-3 : tie.Need-returns-3
-returns-3 c = c .cut-off3 .ensures ∙ sym (head-cut _ _ (omega (arith, c .before .before .pair .ensures)))
+returns-3 c = c .cut-off3 .ensures ∙ sym (head-cut _ _ (omega (arith, c .before .before .pair .ensures .0)))
 
 add-start : tie.Need-add-start
 add-start c = search needs
@@ -38,7 +38,7 @@ add-next : tie.Need-add-next
 add-next c = search needs
 
 returns-4 : tie.Need-returns-4
-returns-4 c = sym (head-found _ _ _ (c .before .pair .ensures) (omega (arith, c .before .pair .ensures)))
+returns-4 c = sym (head-found _ _ _ (c .before .pair .ensures .0) (omega (arith, c .before .pair .ensures)))
 
 pub head-spec : {M : Type 1} → statement M
 head-spec =

@@ -1,17 +1,17 @@
--- `stretch::variant::repeated` meets its contract. The loop's invariant: the variants passed are all different, and the test goes on
+-- `stretch::repetition::repeated` meets its contract. The loop's invariant: the variants passed are all different, and the test goes on
 -- with those that are left, not more than `rest`. The measure is the number of bytes up to `at`.
 use Prim.Native.Nat.{ℕ, _+_, _-_, _≤_}
 use native.Mathlib.Omega.{arith}
 use mathlib.Core.Path.{_≡_, refl, sym, ap, _∙_}
 use lib.ListN.{length, take, drop}
 use Rattle.text.specs.Compare.{same}
-use Rattle.stretch.specs.Reading.{lettersAt}
-use Rattle.stretch.specs.Variants.{repeatedBefore}
+use Rattle.stretch.specs.Pieces.{lettersAt}
+use Rattle.stretch.specs.Pieces.{repeatedBefore}
 use Rattle.stretch.proofs.Words.{word-small}
 use Rattle.stretch.proofs.Repeats.{repeats-short, repeats-room, before-none, before-found, before-other}
 use borrow.Author.Needs.{needs}
-use Rattle.stretch.proofs.variant.repeated.Statement.{statement}
-use Rattle.stretch.proofs.variant.repeated.Tie as tie
+use Rattle.stretch.proofs.repetition.repeated.Statement.{statement}
+use Rattle.stretch.proofs.repetition.repeated.Tie as tie
 
 abbrev Inv-loop : tie.InvT-loop
 Inv-loop stretch first at variant end left place₀ place =
@@ -46,7 +46,7 @@ compared : (c : tie.After-stands Inv-loop μ-loop)
 compared c =
     let a = c .before .before .before .before .before .before .before .before .before .args in
     let place = c .before .before .before .loop .place in
-    ap (λ (n : ℕ). same (a .variant .now) (take n (drop (place + 2) (a .stretch .now)))) (sym (c .before .pair .ensures)) ∙ sym (c .stands .ensures)
+    ap (λ (n : ℕ). same (a .variant .now) (take n (drop (place + 2) (a .stretch .now)))) (sym (c .before .pair .ensures .0)) ∙ sym (c .stands .ensures)
 
 pair-requires : tie.Need-pair-requires Inv-loop μ-loop
 pair-requires c κs = search needs
@@ -69,7 +69,7 @@ add-place c =
     let bytes = turn .before .before .before .before .before .before .shared-slice-known .given in
     let s = turn .before .before .before .before .before .before .before .args .stretch .now in
     let small = word-small s (turn .before .loop .place) (λ i. omega (arith, bytes i)) in
-    omega (arith, c .before .before .pair .ensures, small)
+    omega (arith, c .before .before .pair .ensures .0, small)
 
 loop-less : tie.Need-loop-less Inv-loop μ-loop
 loop-less c = search needs
@@ -79,7 +79,7 @@ loop-again c =
     let turn = c .before .before .before in
     let q = turn .before .loop .inv in
     let other = before-other _ _ _ _ _ (q .2) (turn .loop-test .taken) (compared (c .before) ∙ c .if4 .left) in
-    rw (c .before .before .pair .ensures) (_, q .1 ∙ other, omega arith)
+    rw (c .before .before .pair .ensures .0) (_, q .1 ∙ other, omega arith)
 
 returns-5 : tie.Need-returns-5 Inv-loop μ-loop
 returns-5 c =
