@@ -9,3 +9,4 @@ pub mod Places
 pub mod Skips
 pub mod Answers
 pub mod Variants
+pub mod Onward
