@@ -1,7 +1,9 @@
--- The refusals of the calls have numbers up to 17 and places up to 32,768. So one number holds both, and C takes it apart.
+-- The refusals of the calls have numbers from 1 to 17 and places up to 32,768. So one number holds both, 0 is left for "accepted", and
+-- C takes the number apart.
 use Prim.Native.Nat.{ℕ, _+_, _*_, _/_, _%_, _^_, _≤_, _<_}
 use native.Mathlib.Omega.{arith}
 use mathlib.Core.Path.{_≡_, refl, subst}
+use mathlib.Core.Logic.{_↔_}
 use mathlib.Core.Bool.{Bool, true, false}
 use mathlib.Core.List.{List}
 use borrow.Author.Tests.{leb-true}
@@ -11,16 +13,17 @@ use Rattle.text.specs.Letter.{base, every, firstNot}
 use Rattle.text.specs.State.{isState}
 use Rattle.text.specs.Refusal.{Outcome, ok, refused, demand, after, pattern, greatestPattern}
 use Rattle.text.proofs.Letters.{first-le}
-use Rattle.text.proofs.Outcomes.{told-refused}
+use Rattle.text.proofs.Outcomes.{refused-ok, told-refused}
 use Rattle.stretch.specs.Bytes.{greatestStretch}
 use Rattle.stretch.specs.Reading.{stretchOf, segmentOf, loneSegment}
 use Rattle.stretch.specs.Answers.{checking}
 use Rattle.stretch.proofs.Refusals.{Low, stretch-low, segment-low}
-use Rattle.search.specs.Answers.{stretchInto, searching, feeding}
-use Rattle.cerantuh.specs.Forms.{coded}
+use Rattle.search.specs.Answers.{entering, into, stretchInto, searching, feeding}
+use Rattle.cerantuh.specs.Forms.{coded, searchingInto, feedingInto}
 
 -- such a number and place
 pub record Small (n p : ℕ) : Type 0 where
+  pub some : 1 ≤ n
   pub number : n ≤ 17
   pub place : p ≤ greatestStretch
 
@@ -52,19 +55,36 @@ low-coded (ok a) h = tt
 low-coded (refused n p) h = omega (arith, h n p refl)
 
 pub searching-coded : (P s : List ℕ) (room : ℕ) → Coded (searching P s room)
-unfolding searching stretchInto
+unfolding searching into
 searching-coded P s room =
     pattern-coded P _ (after-coded (stretchOf s) _ (low-coded (stretchOf s) (stretch-low s)) λ t.
     demand-coded (leb (length t) room) 10 0 (ok t) (omega arith) (λ _. tt))
 
+entering-coded : (P : List ℕ) (st : ℕ) (s : List ℕ) {A : Type 0} (o : Outcome A) → (leb (length s) greatestStretch ≡ true → Coded o) → Coded (entering P st s o)
+unfolding entering
+entering-coded P st s o k =
+    pattern-coded P _
+    (demand-coded (leb (length s) greatestStretch) 4 0 _ (omega arith) λ fit.
+    demand-coded (isState (length P) st) 17 0 o (omega arith) λ _.
+    k fit)
+
 feeding-coded : (P : List ℕ) (st : ℕ) (s : List ℕ) → Coded (feeding P st s)
 unfolding feeding segmentOf
 feeding-coded P st s =
-    pattern-coded P _
-    (demand-coded (leb (length s) greatestStretch) 4 0 _ (omega arith) λ fit.
-    demand-coded (isState (length P) st) 17 0 _ (omega arith) λ _.
+    entering-coded P st s _ λ fit.
     let alone : segmentOf s ≡ loneSegment s = rw fit in
-    after-coded (loneSegment s) _ (subst Coded alone (low-coded (segmentOf s) (segment-low s))) (λ g. tt))
+    after-coded (loneSegment s) _ (subst Coded alone (low-coded (segmentOf s) (segment-low s))) (λ g. tt)
+
+-- with the room of the results asked too
+pub search-form-coded : (P s : List ℕ) (marks block : ℕ) → Coded (searchingInto P s marks block)
+unfolding searchingInto
+search-form-coded P s marks block =
+    after-coded (searching P s marks) _ (searching-coded P s marks) (λ t. demand-coded (leb 24 block) 10 0 (ok t) (omega arith) (λ _. tt))
+
+pub feed-form-coded : (P : List ℕ) (st : ℕ) (s : List ℕ) (block : ℕ) → Coded (feedingInto P st s block)
+unfolding feedingInto
+feed-form-coded P st s block =
+    after-coded (feeding P st s) _ (feeding-coded P st s) (λ x. demand-coded (leb 16 block) 10 0 (ok x) (omega arith) (λ _. tt))
 
 -- so is each
 refused-small : {A : Type 0} (o : Outcome A) (n p : ℕ) → Coded o → o ≡ refused n p → Small n p
@@ -86,5 +106,10 @@ coded-fits (ok a) k = omega arith
 coded-fits (refused n p) k = omega (arith, k)
 
 -- and tells number and place
-pub coded-apart : (n p : ℕ) → Small n p → ((n + 256 * p) % 256 ≡ n) × ((n + 256 * p) / 256 ≡ p)
-coded-apart n p s = (omega (arith, s), omega (arith, s))
+pub coded-apart : {A : Type 0} (o : Outcome A) (n p : ℕ) → Coded o → o ≡ refused n p → (coded o % 256 ≡ n) × (coded o / 256 ≡ p)
+coded-apart o n p k e = let s = refused-small o n p k e in rw e (omega (arith, s), omega (arith, s))
+
+-- 0 is said exactly when the call is accepted
+pub coded-zero : {A : Type 0} (o : Outcome A) → Coded o → (coded o ≡ 0) ↔ ((a : A) × (o ≡ ok a))
+coded-zero (ok a) k = (λ _. (a, refl), λ _. refl)
+coded-zero (refused n p) k = (λ e. absurd (let z : ⊥ = omega (arith, k) in z), λ x. absurd (refused-ok n p (x .0) (x .1)))

@@ -4,3 +4,4 @@ pub mod Codes
 pub mod Rooms
 pub mod SearchForms
 pub mod FeedForms
+pub mod Theorems

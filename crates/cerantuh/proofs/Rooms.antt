@@ -12,7 +12,7 @@ use Rattle.text.proofs.Outcomes.{told-met, told-refused}
 use Rattle.text.proofs.Patterns.{pattern-after, pattern-refused, pattern-sound, sound-pattern}
 use Rattle.stretch.specs.Reading.{stretchOf}
 use Rattle.stretch.specs.Answers.{Sum, checking, leftBy}
-use Rattle.search.specs.Answers.{Next, stretchInto, searching, feeding}
+use Rattle.search.specs.Answers.{Next, into, searching, feeding}
 use Rattle.cerantuh.specs.Forms.{coded, searchingInto, feedingInto}
 
 -- a value that is told in other words: the same code, and the same bytes left
@@ -41,7 +41,7 @@ module _ (P s : List ℕ) (marks block : ℕ) where
 
   -- without it, the pattern is asked, the stretch, then 10
   pub search-short : block < 24 → searchingInto P s marks block ≡ pattern P (after (stretchOf s) (λ _. roomless))
-  unfolding searchingInto searching stretchInto
+  unfolding searchingInto searching into
   search-short l =
       rw (lt-leb 24 block l)
       (ap (λ (o : Outcome Text). after o (λ _. roomless)) (pattern-after P _) ∙ both (pattern P (ok (tt {0}))) (stretchOf s)

@@ -9,8 +9,8 @@ use Rattle.text.specs.declared.refusal.Refusal.{Refusal}
 use Rattle.stretch.specs.Bytes.{over}
 use Rattle.stretch.specs.Answers.{leftBy}
 use Rattle.search.specs.Answers.{Sums, sumsOf, marked, searching, toldSearched}
-use Rattle.search.specs.declared.walk.Searched.{Searched}
-use Rattle.search.specs.declared.walk.Searched.the-variants.{Marked}
+use Rattle.search.specs.declared.searching.Searched.{Searched}
+use Rattle.search.specs.declared.searching.Searched.the-variants.{Marked}
 use Rattle.cerantuh.specs.Forms.{coded, lowFirst, sumsBlock, searchingInto, searchAnswer, searchMarks, searchBlock}
 use Rattle.cerantuh.proofs.Blocks.{three-put}
 use Rattle.cerantuh.proofs.Codes.{searching-coded, coded-fits}

@@ -19,6 +19,11 @@ unfoldable pub lowFirst : ℕ → ℕ → List ℕ
 lowFirst zero n = []
 lowFirst (suc k) n = n % 256 ∷ lowFirst k (n / 256)
 
+-- the number that bytes stand for, low byte first
+unfoldable pub lowValue : List ℕ → ℕ
+lowValue [] = 0
+lowValue (b ∷ l) = b + 256 * lowValue l
+
 -- the block of a search: segment count, size and number of ones, 8 bytes each
 unfoldable pub sumsBlock : Sums → List ℕ
 sumsBlock x = lowFirst 8 (x .segments) ++ lowFirst 8 (x .size) ++ lowFirst 8 (x .ends)

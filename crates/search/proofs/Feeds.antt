@@ -1,26 +1,21 @@
 -- What a feed answers, from the tests that lead there.
-use Prim.Native.Nat.{ℕ, _+_, _-_, _/_, _%_, _^_, _≤_, _<_}
-use native.Mathlib.Omega.{arith}
+use Prim.Native.Nat.{ℕ, _+_}
 use mathlib.Core.Path.{_≡_, refl, ap, ap₂, _∙_}
-use mathlib.Core.Bool.{Bool, true, false, not, _&&_, cond}
+use mathlib.Core.Bool.{Bool, true, false, not, cond}
 use mathlib.Core.List.{List, [], _∷_}
-use borrow.Author.Tests.{le-leb, lt-leb, lt-ltb, le-ltb, eq-eqb, ne-eqb}
-use lib.Dec.{eqb, ltb}
-use lib.ListN.{length}
-use lib.Pow.{pow-pos}
+use lib.Dec.{eqb}
 use Rattle.text.specs.Text.{Segment, Text, total}
-use Rattle.text.specs.Bits.{bit}
-use Rattle.text.specs.State.{isState, next, ends, run, marksFrom}
-use Rattle.text.specs.Refusal.{ok, refused, after, pattern}
-use Rattle.text.proofs.Truth.{and-false, and-both}
-use Rattle.text.proofs.Bits.{bit-first}
+use Rattle.text.specs.State.{next, ends, run, marksFrom}
+use Rattle.text.specs.Refusal.{ok, refused, after}
 use Rattle.text.proofs.Outcomes.{told-met, told-refused}
-use Rattle.text.proofs.Patterns.{SoundPattern, pattern-refused, sound-pattern}
-use Rattle.stretch.specs.Bytes.{greatestStretch}
-use Rattle.stretch.specs.Reading.{Taken, many, segmentAt, loneSegment}
-use Rattle.search.specs.Masks.{StateOf}
-use Rattle.search.specs.Answers.{Course, courseOf, feeding}
-use Rattle.search.proofs.Vectors.{low-ones}
+use Rattle.text.specs.declared.refusal.Refusal.{Refusal}
+use Rattle.stretch.specs.Pieces.{closedAt, toldVerdict}
+use Rattle.stretch.specs.Reading.{Taken, many, segmentAt}
+use Rattle.stretch.specs.declared.pieces.Verdict.{Verdict}
+use Rattle.stretch.specs.declared.pieces.Verdict.the-variants.{Sound}
+use Rattle.stretch.proofs.Frames.{lone-refused-inside, lone-refused-closed, lone-sound}
+use Rattle.search.specs.Answers.{Course, courseOf, entering, feeding}
+use Rattle.search.proofs.Entries.{Entered, entering-refused, entering-sound}
 
 -- the segment that a run over one segment has read
 record Lone (P s : List ℕ) (st behind bits ones : ℕ) : Type 0 where
@@ -58,61 +53,28 @@ module _ (P s : List ℕ) (st : ℕ) where
       counts false = refl
 
 module _ (P s : List ℕ) (st : ℕ) where
-  pub fed-pattern : (j p : ℕ) → pattern P (ok (tt {0})) ≡ refused j p → feeding P st s ≡ refused j p
+  pub fed-not : (j p : ℕ) → entering P st s (ok (tt {0})) ≡ refused j p → feeding P st s ≡ refused j p
   unfolding feeding
-  fed-pattern j p e = pattern-refused P j p e _
+  fed-not j p e = entering-refused P st s j p e _
 
-  module _ (y : SoundPattern P) where
-    pub fed-long : greatestStretch < length s → feeding P st s ≡ refused 4 0
+  module _ (y : Entered P st s) where
+    pub fed-refused : (j p : ℕ) → after (many (λ _. segmentAt s) 1 [] 0) (λ x. ok (courseOf P st x)) ≡ refused j p → feeding P st s ≡ refused j p
     unfolding feeding
-    fed-long l = sound-pattern P y _ ∙ rw (lt-leb (length s) greatestStretch l)
+    fed-refused j p e = entering-sound P st s y _ ∙ rw (lone-refused-inside s (lone-not P s st j p e))
 
-    module _ (short : length s ≤ greatestStretch) where
-      wrong-state : isState (length P) st ≡ false → feeding P st s ≡ refused 17 0
+    module _ (behind size bits hits : ℕ)
+        (e : after (many (λ _. segmentAt s) 1 [] 0) (λ x. ok (courseOf P st x)) ≡ ok (record { next = behind; size = size; state = bits; ends = hits }))
+        (v : Verdict) (told : toldVerdict v ≡ closedAt s behind 1) where
+      met : Lone P s st behind bits hits
+      met = lone-met P s st behind size bits hits e
+
+      pub fed-left : {w : Refusal} → v ≡ Verdict.Refused w → feeding P st s ≡ refused (w .number) (w .place)
       unfolding feeding
-      wrong-state e = sound-pattern P y _ ∙ rw (le-leb (length s) greatestStretch short, e)
+      fed-left is = entering-sound P st s y _ ∙ rw (lone-refused-closed s (met .read) told is)
 
-      -- bit 0 is clear
-      pub fed-even : st % 2 ≡ 0 → feeding P st s ≡ refused 17 0
-      unfolding isState
-      fed-even e = wrong-state (ap (λ (b : Bool). b && ltb st (2 ^ length P)) (bit-first st ∙ ap (λ (n : ℕ). eqb n 1) e))
-
-      module _ (low : ℕ) (ones : low ≡ 0xffff_ffff_ffff_ffff / 2 ^ (64 - length P)) where
-        low-is : low ≡ 2 ^ length P - 1
-        low-is = ones ∙ low-ones (length P) (y .short)
-
-        -- a bit from m up is set
-        pub fed-high : low < st → feeding P st s ≡ refused 17 0
-        unfolding isState
-        fed-high l =
-            let far : 2 ^ length P ≤ st = omega (arith, low-is) in
-            wrong-state (ap (λ (b : Bool). bit st 0 && b) (le-ltb st (2 ^ length P) far) ∙ and-false (bit st 0))
-
-        module _ (odd : st % 2 ≡ 0 → ⊥) (small : st ≤ low) where
-          pub fed-state : StateOf P st
-          fed-state = record { small = omega (arith, low-is, pow-pos (length P)); odd = omega (arith, odd) }
-
-          state : isState (length P) st ≡ true
-          unfolding isState
-          state =
-              and-both (bit st 0) (ltb st (2 ^ length P)) (bit-first st ∙ ap (λ (n : ℕ). eqb n 1) (fed-state .odd)) (lt-ltb st (2 ^ length P) (fed-state .small))
-
-          pub fed-refused : (j p : ℕ) → after (many (λ _. segmentAt s) 1 [] 0) (λ x. ok (courseOf P st x)) ≡ refused j p → feeding P st s ≡ refused j p
-          unfolding feeding loneSegment
-          fed-refused j p e = sound-pattern P y _ ∙ rw (le-leb (length s) greatestStretch short, state, lone-not P s st j p e)
-
-          module _ (behind size bits hits : ℕ)
-              (e : after (many (λ _. segmentAt s) 1 [] 0) (λ x. ok (courseOf P st x)) ≡ ok (record { next = behind; size = size; state = bits; ends = hits })) where
-            met : Lone P s st behind bits hits
-            met = lone-met P s st behind size bits hits e
-
-            pub fed-left : (behind ≡ length s → ⊥) → feeding P st s ≡ refused 9 behind
-            unfolding feeding loneSegment
-            fed-left l = sound-pattern P y _ ∙ rw (le-leb (length s) greatestStretch short, state, met .read, ne-eqb behind (length s) l)
-
-            pub fed-next : behind ≡ length s → feeding P st s ≡ ok (record { state = bits; ends = not (eqb hits 0) })
-            unfolding feeding loneSegment
-            fed-next l =
-                sound-pattern P y _
-                ∙ rw (le-leb (length s) greatestStretch short, state, met .read, eq-eqb behind (length s) l)
-                (ap₂ (λ (n : ℕ) (b : Bool). ok (record { state = n; ends = b })) (met .state) (met .end))
+      pub fed-next : v ≡ Sound → feeding P st s ≡ ok (record { state = bits; ends = not (eqb hits 0) })
+      unfolding feeding
+      fed-next is =
+          entering-sound P st s y _
+          ∙ rw (lone-sound s (met .read) told is)
+          (ap₂ (λ (n : ℕ) (b : Bool). ok (record { state = n; ends = b })) (met .state) (met .end))

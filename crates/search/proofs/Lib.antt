@@ -1,12 +1,9 @@
 -- Laws of the definitions in specs/, and the theorems about them.
-pub mod Vectors
+pub mod BitScans
 pub mod Words
-pub mod Meets
-pub mod Carries
-pub mod RowSteps
-pub mod RowSegments
 pub mod Carrieds
 pub mod Passes
+pub mod Entries
 pub mod Searches
 pub mod Methods
 pub mod Feeds
@@ -20,5 +17,5 @@ pub mod BorderChains
 pub mod BorderCarried
 pub mod BorderWalks
 pub mod BorderSteps
-pub mod Calls
-pub mod RowWalks
+pub mod Chains
+pub mod Theorems

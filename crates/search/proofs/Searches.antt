@@ -1,7 +1,9 @@
 -- The run of a search over segments: state, marks and number of ones are those of the segments read; and what a search answers.
 use Prim.Native.Nat.{ℕ, _+_, _*_, _%_, _≤_, _<_}
 use native.Mathlib.Numerals.{add-one}
+use native.Mathlib.Decide.{decLt}
 use native.Mathlib.Omega.{arith}
+use mathlib.Core.Logic.{by-cases}
 use mathlib.Core.Path.{_≡_, refl, sym, ap, ap₂, subst, _∙_}
 use mathlib.Core.Bool.{Bool, true, false, cond}
 use mathlib.Core.List.{List, [], _∷_, _++_}
@@ -13,20 +15,22 @@ use Rattle.text.specs.Text.{Segment, Text, total, size}
 use Rattle.text.specs.State.{next, ends, run, fresh, marksFrom, marks}
 use Rattle.text.specs.Refusal.{Outcome, ok, refused, after, pattern}
 use Rattle.text.proofs.Sizes.{total-snoc}
-use Rattle.text.proofs.Outcomes.{ok-inj, refused-ok, told-met, told-refused}
-use Rattle.text.proofs.Patterns.{pattern-refused, pattern-sound, sound-pattern}
+use Rattle.text.proofs.Outcomes.{ok-inj, refused-ok, after-after, told-met, told-refused}
+use Rattle.text.proofs.Patterns.{SoundPattern, pattern-refused, pattern-sound, sound-pattern}
 use Rattle.text.proofs.Marks.{marks-length}
 use Rattle.text.proofs.Bits.{bit-first}
 use Rattle.text.proofs.Runs.{run-open, run-lt}
 use Rattle.text.proofs.Folds.{run-snoc, marks-snoc}
-use Rattle.stretch.specs.Bytes.{over}
+use Rattle.stretch.specs.Bytes.{greatestStretch, over}
 use Rattle.stretch.specs.Reading.{Taken, segmentAt, many, stretchOf}
 use Rattle.stretch.proofs.Walks.{walk-length}
-use Rattle.stretch.proofs.Stretches.{InStretch, through-none, through-more, through-refused, through-all, segment-bytes}
+use Rattle.stretch.proofs.Stretches.{InStretch, through-none, through-more, through-refused, through-all, segment-bytes, stretch-long}
 use Rattle.stretch.specs.Answers.{leftBy}
 use Rattle.search.specs.Masks.{StateOf}
 use Rattle.search.specs.Step.{segmentPass}
-use Rattle.search.specs.Answers.{Course, courseOf, MarksFrom, RoomyFrom, Sums, sumsOf, Marks, stretchInto, searching}
+use Rattle.search.specs.Answers.{Course, courseOf, MarksFrom, RoomyFrom, Seen, seenFrom, Sums, sums, sumsOf, MarksOf}
+use Rattle.search.specs.Answers.{entering, into, stretchInto, searching, seeking}
+use Rattle.search.proofs.Entries.{Entered, fresh-state, entering-refused, entering-sound, entering-pattern, entering-over}
 use Rattle.search.proofs.Passes.{Stepped, segment-met, segment-not}
 
 -- a mark as the code writes it
@@ -143,95 +147,146 @@ module _ (P : List ℕ) (st : ℕ) (s : List ℕ) (from : ℕ) (buffer : List �
               (ap (λ (m : ℕ). take m buffer) (count ∙ sym done) ∙ q .marked),
         )
 
--- what a search tells of a stretch
-module _ (P s : List ℕ) where
-  pub told-not : (j p : ℕ) → stretchOf s ≡ refused j p → after (stretchOf s) (λ t. ok (sumsOf P t)) ≡ refused j p
+-- from what a run over segments tells
+module _ (P : List ℕ) (st : ℕ) (s : List ℕ) (n from : ℕ) where
+  pub run-not : (j p : ℕ) → after (many (λ _. segmentAt s) n [] from) (λ x. ok (courseOf P st x)) ≡ refused j p
+      → many (λ _. segmentAt s) n [] from ≡ refused j p
+  run-not j p e = told-refused (many (λ _. segmentAt s) n [] from) (courseOf P st) j p e
+
+  pub run-met : (at sum bits ones : ℕ)
+      → after (many (λ _. segmentAt s) n [] from) (λ x. ok (courseOf P st x)) ≡ ok (record { next = at; size = sum; state = bits; ends = ones })
+      → (t : Text) × (many (λ _. segmentAt s) n [] from ≡ ok (record { value = t; next = at }))
+      × (record { segments = length t; size = sum; ends = ones; state = bits } ≡ seenFrom P st t)
+  unfolding courseOf seenFrom
+  run-met at sum bits ones e =
+      let m = told-met (many (λ _. segmentAt s) n [] from) (courseOf P st) (record { next = at; size = sum; state = bits; ends = ones }) e in
+      let t = m .0 .value in
+      let q = sym (m .2) in (
+        t,
+        m .1 ∙ ap (λ (i : ℕ). ok (record { value = t; next = i })) (ap (λ (x : Course). x .next) (m .2)),
+        λ i. record { segments = length t; size = q i .size; ends = q i .ends; state = q i .state },
+      )
+
+-- what a search tells of a text that may be refused, and what is asked of the marks that it found
+module _ (P : List ℕ) (st : ℕ) (o : Outcome Text) where
+  pub told-not : (j p : ℕ) → o ≡ refused j p → after o (λ t. ok (seenFrom P st t)) ≡ refused j p
   told-not j p e = rw e
 
   -- after a refusal nothing is asked of the marks
-  pub marks-not : (j p : ℕ) (buffer : List ℕ) → stretchOf s ≡ refused j p → Marks P (stretchOf s) buffer
+  pub marks-not : (j p : ℕ) (buffer : List ℕ) → o ≡ refused j p → MarksOf P st o buffer
   marks-not j p buffer e t h = absurd (refused-ok j p t (sym e ∙ h))
 
-  -- from what a run over its segments tells
-  module _ (n : ℕ) where
-    pub run-not : (j p : ℕ) → after (many (λ _. segmentAt s) n [] 2) (λ x. ok (courseOf P fresh x)) ≡ refused j p
-        → many (λ _. segmentAt s) n [] 2 ≡ refused j p
-    run-not j p e = told-refused (many (λ _. segmentAt s) n [] 2) (courseOf P fresh) j p e
+  module _ (t : Text) (e : o ≡ ok t) where
+    pub told-seen : (n sum ones bits : ℕ) → length t ≡ n → record { segments = length t; size = sum; ends = ones; state = bits } ≡ seenFrom P st t
+        → after o (λ t. ok (seenFrom P st t)) ≡ ok (record { segments = n; size = sum; ends = ones; state = bits })
+    told-seen n sum ones bits count is =
+        rw e (ap ok (sym is) ∙ ap (λ (m : ℕ). ok (record { segments = m; size = sum; ends = ones; state = bits })) count)
 
-    pub run-met : (at sum bits ones : ℕ)
-        → after (many (λ _. segmentAt s) n [] 2) (λ x. ok (courseOf P fresh x)) ≡ ok (record { next = at; size = sum; state = bits; ends = ones })
-        → (t : Text) × (many (λ _. segmentAt s) n [] 2 ≡ ok (record { value = t; next = at }))
-        × (sum ≡ size t) × (ones ≡ total (λ x. x) (marks P t))
-    unfolding courseOf marks
-    run-met at sum bits ones e =
-        let m = told-met (many (λ _. segmentAt s) n [] 2) (courseOf P fresh) (record { next = at; size = sum; state = bits; ends = ones }) e in
-        let t = m .0 .value in (
-          t,
-          m .1 ∙ ap (λ (i : ℕ). ok (record { value = t; next = i })) (ap (λ (x : Course). x .next) (m .2)),
-          sym (ap (λ (x : Course). x .size) (m .2)),
-          sym (ap (λ (x : Course). x .ends) (m .2)),
-        )
+    pub marks-all : (s : List ℕ) (n from at : ℕ) (buffer : List ℕ) → many (λ _. segmentAt s) n [] from ≡ ok (record { value = t; next = at })
+        → MarksFrom P st (many (λ _. segmentAt s) n [] from) buffer → MarksOf P st o buffer
+    marks-all s n from at buffer all found u h =
+        subst (λ (v : Text). take (length v) buffer ≡ marksFrom P st v) (ok-inj (sym e ∙ h)) (found (record { value = t; next = at }) all)
 
-    module _ (t : Text) (e : stretchOf s ≡ ok t) where
-      pub told-marked : (sum ones : ℕ) → length t ≡ n → sum ≡ size t → ones ≡ total (λ x. x) (marks P t)
-          → after (stretchOf s) (λ t. ok (sumsOf P t)) ≡ ok (record { segments = n; size = sum; ends = ones })
-      unfolding sumsOf
-      told-marked sum ones count is one =
-          rw (e, is, one) (ap (λ (m : ℕ). ok (record { segments = m; size = size t; ends = total (λ x. x) (marks P t) })) count)
+  -- the marks of an accepted text are in the run's buffer
+  pub few-found : (buffer : List ℕ) (n z m b : ℕ) → after o (λ t. ok (seenFrom P st t)) ≡ ok (record { segments = n; size = z; ends = m; state = b })
+      → MarksOf P st o buffer → n ≤ length buffer
+  unfolding seenFrom
+  few-found buffer n z m b e found =
+      let (t, sound, seen) = told-met o (seenFrom P st) (record { segments = n; size = z; ends = m; state = b }) e in
+      let count : length t ≡ n = ap (λ (x : Seen). x .segments) seen in
+      let all : length (take (length t) buffer) ≡ length t = ap length (found t sound) ∙ marks-length P st t in
+      omega (arith, length-take (length t) buffer)
 
-      pub marks-all : (at : ℕ) (buffer : List ℕ) → many (λ _. segmentAt s) n [] 2 ≡ ok (record { value = t; next = at })
-          → MarksFrom P fresh (many (λ _. segmentAt s) n [] 2) buffer → Marks P (stretchOf s) buffer
-      unfolding marks
-      marks-all at buffer all found u h =
-          subst (λ (v : Text). take (length v) buffer ≡ marks P v) (ok-inj (sym e ∙ h)) (found (record { value = t; next = at }) all)
+  -- what it answers, and what it leaves in the caller's buffer
+  module _ (out : List ℕ) where
+    abbrev Told : Outcome Text → Outcome Seen → List ℕ → Type 0
+    Told o told left = (told ≡ after o (λ t. ok (seenFrom P st t))) × (left ≡ leftBy (marksFrom P st) o out)
 
--- the marks of an accepted stretch are in the walk's buffer
-pub few-found : (P s buffer : List ℕ) (n z m : ℕ) → after (stretchOf s) (λ t. ok (sumsOf P t)) ≡ ok (record { segments = n; size = z; ends = m })
-    → Marks P (stretchOf s) buffer → n ≤ length buffer
-unfolding sumsOf marks
-few-found P s buffer n z m e found =
-    let (t, sound, sums) = told-met (stretchOf s) (sumsOf P) (record { segments = n; size = z; ends = m }) e in
-    let count : length t ≡ n = ap (λ (x : Sums). x .segments) sums in
-    let all : length (take (length t) buffer) ≡ length t = ap length (found t sound) ∙ marks-length P fresh t in
-    omega (arith, length-take (length t) buffer)
+    pub into-not : (j p : ℕ) → after o (λ t. ok (seenFrom P st t)) ≡ refused j p → Told (into (length out) o) (refused j p) out
+    unfolding into
+    into-not j p e = let none = told-refused o (seenFrom P st) j p e in rw none (refl, refl)
 
--- what a search answers, and what it leaves in the caller's buffer
+    module _ (n z m b : ℕ) (e : after o (λ t. ok (seenFrom P st t)) ≡ ok (record { segments = n; size = z; ends = m; state = b })) where
+      seen : (t : Text) × (o ≡ ok t) × (seenFrom P st t ≡ record { segments = n; size = z; ends = m; state = b })
+      seen = told-met o (seenFrom P st) (record { segments = n; size = z; ends = m; state = b }) e
+
+      segments-are : length (seen .0) ≡ n
+      unfolding seenFrom
+      segments-are = ap (λ (x : Seen). x .segments) (seen .2)
+
+      pub into-short : length out < n → Told (into (length out) o) (refused 10 0) out
+      unfolding into
+      into-short l =
+          let few : length out < length (seen .0) = omega (arith, segments-are) in
+          rw (seen .1, lt-leb (length (seen .0)) (length out) few) (refl, refl)
+
+      pub into-marked : (found left : List ℕ) → n ≤ length out → MarksOf P st o found → left ≡ over out 0 (take n found)
+          → Told (into (length out) o) (ok (record { segments = n; size = z; ends = m; state = b })) left
+      unfolding into
+      into-marked found left l h w =
+          let fit : length (seen .0) ≤ length out = omega (arith, segments-are) in
+          rw (seen .1, le-leb (length (seen .0)) (length out) fit)
+          (ap ok (sym (seen .2)), w ∙ ap (over out 0) (ap (λ (i : ℕ). take i found) (sym segments-are) ∙ h (seen .0) (seen .1)))
+
+-- a search from a state, whatever was to be read
+module _ (P : List ℕ) (st : ℕ) (s out : List ℕ) where
+  pub seek-not : (j p : ℕ) → entering P st s (ok (tt {0})) ≡ refused j p
+      → Told P st (stretchOf s) out (seeking P st s (length out)) (refused j p) out
+  unfolding seeking
+  seek-not j p e = rw (entering-refused P st s j p e (stretchInto s (length out))) (refl, refl)
+
+  pub seek-sound : Entered P st s → (told : Outcome Seen) (left : List ℕ)
+      → Told P st (stretchOf s) out (stretchInto s (length out)) told left → Told P st (stretchOf s) out (seeking P st s (length out)) told left
+  unfolding seeking
+  seek-sound y told left h = rw (entering-sound P st s y (stretchInto s (length out))) h
+
+-- a search
 module _ (P s out : List ℕ) where
-  abbrev Told : Outcome Text → Outcome Sums → List ℕ → Type 0
-  Told o told left = (told ≡ after o (λ t. ok (sumsOf P t))) × (left ≡ leftBy (marks P) o out)
+  -- what a search promises of its answer and of the buffer that it leaves, for an outcome o
+  abbrev pub Answered : Outcome Text → Outcome Sums → List ℕ → Type 0
+  Answered o said left = (said ≡ after o (λ t. ok (sumsOf P t))) × (left ≡ leftBy (marks P) o out)
 
-  pub into-not : (j p : ℕ) → after (stretchOf s) (λ t. ok (sumsOf P t)) ≡ refused j p → Told (stretchInto s (length out)) (refused j p) out
-  unfolding stretchInto
-  into-not j p e = let none = told-refused (stretchOf s) (sumsOf P) j p e in rw none (refl, refl)
-
-  module _ (n z m : ℕ) (e : after (stretchOf s) (λ t. ok (sumsOf P t)) ≡ ok (record { segments = n; size = z; ends = m })) where
-    sums : (t : Text) × (stretchOf s ≡ ok t) × (sumsOf P t ≡ record { segments = n; size = z; ends = m })
-    sums = told-met (stretchOf s) (sumsOf P) (record { segments = n; size = z; ends = m }) e
-
-    segments-are : length (sums .0) ≡ n
-    unfolding sumsOf
-    segments-are = ap (λ (x : Sums). x .segments) (sums .2)
-
-    pub into-short : length out < n → Told (stretchInto s (length out)) (refused 10 0) out
-    unfolding stretchInto
-    into-short l =
-        let few : length out < length (sums .0) = omega (arith, segments-are) in
-        rw (sums .1, lt-leb (length (sums .0)) (length out) few) (refl, refl)
-
-    pub into-marked : (found left : List ℕ) → n ≤ length out → Marks P (stretchOf s) found → left ≡ over out 0 (take n found)
-        → Told (stretchInto s (length out)) (ok (record { segments = n; size = z; ends = m })) left
-    unfolding stretchInto
-    into-marked found left l h w =
-        let fit : length (sums .0) ≤ length out = omega (arith, segments-are) in
-        rw (sums .1, le-leb (length (sums .0)) (length out) fit)
-        (ap ok (sym (sums .2)), w ∙ ap (over out 0) (ap (λ (i : ℕ). take i found) (sym segments-are) ∙ h (sums .0) (sums .1)))
+  answered : (o : Outcome Text) (told : Outcome Seen) (said : Outcome Sums) (left : List ℕ) → Told P fresh o out o told left
+      → said ≡ after told (λ x. ok (sums x)) → Answered o said left
+  unfolding sumsOf marks
+  answered o told said left h e =
+      (e ∙ ap (λ (k : Outcome Seen). after k (λ x. ok (sums x))) (h .0) ∙ after-after o (λ t. ok (seenFrom P fresh t)) (λ x. ok (sums x)), h .1)
 
   -- with the pattern asked first
-  pub pattern-not : (j p : ℕ) → pattern P (ok (tt {0})) ≡ refused j p → Told (searching P s (length out)) (refused j p) out
+  pub pattern-not : (j p : ℕ) → pattern P (ok (tt {0})) ≡ refused j p → Answered (searching P s (length out)) (refused j p) out
   unfolding searching
   pattern-not j p e = rw (pattern-refused P j p e (stretchInto s (length out))) (refl, refl)
 
-  pub pattern-sound-told : pattern P (ok (tt {0})) ≡ ok tt → (told : Outcome Sums) (left : List ℕ)
-      → Told (stretchInto s (length out)) told left → Told (searching P s (length out)) told left
+  pub pattern-marked : SoundPattern P → (told : Outcome Seen) (said : Outcome Sums) (left : List ℕ)
+      → Told P fresh (stretchOf s) out (stretchInto s (length out)) told left → said ≡ after told (λ x. ok (sums x))
+      → Answered (searching P s (length out)) said left
   unfolding searching
-  pattern-sound-told e told left h = rw (sound-pattern P (pattern-sound P e) (stretchInto s (length out))) h
+  pattern-marked y told said left h e =
+      rw (sound-pattern P y (stretchInto s (length out))) (answered (stretchInto s (length out)) told said left h e)
+
+  long-refused : greatestStretch < length s → stretchInto s (length out) ≡ refused 4 0
+  unfolding into
+  long-refused l = rw (stretch-long s l)
+
+  seek-fresh : SoundPattern P → seeking P fresh s (length out) ≡ stretchInto s (length out)
+  unfolding seeking
+  seek-fresh y =
+      by-cases (decLt greatestStretch (length s))
+      (λ (l : greatestStretch < length s). entering-over P fresh s y l (stretchInto s (length out)) ∙ sym (long-refused l))
+      (λ (l : ¬ (greatestStretch < length s)).
+      let short : length s ≤ greatestStretch = omega arith in
+      entering-sound P fresh s (record { sound = y; short = short; state = fresh-state P (y .some) }) (stretchInto s (length out)))
+
+  -- a search from the fresh state is a search
+  pub fresh-searching : seeking P fresh s (length out) ≡ searching P s (length out)
+  unfolding searching seeking
+  fresh-searching = go (pattern P (ok (tt {0}))) refl
+    where
+      go : (o : Outcome (Unit {0})) → pattern P (ok (tt {0})) ≡ o → entering P fresh s (stretchInto s (length out)) ≡ pattern P (stretchInto s (length out))
+      go (ok t) e = let y = pattern-sound P e in seek-fresh y ∙ sym (sound-pattern P y (stretchInto s (length out)))
+      go (refused j p) e = entering-pattern P fresh s j p e (stretchInto s (length out)) ∙ sym (pattern-refused P j p e (stretchInto s (length out)))
+
+  pub fresh-marked : (told : Outcome Seen) (said : Outcome Sums) (left : List ℕ)
+      → Told P fresh (stretchOf s) out (seeking P fresh s (length out)) told left → said ≡ after told (λ x. ok (sums x))
+      → Answered (searching P s (length out)) said left
+  fresh-marked told said left h e = rw fresh-searching at (answered (seeking P fresh s (length out)) told said left h e)

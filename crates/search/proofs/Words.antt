@@ -1,32 +1,35 @@
 -- Laws of words: how they go on, and what is left of them where the bits from m up are cleared; and the sweep over the variants of a
 -- segment.
-use Prim.Native.Nat.{ℕ, suc, _+_, _-_, _/_, _%_, _^_, _≤_, _<_}
-use native.Mathlib.Nat.{pow-suc, mod-lt}
+use Prim.Native.Nat.{ℕ, suc, _+_, _-_, _*_, _/_, _%_, _^_, _≤_, _<_}
+use native.Mathlib.Nat.{pow-suc, mod-lt, one-mul, mod-eq-of-lt}
 use native.Mathlib.Omega.{arith}
-use mathlib.Core.Path.{_≡_, sym, ap, ap₂, subst, _∙_}
-use mathlib.Core.Bool.{true, false, _||_}
+use mathlib.Core.Path.{_≡_, refl, sym, ap, ap₂, subst, _∙_}
+use mathlib.Core.Bool.{Bool, true, false, not, _||_, true≢false}
 use mathlib.Core.List.{List, [], _∷_, _++_}
+use borrow.Author.Tests.{eq-eqb}
 use lib.Bits.{bitAnd, bitOr, and-mask, or-lt}
 use lib.Dec.{ltb}
 use lib.ListN.{length, take, drop}
-use lib.Pow.{pow-pos}
-use Rattle.text.specs.Letter.{letter, every}
-use Rattle.text.specs.Text.{Variant, Segment, counted}
+use lib.Pow.{pow-pos, pow-lt}
+use Rattle.text.specs.Letter.{letter, every, firstNot}
+use Rattle.text.specs.Text.{Variant, Segment, counted, weight}
 use Rattle.text.specs.Bits.{bit}
 use Rattle.text.specs.State.{next, ends}
-use Rattle.text.specs.Refusal.{refused}
-use Rattle.text.proofs.Bits.{bit-ext, bit-zero, bit-or, bit-mod}
+use Rattle.text.specs.Refusal.{ok, refused}
+use Rattle.text.proofs.Bits.{bit-ext, bit-zero, bit-or, bit-mod, bit-single}
+use Rattle.text.proofs.Letters.{first-le, first-every, first-not-every}
 use Rattle.text.proofs.Steps.{next-lt}
 use Rattle.text.proofs.Folds.{next-none, next-snoc, ends-none, ends-snoc}
-use Rattle.stretch.specs.Reading.{lettersAt, variantAt, many}
-use Rattle.stretch.specs.Variants.{repeated, soundAt}
-use Rattle.stretch.proofs.Heads.{Whole, whole-part}
-use Rattle.stretch.proofs.Segments.{InSegment, in-none, in-more, in-refused}
-use Rattle.search.specs.Words.{Words, SweptAt}
-use Rattle.search.specs.declared.bits.Swept.{Swept}
-use Rattle.search.specs.declared.bits.Swept.the-variants.{To, Refused}
-use Rattle.search.proofs.Vectors.{low-ones, top-bit, ends-lone}
-use Rattle.search.proofs.Passes.{Taking, letters-new}
+use Rattle.stretch.specs.Reading.{lettersAt, valueOf, variantAt, valuesFrom, many}
+use Rattle.stretch.proofs.Heads.{Whole, whole-part, value-part, value-length}
+use Rattle.stretch.proofs.Units.{variant-read}
+use Rattle.stretch.proofs.Segments.{InSegment, in-none, in-next, in-not}
+use Rattle.search.specs.Step.{Steps}
+use Rattle.search.specs.Words.{Words, LettersBy, SweptAt}
+use Rattle.search.specs.declared.segment.Swept.{Swept}
+use Rattle.search.specs.declared.segment.Swept.the-variants.{To, Refused}
+use Rattle.search.proofs.BitScans.{low-ones, top-bit, ends-lone}
+use Rattle.search.proofs.Passes.{Taking}
 
 words-none : (P : List ℕ) (st : ℕ) → 0 < length P → st % 2 ≡ 1 → Words P st [] 1 0
 words-none P st some odd =
@@ -75,18 +78,58 @@ module _ (P : List ℕ) (st : ℕ) (g : Segment) (d hits : ℕ) (w : Words P st 
       ∙ top-bit (length P - 1) hits (subst (λ (n : ℕ). hits < 2 ^ n) long (w .fits))
       ∙ w .end
 
+-- a step that is told as words: the last bit says whether an occurrence ends
+module _ (P : List ℕ) (st : ℕ) (v : Variant) (bits : ℕ) where
+  pub words-miss : {end : Bool} → Steps P st v bits end → end ≡ false → Words P st (v ∷ []) bits 0
+  words-miss t miss =
+      record {
+        state = λ r l. ap (λ (n : ℕ). bit n r) (t .state);
+        fits = pow-pos (length P);
+        end = bit-zero (length P - 1) ∙ sym miss ∙ t .end ∙ sym (ends-lone P st v);
+      }
+
+  pub words-hit : 0 < length P → length P ≤ 64 → {end : Bool} → Steps P st v bits end → end ≡ true → Words P st (v ∷ []) bits (1 * 2 ^ (length P - 1) % 2 ^ 64)
+  words-hit some short t hit =
+      let last : length P - 1 < 64 = omega (arith, some, short) in
+      let near : length P - 1 < length P = omega (arith, some) in
+      let alone : 1 * 2 ^ (length P - 1) % 2 ^ 64 ≡ 2 ^ (length P - 1) =
+      ap (λ (n : ℕ). n % 2 ^ 64) (one-mul (2 ^ (length P - 1))) ∙ mod-eq-of-lt (pow-lt last) in
+      rw alone
+      (record {
+        state = λ r l. ap (λ (n : ℕ). bit n r) (t .state);
+        fits = pow-lt near;
+        end = bit-single (length P - 1) (length P - 1) ∙ eq-eqb (length P - 1) (length P - 1) refl ∙ sym hit ∙ t .end ∙ sym (ends-lone P st v);
+      })
+
+-- letters that were looked at before their step
+module _ (P : List ℕ) (st : ℕ) (v : Variant) (x : ℕ) (e : x ≡ firstNot letter v) where
+  pub letters-bad : x < length v → LettersBy P st v 0 0 true
+  letters-bad l =
+      let bad : every letter v ≡ false = first-not-every letter v (subst (λ (n : ℕ). n < length v) e l) in
+      (sym (ap not bad), λ good. absurd (true≢false (sym good ∙ bad)))
+
+  pub letters-good : length v ≤ x → (bits hits : ℕ) → Words P st (v ∷ []) bits hits → LettersBy P st v bits hits false
+  letters-good l bits hits w =
+      let all : firstNot letter v ≡ length v = omega (arith, e, first-le letter v) in
+      (sym (ap not (first-every letter v all)), λ _. w)
+
 -- the answers of a sweep over a variant
 module _ (P : List ℕ) (st : ℕ) (s : List ℕ) (first k at : ℕ) where
-  pub swept-not : (j p : ℕ) → soundAt s first k at ≡ refused j p → SweptAt P st s first k at (Refused (record { number = j; place = p }))
+  pub swept-not : (j p : ℕ) → variantAt s (valuesFrom s k first) at ≡ refused j p → SweptAt P st s first k at (Refused (record { number = j; place = p }))
   unfolding SweptAt
   swept-not j p e = e
 
-  pub swept-to : (start next : ℕ) → Whole s at start next → every letter (take (next - start) (drop start s)) ≡ true
-      → repeated s (take (next - start) (drop start s)) k first ≡ false → (size bits hits : ℕ) → size ≡ counted (next - start)
-      → Words P st (take (next - start) (drop start s) ∷ []) bits hits → SweptAt P st s first k at (To next size bits hits)
-  unfolding SweptAt
-  swept-to start next w good new size bits hits e t =
-      (start, letters-new s first k at start next w good new, e, rw (whole-part s at start next w) at t)
+  pub swept-to : (start next : ℕ) → Whole s at start next
+      → variantAt s (valuesFrom s k first) at ≡ ok (record { value = valueOf s at; next = next })
+      → (size bits hits : ℕ) → size ≡ counted (next - start)
+      → (every letter (take (next - start) (drop start s)) ≡ true → Words P st (take (next - start) (drop start s) ∷ []) bits hits)
+      → SweptAt P st s first k at (To next size bits hits)
+  unfolding SweptAt weight
+  swept-to start next w read size bits hits e t =
+      let own : take (next - start) (drop start s) ≡ valueOf s at = whole-part s at start next w ∙ sym (value-part s at) in
+      let good : every letter (lettersAt s at) ≡ true = variant-read s (valuesFrom s k first) at _ read .letters in
+      let long : next - start ≡ length (valueOf s at) = omega (arith, value-length s at (w .inside), w .starts, w .ends) in
+      (read, e ∙ ap counted long, rw own at (t (rw (whole-part s at start next w) good)))
 
 -- the variants of a segment, swept one after another
 pub record Sweeping (P : List ℕ) (st : ℕ) (s : List ℕ) (first k at size state hits : ℕ) : Type 0 where
@@ -103,16 +146,16 @@ module _ (P : List ℕ) (st : ℕ) (s : List ℕ) (first k at size state hits : 
         → Sweeping P st s first (k + 1) behind (size + more) (bitOr state bits) (bitOr hits met)
     unfolding SweptAt
     sweeping-more behind more bits met e =
-        let (start, sound, count, words) = subst (SweptAt P st s first k at) e w in
+        let (read, count, words) = subst (SweptAt P st s first k at) e w in
         record {
-          seen = t .seen ++ (lettersAt s at ∷ []);
-          sum = in-more s first k (t .seen) at size (t .sum) start behind more sound count;
-          words = words-more P st (t .seen) (lettersAt s at) state hits bits met (t .words) words;
+          seen = t .seen ++ (valueOf s at ∷ []);
+          sum = in-next s first k (t .seen) at size (t .sum) _ more read count;
+          words = words-more P st (t .seen) (valueOf s at) state hits bits met (t .words) words;
         }
 
     pub sweeping-refused : (n : ℕ) → k < n → (j p : ℕ) → r ≡ Refused (record { number = j; place = p }) → many (variantAt s) n [] first ≡ refused j p
     unfolding SweptAt
-    sweeping-refused n l j p e = in-refused s first k (t .seen) at size (t .sum) n l j p (subst (SweptAt P st s first k at) e w)
+    sweeping-refused n l j p e = in-not s first k (t .seen) at size (t .sum) n l j p (subst (SweptAt P st s first k at) e w)
 
   -- the bits from m up are cleared behind the last one
   pub sweeping-taken : 0 < length P → length P ≤ 64 → (low : ℕ) → low ≡ 0xffff_ffff_ffff_ffff / 2 ^ (64 - length P)

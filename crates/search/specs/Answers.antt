@@ -2,45 +2,82 @@
 use Prim.Native.Nat.{ℕ, _+_, _-_, _*_, _/_, _≤_, min}
 use mathlib.Core.Path.{_≡_}
 use mathlib.Core.Bool.{Bool}
-use mathlib.Core.List.{List, [], _∷_}
+use mathlib.Core.List.{List}
 use lib.Dec.{leb}
 use lib.ListN.{length, take}
 use Rattle.text.specs.Text.{Text, total, size}
-use Rattle.text.specs.State.{isState, next, ends, run, marksFrom, marks}
+use Rattle.text.specs.State.{isState, fresh, next, ends, run, marksFrom, marks}
 use Rattle.text.specs.Refusal.{Outcome, ok, refused, demand, after, pattern}
 use Rattle.stretch.specs.Bytes.{greatestStretch}
-use Rattle.stretch.specs.Encoding.{encodeSegment}
 use Rattle.stretch.specs.Reading.{Taken, fits, loneSegment, stretchOf}
+use Rattle.search.specs.declared.entry.Entry.{Entry}
+use Rattle.search.specs.declared.entry.Entry.the-variants.{Open}
 use Rattle.search.specs.declared.state.Fed.{Fed}
 use Rattle.search.specs.declared.run.Ran.{Ran}
 use Rattle.search.specs.declared.run.Ran.the-variants.{To}
-use Rattle.search.specs.declared.walk.Searched.{Searched}
-use Rattle.search.specs.declared.walk.Searched.the-variants.{Marked}
+use Rattle.search.specs.declared.state.Sought.{Sought}
+use Rattle.search.specs.declared.searching.Searched.{Searched}
+use Rattle.search.specs.declared.searching.Searched.the-variants.{Marked}
+
+-- what is asked before o of a pattern, of the bytes that are searched, and of a state: 1, 2, 3, 4, 17
+unfoldable pub entering : {A : Type 0} → List ℕ → ℕ → List ℕ → Outcome A → Outcome A
+entering P st s o = pattern P (fits s (demand (isState (length P) st) 17 0 o))
+
+abbrev pub toldEntry : Entry → Outcome (Unit {0})
+toldEntry Open = ok tt
+toldEntry (Entry.Refused r) = refused (r .number) (r .place)
+
+-- a text whose marks go into a buffer of so many bytes: 10
+unfoldable pub into : ℕ → Outcome Text → Outcome Text
+into room o = after o λ t. demand (leb (length t) room) 10 0 (ok t)
 
 -- a stretch whose marks go into a buffer of so many bytes
-unfoldable pub stretchInto : List ℕ → ℕ → Outcome Text
-stretchInto s room = after (stretchOf s) λ t. demand (leb (length t) room) 10 0 (ok t)
+abbrev pub stretchInto : List ℕ → ℕ → Outcome Text
+stretchInto s room = into room (stretchOf s)
 
 -- a search: 1, 2, 3, those of the stretch, then 10
 unfoldable pub searching : List ℕ → List ℕ → ℕ → Outcome Text
 searching P s room = pattern P (stretchInto s room)
 
--- what a search tells of a text: its segment count, its size, and the number of ones among its marks
+-- a search from a state: 1, 2, 3, 4, 17, those of the stretch, then 10
+unfoldable pub seeking : List ℕ → ℕ → List ℕ → ℕ → Outcome Text
+seeking P st s room = entering P st s (stretchInto s room)
+
+-- what a search from a state tells of a text: its segment count, its size, the number of ones among its marks, and the state behind it
+pub record Seen : Type 0 where
+  pub segments : ℕ
+  pub size : ℕ
+  pub ends : ℕ
+  pub state : ℕ
+
+unfoldable pub seenFrom : List ℕ → ℕ → Text → Seen
+seenFrom P st t =
+    record { segments = length t; size = size t; ends = total (λ x. x) (marksFrom P st t); state = run P st t }
+
+abbrev pub toldSought : Sought → Outcome Seen
+toldSought (Sought.Marked segments size ends state) =
+    ok (record { segments = segments; size = size; ends = ends; state = state .bits })
+toldSought (Sought.Refused r) = refused (r .number) (r .place)
+
+-- what a search tells of a text, from the fresh state
 pub record Sums : Type 0 where
   pub segments : ℕ
   pub size : ℕ
   pub ends : ℕ
 
+abbrev pub sums : Seen → Sums
+sums x = record { segments = x .segments; size = x .size; ends = x .ends }
+
 unfoldable pub sumsOf : List ℕ → Text → Sums
-sumsOf P t = record { segments = length t; size = size t; ends = total (λ x. x) (marks P t) }
+sumsOf P t = sums (seenFrom P fresh t)
 
 abbrev pub toldSearched : Searched → Outcome Sums
 toldSearched (Marked segments size ends) = ok (record { segments = segments; size = size; ends = ends })
 toldSearched (Searched.Refused r) = refused (r .number) (r .place)
 
 -- a buffer that holds the marks of an accepted text in front; after a refusal it may hold anything
-abbrev pub Marks : List ℕ → Outcome Text → List ℕ → Type 0
-Marks P o buffer = (t : Text) → o ≡ ok t → take (length t) buffer ≡ marks P t
+abbrev pub MarksOf : List ℕ → ℕ → Outcome Text → List ℕ → Type 0
+MarksOf P st o buffer = (t : Text) → o ≡ ok t → take (length t) buffer ≡ marksFrom P st t
 
 -- what a run over segments tells: the place behind them, their size, the state there, and the number of ones among their marks
 pub record Course : Type 0 where
@@ -59,7 +96,7 @@ courseOf P st x =
     }
 
 abbrev pub toldRan : Ran → Outcome Course
-toldRan (To next size bits ends) = ok (record { next = next; size = size; state = bits; ends = ends })
+toldRan (To next size state ends) = ok (record { next = next; size = size; state = state .bits; ends = ends })
 toldRan (Ran.Refused r) = refused (r .number) (r .place)
 
 -- a buffer that holds the marks of accepted segments in front; after a refusal it may hold anything
@@ -85,21 +122,8 @@ pub record Next : Type 0 where
 
 -- a feed: 1, 2, 3, 4, 17, then 5 to 9
 unfoldable pub feeding : List ℕ → ℕ → List ℕ → Outcome Next
-feeding P st s =
-    pattern P
-    (fits s
-    (demand (isState (length P) st) 17 0
-    (after (loneSegment s) λ g.
-    (ok (record { state = next P st g; ends = ends P st g })))))
+feeding P st s = entering P st s (after (loneSegment s) λ g. ok (record { state = next P st g; ends = ends P st g }))
 
 abbrev pub toldFed : Fed → Outcome Next
 toldFed (Fed.Next state ends) = ok (record { state = state .bits; ends = ends })
 toldFed (Fed.Refused r) = refused (r .number) (r .place)
-
--- the segments of a text fed one by one, each as its bytes
-unfoldable pub feeds : List ℕ → ℕ → Text → Outcome (List Next)
-feeds P st [] = ok []
-feeds P st (g ∷ T) =
-    after (feeding P st (encodeSegment g)) λ x.
-    (after (feeds P (x .state) T) λ xs.
-    (ok (x ∷ xs)))

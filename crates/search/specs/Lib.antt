@@ -6,6 +6,5 @@ pub mod Border
 pub mod BorderStep
 pub mod Method
 pub mod Answers
+pub mod Chain
 pub mod Carried
-pub mod RowStep
-pub mod Rows

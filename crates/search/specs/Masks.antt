@@ -4,13 +4,18 @@ use mathlib.Core.Path.{_≡_}
 use mathlib.Core.Bool.{cond}
 use mathlib.Core.List.{List}
 use lib.Dec.{eqb}
-use lib.ListN.{length, getD}
+use lib.ListN.{length, getD, take}
 use Rattle.text.specs.Letter.{letter}
 use Rattle.text.specs.Bits.{fromBits}
+use Rattle.text.specs.Refusal.{greatestPattern}
 
 -- the letter vector of c: bit k is set where base k of P is c, for every k below m
 unfoldable pub maskOf : List ℕ → ℕ → ℕ
 maskOf P c = fromBits (λ k. eqb (getD P k 0) c) (length P)
+
+-- the bases that a word has bits for: of a pattern over 64 bytes the first 64
+unfoldable pub bases : List ℕ → List ℕ
+bases P = take greatestPattern P
 
 -- a table with the letter vector of each byte
 pub record Masks (P table : List ℕ) : Type 0 where

@@ -1,15 +1,14 @@
 -- Steps over a variant and over a segment, whatever method makes them: how far they come in the bytes, and with which state.
-use Prim.Native.Nat.{ℕ, _-_}
+use Prim.Native.Nat.{ℕ}
 use mathlib.Core.Path.{_≡_}
 use mathlib.Core.Bool.{Bool}
 use mathlib.Core.List.{List, [], _∷_}
-use Rattle.text.specs.Text.{Variant, counted, weight, total}
+use Rattle.text.specs.Text.{Variant, weight, total}
 use Rattle.text.specs.State.{next, endsAt, ends}
 use Rattle.text.specs.Refusal.{Outcome, ok, refused, after}
-use Rattle.stretch.specs.Reading.{lettersAt, segmentAt}
-use Rattle.stretch.specs.Variants.{soundAt}
-use Rattle.search.specs.declared.step.Passed.{Passed}
-use Rattle.search.specs.declared.step.Passed.the-variants.{To, Refused}
+use Rattle.stretch.specs.Reading.{segmentAt}
+use Rattle.search.specs.declared.segment.Passed.{Passed}
+use Rattle.search.specs.declared.segment.Passed.the-variants.{To, Refused}
 
 -- from the state st the variant v alone leads to `bits`, and an occurrence ends in it exactly where `ends` says
 pub record Steps (P : List ℕ) (st : ℕ) (v : Variant) (bits : ℕ) (ends : Bool) : Type 0 where
@@ -24,20 +23,8 @@ pub record Pass : Type 0 where
   pub ends : Bool
 
 abbrev pub toldPassed : Passed → Outcome Pass
-toldPassed (To next size bits ends) = ok (record { next = next; size = size; state = bits; ends = ends })
+toldPassed (To next size state ends) = ok (record { next = next; size = size; state = state .bits; ends = ends })
 toldPassed (Refused r) = refused (r .number) (r .place)
-
--- the variant at `at`, behind the k of its segment that stand from `first` on
-unfoldable pub variantPass : List ℕ → ℕ → List ℕ → ℕ → ℕ → ℕ → Outcome Pass
-variantPass P st s first k at =
-    after (soundAt s first k at) λ p.
-    ok
-    (record {
-      next = p .next;
-      size = counted (p .next - p .start);
-      state = next P st (lettersAt s at ∷ []);
-      ends = endsAt P st (lettersAt s at);
-    })
 
 -- the segment at `at`
 unfoldable pub segmentPass : List ℕ → ℕ → List ℕ → ℕ → Outcome Pass

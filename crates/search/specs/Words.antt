@@ -1,16 +1,18 @@
 -- Words of the search by bit-vectors, before bits from m up are cleared: what they say of a state and of an end.
 use Prim.Native.Nat.{ℕ, _-_, _^_, _<_}
 use mathlib.Core.Path.{_≡_}
+use mathlib.Core.Bool.{Bool, true, not}
 use mathlib.Core.List.{List, [], _∷_}
 use lib.ListN.{length}
-use Rattle.text.specs.Text.{Segment, counted}
+use Rattle.text.specs.Letter.{letter, every}
+use Rattle.text.specs.Text.{Variant, Segment, weight}
 use Rattle.text.specs.Bits.{bit}
 use Rattle.text.specs.State.{next, ends}
 use Rattle.text.specs.Refusal.{ok, refused}
-use Rattle.stretch.specs.Reading.{lettersAt}
-use Rattle.stretch.specs.Variants.{soundAt}
-use Rattle.search.specs.declared.bits.Swept.{Swept}
-use Rattle.search.specs.declared.bits.Swept.the-variants.{To, Refused}
+use Rattle.stretch.specs.Reading.{valueOf, variantAt, valuesFrom}
+use Rattle.search.specs.Masks.{Ready}
+use Rattle.search.specs.declared.segment.Swept.{Swept}
+use Rattle.search.specs.declared.segment.Swept.the-variants.{To, Refused}
 
 -- from the state st the variants of g lead to the state that `bits` has below m, and the last bit of `hits` tells whether an
 -- occurrence ends in one of them
@@ -19,8 +21,18 @@ pub record Words (P : List ℕ) (st : ℕ) (g : Segment) (bits hits : ℕ) : Typ
   pub fits : hits < 2 ^ length P
   pub end : bit hits (length P - 1) ≡ ends P st g
 
+-- what a scan of the variant v comes to, for every pattern whose tables these are
+abbrev pub ScannedBy : List ℕ → List ℕ → ℕ → Variant → ℕ → ℕ → Bool → Type 0
+ScannedBy masks classes st v bits hits wrong =
+    (P : List ℕ) → Ready P masks classes st → Words P st (v ∷ []) bits hits × (wrong ≡ not (every letter v))
+
+-- what a method tells of the letters v: whether one of them is wrong, and if none is, their words
+abbrev pub LettersBy : List ℕ → ℕ → Variant → ℕ → ℕ → Bool → Type 0
+LettersBy P st v bits hits wrong = (wrong ≡ not (every letter v)) × (every letter v ≡ true → Words P st (v ∷ []) bits hits)
+
 -- what a sweep over the variant at `at` comes to, behind the k of its segment that stand from `first` on
 unfoldable pub SweptAt : List ℕ → ℕ → List ℕ → ℕ → ℕ → ℕ → Swept → Type 0
 SweptAt P st s first k at (To next size bits hits) =
-    (start : ℕ) × (soundAt s first k at ≡ ok (record { start = start; next = next })) × (size ≡ counted (next - start)) × Words P st (lettersAt s at ∷ []) bits hits
-SweptAt P st s first k at (Refused r) = soundAt s first k at ≡ refused (r .number) (r .place)
+    (variantAt s (valuesFrom s k first) at ≡ ok (record { value = valueOf s at; next = next }))
+    × (size ≡ weight (valueOf s at)) × Words P st (valueOf s at ∷ []) bits hits
+SweptAt P st s first k at (Refused r) = variantAt s (valuesFrom s k first) at ≡ refused (r .number) (r .place)

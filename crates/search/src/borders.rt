@@ -3,7 +3,6 @@
 // for the chain of borders at its end and for each carried length.
 use crate::borders::begun::begun;
 use crate::borders::carried::carried;
-use crate::step::Stepped;
 ghost use Prim.Native.Nat.{_<_, _^_};
 ghost use lib.ListN.{length};
 ghost use Rattle.search.specs.Border.{Borders, Sized};
@@ -11,11 +10,15 @@ ghost use Rattle.search.specs.Step.{Steps};
 
 mod begun;
 mod carried;
-mod segment;
 mod table;
 
-pub use segment::segment_borders;
 pub use table::border_table;
+
+// The state that one variant leads to, and whether an occurrence ends in it.
+pub struct Stepped {
+    pub bits: u64,
+    pub ends: bool,
+}
 
 // The state that `bits` leads to by one variant, and whether an occurrence ends in it. Where bit 0 is clear nothing begins.
 pub fn step_borders(pattern: &[u8], table: &[u64; 256], bits: u64, variant: &[u8]) -> Stepped

@@ -1,33 +1,60 @@
 // The two methods: which of them a call takes is a value, so that one walk serves both.
-use crate::bits::segment_bits;
-use crate::borders::segment_borders;
-use crate::step::Passed;
-ghost use mathlib.Core.Path.{_≡_};
-ghost use Rattle.search.specs.Step.{toldPassed, segmentPass};
+use crate::bits::Scanned;
+use crate::bits::scan;
+use crate::borders::step_borders;
+use text::letter::first_wrong;
+ghost use Rattle.search.specs.Border.{Bordered};
 ghost use Rattle.search.specs.Masks.{StateOf};
 ghost use Rattle.search.specs.Method.{Tools};
+ghost use Rattle.search.specs.Words.{LettersBy};
 
 pub enum Method {
     Bits,
     Borders,
 }
 
-// The segment at `at`, by the method chosen. The choice is made here, once for each segment: made at each variant, it costs some
-// 8 instructions in a hundred.
-pub fn segment_by(
+// A variant's letters by border tables, told as a scan tells it: the last bit of the union says whether an occurrence ends.
+fn scan_borders(pattern: &[u8], table: &[u64; 256], bits: u64, letters: &[u8]) -> Scanned
+    requires { ⌜ Bordered (now pattern) (now table) bits ⌝ }
+    ensures { λ r. ⌜ LettersBy (now (pattern .entry)) bits (now (letters .entry)) (r .bits) (r .hits) (r .wrong) ⌝ }
+{
+    if first_wrong(letters) < letters.len() {
+        return Scanned {
+            bits: 0,
+            hits: 0,
+            wrong: true,
+        };
+    }
+    let stepped = step_borders(pattern, table, bits, letters);
+    if stepped.ends {
+        let hits = 1 << (pattern.len() - 1);
+        return Scanned {
+            bits: stepped.bits,
+            hits,
+            wrong: false,
+        };
+    }
+    Scanned {
+        bits: stepped.bits,
+        hits: 0,
+        wrong: false,
+    }
+}
+
+// A variant's letters, by the method chosen.
+pub fn scan_by(
     method: Method,
     pattern: &[u8],
     table: &[u64; 256],
     classes: &[u8; 256],
     bits: u64,
-    stretch: &[u8],
-    at: usize,
-) -> Passed
+    letters: &[u8],
+) -> Scanned
     requires { ⌜ Tools method (now pattern) (now table) (now classes) × StateOf (now pattern) bits ⌝ }
-    ensures { λ r. ⌜ toldPassed r ≡ segmentPass (now (pattern .entry)) bits (now (stretch .entry)) at ⌝ }
+    ensures { λ r. ⌜ LettersBy (now (pattern .entry)) bits (now (letters .entry)) (r .bits) (r .hits) (r .wrong) ⌝ }
 {
     match method {
-        Method::Bits => segment_bits(pattern, table, classes, bits, stretch, at),
-        Method::Borders => segment_borders(pattern, table, bits, stretch, at),
+        Method::Bits => scan(table, classes, bits, letters),
+        Method::Borders => scan_borders(pattern, table, bits, letters),
     }
 }

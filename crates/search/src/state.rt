@@ -1,20 +1,26 @@
-// States: which lengths of a pattern end exactly at the end of the last segment.
-use crate::masks::classes;
-use crate::masks::masks;
+// States: which lengths of a pattern end exactly at the end of the last segment. A search goes from segment to segment, and from
+// stretch to stretch, as a state handed in and handed back.
+use crate::entry::Entry;
+use crate::entry::enter;
+use crate::marking::mark;
 use crate::method::Method;
 use crate::run::Ran;
 use crate::run::run;
+use crate::vectors::classes;
+use crate::vectors::masks;
+use stretch::pieces::Verdict;
+use stretch::pieces::closed;
 use text::Refusal;
-use text::pattern::PatternIs;
-use text::pattern::check;
-use text::refusal;
 ghost use mathlib.Core.Path.{_≡_};
 ghost use mathlib.Core.List.{[]};
-ghost use Rattle.text.specs.Refusal.{Outcome, ok, after};
+ghost use lib.ListN.{length};
+ghost use Rattle.text.specs.Refusal.{ok, after};
+ghost use Rattle.text.specs.State.{marksFrom};
 ghost use Rattle.stretch.specs.Reading.{segmentAt, many};
+ghost use Rattle.stretch.specs.Answers.{leftBy};
 ghost use Rattle.search.specs.Masks.{StateOf};
 ghost use Rattle.search.specs.Border.{Sized};
-ghost use Rattle.search.specs.Answers.{feeding, toldFed, courseOf, toldRan};
+ghost use Rattle.search.specs.Answers.{feeding, toldFed, courseOf, toldRan, seeking, seenFrom, toldSought};
 ghost use Rattle.search.specs.Carried.{carriedBy};
 
 // Bit r is set when length r is carried, 1 to 63. Bit 0 is no length: an occurrence may start afresh.
@@ -25,6 +31,18 @@ pub struct State {
 // The state after one segment, and whether an occurrence ends in it.
 pub enum Fed {
     Next { state: State, ends: bool },
+    Refused(Refusal),
+}
+
+// What a search from a state answers: the segment count, the size, the number of ones among the marks, and the state behind the
+// stretch.
+pub enum Sought {
+    Marked {
+        segments: usize,
+        size: usize,
+        ends: usize,
+        state: State,
+    },
     Refused(Refusal),
 }
 
@@ -42,40 +60,41 @@ impl State {
     pub fn feed(self, pattern: &[u8], segment: &[u8]) -> Fed
         ensures { λ r. ⌜ toldFed r ≡ feeding (now (pattern .entry)) (self .bits) (now (segment .entry)) ⌝ }
     {
-        let bits = self.bits;
-        match check(pattern) {
-            PatternIs::Refused(refused) => {
-                return Fed::Refused(refused);
-            }
-            PatternIs::Sound => {}
+        if let Entry::Refused(refused) = enter(pattern, self, segment) {
+            return Fed::Refused(refused);
         }
-        let end = segment.len();
-        if refusal::GREATEST_STRETCH < end {
-            return refused(refusal::STRETCH_LONG, 0);
-        }
-        let low = 0xffff_ffff_ffff_ffff >> (64 - pattern.len());
-        if bits % 2 == 0 {
-            return refused(refusal::STATE_WRONG, 0);
-        }
-        if low < bits {
-            return refused(refusal::STATE_WRONG, 0);
-        }
-        match alone(pattern, bits, segment) {
+        match alone(pattern, self, segment) {
             Ran::Refused(refused) => Fed::Refused(refused),
             Ran::To {
                 next,
                 size: _,
-                bits: reached,
+                state,
                 ends,
             } => {
-                if next != end {
-                    return refused(refusal::BYTES_LEFT, next);
+                if let Verdict::Refused(refused) = closed(segment, next, 1) {
+                    return Fed::Refused(refused);
                 }
                 let hit = ends != 0;
-                Fed::Next {
-                    state: State { bits: reached },
-                    ends: hit,
-                }
+                Fed::Next { state, ends: hit }
+            }
+        }
+    }
+
+    // The search of a whole stretch from this state, by bit-vectors: refusals 1, 2, 3, 4, 17, those of the stretch, then 10. It
+    // writes 1 or 0 for each segment; further bytes stay, and a refusal changes nothing. The state behind the stretch is where the
+    // search of the next one begins, so that nothing is lost at a cut.
+    pub fn through(self, pattern: &[u8], stretch: &[u8], marks: &mut [u8]) -> Sought
+        ensures { λ r. ⌜ toldSought r
+            ≡ after (seeking (now (pattern .entry)) (self .bits) (now (stretch .entry)) (length (now (marks .entry))))
+            (λ t. ok (seenFrom (now (pattern .entry)) (self .bits) t)) ⌝ }
+        ensures { λ r. ⌜ now (marks .exit) ≡ leftBy (marksFrom (now (pattern .entry)) (self .bits))
+            (seeking (now (pattern .entry)) (self .bits) (now (stretch .entry)) (length (now (marks .entry)))) (now (marks .entry)) ⌝ }
+    {
+        match enter(pattern, self, stretch) {
+            Entry::Refused(refused) => Sought::Refused(refused),
+            Entry::Open => {
+                let table = masks(pattern);
+                mark(Method::Bits, pattern, &table, self, stretch, &mut *marks)
             }
         }
     }
@@ -98,10 +117,10 @@ impl State {
 }
 
 // The run over a lone segment. What it marks is told by the number of ones.
-fn alone(pattern: &[u8], bits: u64, segment: &[u8]) -> Ran
-    requires { ⌜ Sized (now pattern) × StateOf (now pattern) bits ⌝ }
+fn alone(pattern: &[u8], state: State, segment: &[u8]) -> Ran
+    requires { ⌜ Sized (now pattern) × StateOf (now pattern) (state .bits) ⌝ }
     ensures { λ r. ⌜ toldRan r
-        ≡ after (many (λ _. segmentAt (now (segment .entry))) 1 [] 0) (λ x. ok (courseOf (now (pattern .entry)) bits x)) ⌝ }
+        ≡ after (many (λ _. segmentAt (now (segment .entry))) 1 [] 0) (λ x. ok (courseOf (now (pattern .entry)) (state .bits) x)) ⌝ }
 {
     let table = masks(pattern);
     let letters = classes();
@@ -111,16 +130,10 @@ fn alone(pattern: &[u8], bits: u64, segment: &[u8]) -> Ran
         pattern,
         &table,
         &letters,
-        bits,
+        state,
         segment,
         0,
         1,
         &mut mark,
     )
-}
-
-fn refused(number: u64, place: usize) -> Fed
-    ensures { λ r. ⌜ toldFed r ≡ Outcome.refused number place ⌝ }
-{
-    Fed::Refused(Refusal { number, place })
 }

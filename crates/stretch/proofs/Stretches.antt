@@ -14,7 +14,7 @@ use Rattle.stretch.specs.Pieces.{openAt, mostInStretch}
 use Rattle.stretch.specs.Reading.{Taken, variantAt, many, segmentAt, stretchOf}
 use Rattle.stretch.specs.Answers.{checking}
 use Rattle.stretch.proofs.Walks.{Step, walk-refused, walk-length, Summed, summed-none, summed-more, many-steps, many-length}
-use Rattle.stretch.proofs.Frames.{open-cut, open-counts, closed-left, closed-many, closed-sound, segment-met}
+use Rattle.stretch.proofs.Frames.{open-cut, open-counts, closed-left, closed-many, closed-sound, segment-met, stretch-met}
 use Rattle.stretch.proofs.Units.{variant-read}
 use Rattle.stretch.proofs.Segments.{variant-steps}
 
@@ -101,3 +101,12 @@ segment-bytes s at x e =
   where
     two : (seen : Segment) (at : ℕ) (x : Taken Variant ℕ) → variantAt s seen at ≡ ok x → Step (λ v. 2) (length s) at x
     two seen at x e = let r = variant-read s seen at x e in rw (r .is) (record { counts = omega arith; inside = r .inside })
+
+-- an accepted stretch has at most 32,768 bytes and 10,922 segments
+pub stretch-short : (s : List ℕ) (t : Text) → stretchOf s ≡ ok t → length s ≤ greatestStretch
+stretch-short s t e = stretch-met s t e .opens .short
+
+pub stretch-most : (s : List ℕ) (t : Text) → stretchOf s ≡ ok t → length t ≤ mostInStretch
+stretch-most s t e =
+    let m = stretch-met s t e in
+    omega (arith, m .few, walk-length (λ _. segmentAt s) 2 (m .count) t (length s) (m .all))

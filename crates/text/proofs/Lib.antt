@@ -1,4 +1,5 @@
--- Laws of the definitions in specs/, and the theorems about them.
+-- Laws of the definitions in specs/, and the theorems about them: Theorems has these by name.
+pub mod Theorems
 pub mod Truth
 pub mod Tests
 pub mod Each
@@ -20,3 +21,4 @@ pub mod Linear
 pub mod Cards
 pub mod TextCards
 pub mod Folds
+pub mod States

@@ -1,5 +1,5 @@
 -- A number as a set of bits.
-use Prim.Native.Nat.{ℕ, zero, suc, _+_, _*_, _/_, _%_, _^_}
+use Prim.Native.Nat.{ℕ, zero, suc, _+_, _-_, _*_, _/_, _%_, _^_, min}
 use mathlib.Core.Bool.{Bool, false, _||_, cond}
 use mathlib.Core.List.{List, [], _∷_}
 use lib.Dec.{eqb}
@@ -7,6 +7,10 @@ use lib.Dec.{eqb}
 -- bit r of a number is set
 unfoldable pub bit : ℕ → ℕ → Bool
 bit st r = eqb (st / 2 ^ r % 2) 1
+
+-- the lowest m of 64 bits set: 2 ^ m - 1 for an m up to 64, and all 64 bits for an m above
+unfoldable pub low : ℕ → ℕ
+low m = 2 ^ min m 64 - 1
 
 -- the number below 2 ^ n whose bit r is f r
 unfoldable pub fromBits : (ℕ → Bool) → ℕ → ℕ

@@ -4,5 +4,6 @@ pub mod letter;
 pub mod pattern;
 pub mod refusal;
 pub mod size;
+pub mod state;
 
 pub use refusal::Refusal;

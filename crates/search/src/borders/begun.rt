@@ -1,6 +1,6 @@
 // What a fresh start makes of a variant: the prefixes of the pattern that end it, and whether the pattern lies in it.
+use crate::borders::Stepped;
 use crate::borders::table::fallback;
-use crate::step::Stepped;
 ghost use Rattle.search.specs.Border.{Borders, Sized};
 ghost use Rattle.search.specs.BorderStep.{Begins, Scans};
 

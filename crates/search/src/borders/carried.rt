@@ -1,5 +1,5 @@
 // What a variant makes of carried lengths: where it leads them, and whether it has the bases that remain.
-use crate::step::Stepped;
+use crate::borders::Stepped;
 use text::compare::prefix;
 use text::compare::same;
 ghost use Prim.Native.Nat.{_<_, _^_};

@@ -15,20 +15,8 @@ abbrev μ-loop : tie.MeasureT-loop
 loop-holds : tie.Need-loop-holds Inv-loop μ-loop
 loop-holds c = putting-none _ _ _ (search needs)
 
-cast-block : tie.Need-cast-block Inv-loop μ-loop
-cast-block c = search needs
-
-add-block : tie.Need-add-block Inv-loop μ-loop
-add-block c = search needs
-
 slice-write-block : tie.Need-slice-write-block Inv-loop μ-loop
 slice-write-block c = putting-room (c .before .loop .inv) (c .loop-test .taken)
-
-add-i : tie.Need-add-i Inv-loop μ-loop
-add-i c = search needs
-
-loop-less : tie.Need-loop-less Inv-loop μ-loop
-loop-less c = search needs
 
 loop-again : tie.Need-loop-again Inv-loop μ-loop
 loop-again c = putting-more (c .before .loop .inv) (c .loop-test .taken)
@@ -46,11 +34,11 @@ put-spec =
     Inv-loop
     μ-loop
     loop-holds
-    cast-block
-    add-block
+    (λ c. search needs)
+    (λ c. search needs)
     slice-write-block
-    add-i
-    loop-less
+    (λ c. search needs)
+    (λ c. search needs)
     loop-again
     same-length
     returns)

@@ -4,36 +4,15 @@ use borrow.Author.Needs.{needs}
 use Rattle.cerantuh.proofs.feeding.cerantuh_feed.Statement.{statement}
 use Rattle.cerantuh.proofs.feeding.cerantuh_feed.Tie as tie
 
-feed-requires : tie.Need-feed-requires
-feed-requires c κs = search needs
-
-enum-known-wrong : tie.Need-enum-known-wrong
-enum-known-wrong c = search needs
-
 code-requires : tie.Need-code-requires
 code-requires c κs =
     fed-fits _ _ _ (c .before .before .before .before .before .before .before .args .block .now) _ (c .before .before .before .feed .ensures) _ (c .before .wrong .given .1)
 
-enum-known-after : tie.Need-enum-known-after
-enum-known-after c = search needs
-
 returns : tie.Need-returns
 returns c = form-short _ _ _ _ _ (c .before .before .before .before .feed .ensures) _ _ (c .before .before .after .given .1) (c .if1 .taken)
 
-put-requires : tie.Need-put-requires
-put-requires c κs = search needs
-
-cast-put : tie.Need-cast-put
-cast-put c = search needs
-
-put-requires-2 : tie.Need-put-requires-2
-put-requires-2 c κs = search needs
-
 returns-2 : tie.Need-returns-2
 returns-2 c = form-not _ _ _ _ _ (c .before .before .before .before .feed .ensures) _ (c .before .before .wrong .given .1) _ (c .code .ensures)
-
-same-length : tie.Need-same-length
-same-length c = search needs
 
 returns-3 : tie.Need-returns-3
 returns-3 c =
@@ -48,14 +27,14 @@ pub cerantuh-feed-spec : {M : Type 1} → statement M
 cerantuh-feed-spec =
     tie.close
     (tie.spec
-    feed-requires
-    enum-known-wrong
+    (λ c κs. search needs)
+    (λ c. search needs)
     code-requires
-    enum-known-after
+    (λ c. search needs)
     returns
-    put-requires
-    cast-put
-    put-requires-2
+    (λ c κs. search needs)
+    (λ c. search needs)
+    (λ c κs. search needs)
     returns-2
-    same-length
+    (λ c. search needs)
     returns-3)

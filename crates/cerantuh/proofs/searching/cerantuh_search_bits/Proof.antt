@@ -4,26 +4,14 @@ use borrow.Author.Needs.{needs}
 use Rattle.cerantuh.proofs.searching.cerantuh_search_bits.Statement.{statement}
 use Rattle.cerantuh.proofs.searching.cerantuh_search_bits.Tie as tie
 
-roomless-requires : tie.Need-roomless-requires
-roomless-requires c κs = search needs
-
 returns : tie.Need-returns
 returns c = form-short _ _ _ _ _ (c .before .if1 .taken) (c .roomless .ensures)
-
-by-bits-requires : tie.Need-by-bits-requires
-by-bits-requires c κs = search needs
 
 told-requires : tie.Need-told-requires
 told-requires c κs =
     let d = c .before .before .before in
     let a = d .before .before .before .before .before .before .before .args in
     (d .before .before .if1 .left, searched-fits (a .pattern .now) (a .stretch .now) (a .marks .now) (a .block .now) (d .by-bits .result) (d .by-bits .ensures .0))
-
-same-length : tie.Need-same-length
-same-length c = search needs
-
-same-length-2 : tie.Need-same-length-2
-same-length-2 c = search needs
 
 returns-2 : tie.Need-returns-2
 returns-2 c =
@@ -37,10 +25,10 @@ pub cerantuh-search-bits-spec : {M : Type 1} → statement M
 cerantuh-search-bits-spec =
     tie.close
     (tie.spec
-    roomless-requires
+    (λ c κs. search needs)
     returns
-    by-bits-requires
+    (λ c κs. search needs)
     told-requires
-    same-length
-    same-length-2
+    (λ c. search needs)
+    (λ c. search needs)
     returns-2)

@@ -10,37 +10,19 @@ use borrow.Author.Needs.{needs}
 use Rattle.cerantuh.proofs.searching.roomless.Statement.{statement}
 use Rattle.cerantuh.proofs.searching.roomless.Tie as tie
 
-check-requires : tie.Need-check-requires
-check-requires c κs = search needs
-
-enum-known-wrong : tie.Need-enum-known-wrong
-enum-known-wrong c = search needs
-
 code-requires : tie.Need-code-requires
 code-requires c κs =
     let small = pattern-small _ _ _ (sym (c .before .before .before .check .ensures) ∙ ap toldPattern (c .before .wrong .given .1)) in
     omega (arith, small)
 
-enum-told : tie.Need-enum-told
-enum-told c = search needs
-
 -- the pattern was found sound
 sound : (c : tie.After-enum-told) → pattern (c .before .before .before .before .before .args .pattern .now) (ok (tt {0})) ≡ ok tt
 sound c = sym (c .before .before .check .ensures) ∙ ap toldPattern (c .enum-told .given .1)
-
-check-requires-2 : tie.Need-check-requires-2
-check-requires-2 c κs = search needs
-
-enum-known-wrong-2 : tie.Need-enum-known-wrong-2
-enum-known-wrong-2 c = search needs
 
 code-requires-2 : tie.Need-code-requires-2
 code-requires-2 c κs =
     let small = checking-small _ _ _ (sym (c .before .before .before .check2 .ensures) ∙ ap toldChecked (c .before .wrong2 .given .1)) in
     omega (arith, small)
-
-enum-told-2 : tie.Need-enum-told-2
-enum-told-2 c = search needs
 
 returns : tie.Need-returns
 returns c =
@@ -63,14 +45,14 @@ pub roomless-spec : {M : Type 1} → statement M
 roomless-spec =
     tie.close
     (tie.spec
-    check-requires
-    enum-known-wrong
+    (λ c κs. search needs)
+    (λ c. search needs)
     code-requires
-    enum-told
-    check-requires-2
-    enum-known-wrong-2
+    (λ c. search needs)
+    (λ c κs. search needs)
+    (λ c. search needs)
     code-requires-2
-    enum-told-2
+    (λ c. search needs)
     returns
     returns-2
     returns-3)

@@ -4,30 +4,12 @@ use borrow.Author.Needs.{needs}
 use Rattle.cerantuh.proofs.searching.told.Statement.{statement}
 use Rattle.cerantuh.proofs.searching.told.Tie as tie
 
-enum-known-searched : tie.Need-enum-known-searched
-enum-known-searched c = search needs
-
 code-requires : tie.Need-code-requires
 code-requires c κs =
     told-fits _ (c .before .before .before .before .args .block .now) _ (c .before .searched .given .1) (c .before .before .before .before .pre .1)
 
-enum-known-searched-2 : tie.Need-enum-known-searched-2
-enum-known-searched-2 c = search needs
-
-put-requires : tie.Need-put-requires
-put-requires c κs = search needs
-
-put-requires-2 : tie.Need-put-requires-2
-put-requires-2 c κs = search needs
-
-put-requires-3 : tie.Need-put-requires-3
-put-requires-3 c κs = search needs
-
 returns : tie.Need-returns
 returns c = told-not _ _ _ _ (c .before .before .searched .given .1) (c .code .ensures)
-
-same-length : tie.Need-same-length
-same-length c = search needs
 
 returns-2 : tie.Need-returns-2
 returns-2 c =
@@ -43,12 +25,12 @@ pub told-spec : {M : Type 1} → statement M
 told-spec =
     tie.close
     (tie.spec
-    enum-known-searched
+    (λ c. search needs)
     code-requires
-    enum-known-searched-2
-    put-requires
-    put-requires-2
-    put-requires-3
+    (λ c. search needs)
+    (λ c κs. search needs)
+    (λ c κs. search needs)
+    (λ c κs. search needs)
     returns
-    same-length
+    (λ c. search needs)
     returns-2)

@@ -1,25 +1,25 @@
 -- `search::bits::scan` meets its contract. The loop's invariant, `Scanning`: the word has the bits of the state that the letters read so
 -- far lead to. The measure is the number of letters left.
-use Prim.Native.Nat.{_-_, _<_}
+use Prim.Native.Nat.{ℕ, _-_, _<_}
 use borrow.Author.Needs.{needs}
 use native.Mathlib.Omega.{arith}
 use mathlib.Core.Path.{refl}
+use mathlib.Core.List.{List}
 use lib.ListN.{length, getD}
-use Rattle.search.proofs.Vectors.{Scanning, scanning-none, scanning-more, scanning-all, scanning-wrong}
+use Rattle.search.specs.Masks.{Ready}
+use Rattle.search.proofs.BitScans.{Scanning, scanning-none, scanning-more, scanning-all, scanning-wrong}
 use Rattle.search.proofs.bits.scan.Statement.{statement}
 use Rattle.search.proofs.bits.scan.Tie as tie
 
 abbrev Inv-loop : tie.InvT-loop
-Inv-loop pattern masks classes bits variant d₀ hits₀ bad₀ i₀ d hits bad i = Scanning pattern bits variant i d hits bad
+Inv-loop masks classes bits variant d₀ hits₀ bad₀ i₀ d hits bad i =
+    (P : List ℕ) → Ready P masks classes bits → Scanning P bits variant i d hits bad
 
 abbrev μ-loop : tie.MeasureT-loop
-μ-loop pattern masks classes bits variant d₀ hits₀ bad₀ i₀ d hits bad i = length variant - i
+μ-loop masks classes bits variant d₀ hits₀ bad₀ i₀ d hits bad i = length variant - i
 
 loop-holds : tie.Need-loop-holds Inv-loop μ-loop
-loop-holds c = scanning-none _ _ _ _ _ (c .pre)
-
-shared-slice-read-c : tie.Need-shared-slice-read-c Inv-loop μ-loop
-shared-slice-read-c c = search needs
+loop-holds c P y = scanning-none P _ _ _ _ y
 
 -- the letter that is read is a byte
 byte : (c : tie.After-shared-slice-known Inv-loop μ-loop) → getD (c .before .before .before .args .variant .now) (c .before .before .loop .i) 0 < 256
@@ -37,21 +37,15 @@ mul-e c = omega (arith, byte (c .before))
 element-copy-out-e : tie.Need-element-copy-out-e Inv-loop μ-loop
 element-copy-out-e c = byte (c .before)
 
-add-i : tie.Need-add-i Inv-loop μ-loop
-add-i c = search needs
-
-loop-less : tie.Need-loop-less Inv-loop μ-loop
-loop-less c = search needs
-
 loop-again : tie.Need-loop-again Inv-loop μ-loop
-loop-again c =
+loop-again c P y =
     let d = c .before .before .before in
-    scanning-more _ _ _ _ _ _ _ _ _ (d .before .before .pre) (d .before .loop .inv) (d .loop-test .taken) _ refl (byte (c .before .before))
+    scanning-more P _ _ _ _ _ _ _ _ y (d .before .loop .inv P y) (d .loop-test .taken) _ refl (byte (c .before .before))
 
 returns : tie.Need-returns Inv-loop μ-loop
-returns c =
-    let d = c .before in
-    (scanning-all _ _ _ _ _ _ _ (d .loop .inv) (c .loop-test .left), scanning-wrong _ _ _ _ _ _ _ (d .loop .inv) (c .loop-test .left))
+returns c P y =
+    let d = c .before .loop .inv P y in
+    (scanning-all P _ _ _ _ _ _ d (c .loop-test .left), scanning-wrong P _ _ _ _ _ _ d (c .loop-test .left))
 
 pub scan-spec : {M : Type 1} → statement M
 scan-spec =
@@ -60,12 +54,12 @@ scan-spec =
     Inv-loop
     μ-loop
     loop-holds
-    shared-slice-read-c
+    (λ c. search needs)
     cast-c
     element-copy-out-bad
     mul-e
     element-copy-out-e
-    add-i
-    loop-less
+    (λ c. search needs)
+    (λ c. search needs)
     loop-again
     returns)

@@ -5,14 +5,8 @@ use Rattle.search.proofs.BorderSteps.{steps-carried, steps-begun}
 use Rattle.search.proofs.borders.step_borders.Statement.{statement}
 use Rattle.search.proofs.borders.step_borders.Tie as tie
 
-carried-requires : tie.Need-carried-requires
-carried-requires c κs = search needs
-
 returns : tie.Need-returns
 returns c = steps-carried (c .if1 .taken) (c .before .carried .ensures)
-
-begun-requires : tie.Need-begun-requires
-begun-requires c κs = search needs
 
 returns-2 : tie.Need-returns-2
 returns-2 c =
@@ -20,4 +14,4 @@ returns-2 c =
     steps-begun (d .before .if1 .left) (d .before .before .carried .ensures) (d .begun .ensures)
 
 pub step-borders-spec : {M : Type 1} → statement M
-step-borders-spec = tie.close (tie.spec carried-requires returns begun-requires returns-2)
+step-borders-spec = tie.close (tie.spec (λ c κs. search needs) returns (λ c κs. search needs) returns-2)

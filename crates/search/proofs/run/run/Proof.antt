@@ -13,23 +13,20 @@ use Rattle.search.proofs.run.run.Statement.{statement}
 use Rattle.search.proofs.run.run.Tie as tie
 
 abbrev Inv-loop : tie.InvT-loop
-Inv-loop method pattern table classes state stretch at segments marks₀ next₀ size₀ ends₀ bits₀ k₀ marks next size ends bits k =
-    Searching pattern state stretch at marks k next size ends bits × (k ≤ segments) × (length marks ≡ length marks₀)
+Inv-loop method pattern table classes stretch at segments marks₀ next₀ size₀ ends₀ reached₀ k₀ marks next size ends reached k =
+    Searching pattern (reached₀ .bits) stretch at marks k next size ends (reached .bits) × (k ≤ segments) × (length marks ≡ length marks₀)
 
 abbrev μ-loop : tie.MeasureT-loop
-μ-loop method pattern table classes state stretch at segments marks₀ next₀ size₀ ends₀ bits₀ k₀ marks next size ends bits k = segments - k
+μ-loop method pattern table classes stretch at segments marks₀ next₀ size₀ ends₀ reached₀ k₀ marks next size ends reached k = segments - k
 
 loop-holds : tie.Need-loop-holds Inv-loop μ-loop
 loop-holds c = (searching-none _ _ _ _ _ (c .before .before .before .pre .1 .0), omega arith, refl)
 
-segment-by-requires : tie.Need-segment-by-requires Inv-loop μ-loop
-segment-by-requires c κs =
+over-requires : tie.Need-over-requires Inv-loop μ-loop
+over-requires c κs =
     let a = c .before in
     let p = a .before .before .before .before .pre .0 in
     (p .0, searching-state _ _ _ _ _ _ _ _ _ _ (a .loop .inv .0) (p .0 .founded .some) (p .1))
-
-enum-known-refused : tie.Need-enum-known-refused Inv-loop μ-loop
-enum-known-refused c = search needs
 
 same-length : tie.Need-same-length Inv-loop μ-loop
 same-length c = c .before .before .before .before .before .loop .inv .2
@@ -37,21 +34,15 @@ same-length c = c .before .before .before .before .before .loop .inv .2
 returns : tie.Need-returns Inv-loop μ-loop
 returns c =
     let d = c .before .before .before in
-    let wrong = sym (d .segment-by .ensures) ∙ ap toldPassed (c .before .refused .given .1) in
+    let wrong = sym (d .over .ensures) ∙ ap toldPassed (c .before .refused .given .1) in
     let told = searching-refused _ _ _ _ _ _ _ _ _ _ (d .before .before .loop .inv .0) _ (d .before .loop-test .taken) _ _ wrong in
     (told .0, told .1)
-
-enum-known-behind : tie.Need-enum-known-behind Inv-loop μ-loop
-enum-known-behind c = search needs
-
-cast-mark : tie.Need-cast-mark Inv-loop μ-loop
-cast-mark c = search needs
 
 slice-write-marks : tie.Need-slice-write-marks Inv-loop μ-loop
 slice-write-marks c =
     let d = c .before .before .before in
     let a = d .before .before in
-    let on = sym (d .segment-by .ensures) ∙ ap toldPassed (c .before .behind .given .1) in
+    let on = sym (d .over .ensures) ∙ ap toldPassed (c .before .behind .given .1) in
     searching-room _ _ _ _ _ _ _ _ _ _ (a .loop .inv .0) _ _ _ _ on _ (d .before .loop-test .taken) (roomy a)
   where
     -- the buffer has a byte for each segment
@@ -64,7 +55,7 @@ loop-again : tie.Need-loop-again Inv-loop μ-loop
 loop-again c =
     let d = c .before .before .before in
     let a = d .before .before in
-    let on = sym (d .segment-by .ensures) ∙ ap toldPassed (c .before .behind .given .1) in
+    let on = sym (d .over .ensures) ∙ ap toldPassed (c .before .behind .given .1) in
     let mark = byte-mark (c .before .behind .given .0 .1 .1 .1 .0) in (
       searching-more _ _ _ _ _ _ _ _ _ _ (a .loop .inv .0) _ _ _ _ on _ mark (slice-write-marks c),
       omega arith,
@@ -74,17 +65,8 @@ loop-again c =
 add-size : tie.Need-add-size Inv-loop μ-loop
 add-size c = let m = loop-again c .0 .sum in omega (arith, m .small, m .inside)
 
-cast-ends : tie.Need-cast-ends Inv-loop μ-loop
-cast-ends c = search needs
-
 add-ends : tie.Need-add-ends Inv-loop μ-loop
 add-ends c = let m = loop-again c .0 in omega (arith, m .few)
-
-add-k : tie.Need-add-k Inv-loop μ-loop
-add-k c = search needs
-
-loop-less : tie.Need-loop-less Inv-loop μ-loop
-loop-less c = search needs
 
 same-length-2 : tie.Need-same-length-2 Inv-loop μ-loop
 same-length-2 c = c .before .loop .inv .2
@@ -102,18 +84,18 @@ run-spec =
     Inv-loop
     μ-loop
     loop-holds
-    segment-by-requires
-    enum-known-refused
+    over-requires
+    (λ c. search needs)
     same-length
     returns
-    enum-known-behind
-    cast-mark
+    (λ c. search needs)
+    (λ c. search needs)
     slice-write-marks
     add-size
-    cast-ends
+    (λ c. search needs)
     add-ends
-    add-k
-    loop-less
+    (λ c. search needs)
+    (λ c. search needs)
     loop-again
     same-length-2
     returns-2)

@@ -1,54 +1,13 @@
--- `search::by_bits` meets its contract: the pattern is asked first, then `search` with the letter vectors.
+-- `search::by_bits` meets its contract: a search from the fresh state is a search.
 use borrow.Author.Needs.{needs}
-use mathlib.Core.Path.{_≡_, sym, ap, _∙_}
-use Rattle.text.specs.Refusal.{ok, pattern, toldPattern}
-use Rattle.text.proofs.Patterns.{pattern-sound}
-use Rattle.search.proofs.Searches.{pattern-not, pattern-sound-told}
+use Rattle.search.proofs.Searches.{fresh-marked}
 use Rattle.search.proofs.searching.by_bits.Statement.{statement}
 use Rattle.search.proofs.searching.by_bits.Tie as tie
 
-check-requires : tie.Need-check-requires
-check-requires c κs = search needs
-
-enum-known-refused : tie.Need-enum-known-refused
-enum-known-refused c = search needs
-
-enum-told : tie.Need-enum-told
-enum-told c = search needs
-
--- the pattern was found sound
-sound : (c : tie.After-enum-told) → pattern (c .before .before .before .before .before .before .args .pattern .now) (ok (tt {0})) ≡ ok tt
-sound c = sym (c .before .before .check .ensures) ∙ ap toldPattern (c .enum-told .given .1)
-
-masks-requires : tie.Need-masks-requires
-masks-requires c κs = pattern-sound _ (sound c) .short
-
-search-requires : tie.Need-search-requires
-search-requires c κs =
-    let d = c .before .before in
-    let p = pattern-sound _ (sound (d .before)) in
-    record { some = p .some; short = p .short; holds = d .masks .ensures }
-
 returns : tie.Need-returns
-returns c = pattern-not _ _ _ _ _ (sym (c .before .before .before .check .ensures) ∙ ap toldPattern (c .before .refused .given .1))
-
-same-length : tie.Need-same-length
-same-length c = search needs
-
-returns-2 : tie.Need-returns-2
-returns-2 c =
-    let d = c .before .before in
-    pattern-sound-told _ _ (c .before .before .before .before .before .before .before .before .before .before .before .before .args .marks .now) (sound (d .before .before .before .before)) _ _ (d .search .ensures)
+returns c =
+    let a = c .before .before .before .before .before .before .before .before .args in
+    fresh-marked (a .pattern .now) (a .stretch .now) (a .marks .now) _ _ _ (c .before .before .before .through .ensures) (c .summed .ensures)
 
 pub by-bits-spec : {M : Type 1} → statement M
-by-bits-spec =
-    tie.close
-    (tie.spec
-    check-requires
-    enum-known-refused
-    enum-told
-    masks-requires
-    search-requires
-    returns
-    same-length
-    returns-2)
+by-bits-spec = tie.close (tie.spec (λ c κs. search needs) (λ c κs. search needs) (λ c. search needs) returns)

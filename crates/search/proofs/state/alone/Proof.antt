@@ -1,17 +1,9 @@
 -- `search::state::alone` meets its contract: `run` has it, and one mark has room.
 use borrow.Author.Needs.{needs}
 use native.Mathlib.Omega.{arith}
+use Rattle.search.proofs.BitScans.{masks-short}
 use Rattle.search.proofs.state.alone.Statement.{statement}
 use Rattle.search.proofs.state.alone.Tie as tie
-
-masks-requires : tie.Need-masks-requires
-masks-requires c κs = search needs
-
-classes-requires : tie.Need-classes-requires
-classes-requires c κs = search needs
-
-slice-aggregate-run : tie.Need-slice-aggregate-run
-slice-aggregate-run c = search needs
 
 run-requires : tie.Need-run-requires
 run-requires c κs =
@@ -19,7 +11,7 @@ run-requires c κs =
     let p = m .before .before .before .pre in (
       (
         record {
-          founded = record { some = p .0 .some; short = p .0 .short; holds = m .masks .ensures };
+          founded = record { some = p .0 .some; short = p .0 .short; holds = masks-short _ _ (p .0 .short) (m .masks .ensures) };
           letters = c .before .before .before .classes .ensures;
         },
         p .1,
@@ -34,8 +26,8 @@ pub alone-spec : {M : Type 1} → statement M
 alone-spec =
     tie.close
     (tie.spec
-    masks-requires
-    classes-requires
-    slice-aggregate-run
+    (λ c κs. search needs)
+    (λ c κs. search needs)
+    (λ c. search needs)
     run-requires
     returns)

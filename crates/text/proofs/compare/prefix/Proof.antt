@@ -15,12 +15,9 @@ returns c = sym (prefix-short _ _ (c .if1 .taken))
 slice-aggregate-same : tie.Need-slice-aggregate-same
 slice-aggregate-same c = simp length-take (omega arith)
 
-same-requires : tie.Need-same-requires
-same-requires c κs = search needs
-
 returns-2 : tie.Need-returns-2
 unfolding prefix
 returns-2 c = c .same .ensures
 
 pub prefix-spec : {M : Type 1} → statement M
-prefix-spec = tie.close (tie.spec returns slice-aggregate-same same-requires returns-2)
+prefix-spec = tie.close (tie.spec returns slice-aggregate-same (λ c κs. search needs) returns-2)

@@ -13,9 +13,6 @@ returns c = sym (pattern-empty _ (ok tt) (c .if1 .taken))
 returns-2 : tie.Need-returns-2
 returns-2 c = sym (pattern-long _ (ok tt) (c .if2 .taken))
 
-first-wrong-requires : tie.Need-first-wrong-requires
-first-wrong-requires c κs = search needs
-
 returns-3 : tie.Need-returns-3
 returns-3 c =
     let d = c .before in
@@ -28,4 +25,4 @@ returns-4 c =
     sym (sound-pattern _ sound (ok tt))
 
 pub check-spec : {M : Type 1} → statement M
-check-spec = tie.close (tie.spec returns returns-2 first-wrong-requires returns-3 returns-4)
+check-spec = tie.close (tie.spec returns returns-2 (λ c κs. search needs) returns-3 returns-4)

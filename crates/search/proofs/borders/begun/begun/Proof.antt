@@ -12,9 +12,6 @@ Inv-loop pattern table variant scanned k₀ bits₀ k bits = Chain pattern varia
 abbrev μ-loop : tie.MeasureT-loop
 μ-loop pattern table variant scanned k₀ bits₀ k bits = k
 
-scan-requires : tie.Need-scan-requires Inv-loop μ-loop
-scan-requires c κs = search needs
-
 shl-bits : tie.Need-shl-bits Inv-loop μ-loop
 shl-bits c = omega arith
 
@@ -50,7 +47,7 @@ begun-spec =
     (tie.spec
     Inv-loop
     μ-loop
-    scan-requires
+    (λ c κs. search needs)
     shl-bits
     loop-holds
     mul-k

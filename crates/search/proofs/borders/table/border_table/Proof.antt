@@ -17,9 +17,6 @@ abbrev μ-loop : tie.MeasureT-loop
 loop-holds : tie.Need-loop-holds Inv-loop μ-loop
 loop-holds c = building-none (c .before .pre)
 
-shared-slice-read-fallback : tie.Need-shared-slice-read-fallback Inv-loop μ-loop
-shared-slice-read-fallback c = search needs
-
 fallback-requires : tie.Need-fallback-requires Inv-loop μ-loop
 fallback-requires c κs =
     let d = c .before .before in
@@ -52,7 +49,7 @@ border-table-spec =
     Inv-loop
     μ-loop
     loop-holds
-    shared-slice-read-fallback
+    (λ c. search needs)
     fallback-requires
     add-i
     mul-table

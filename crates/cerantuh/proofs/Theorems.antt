@@ -1,0 +1,44 @@
+-- What this crate proves of its calls, theorem by theorem: read this file first. The answers, marks and blocks named here are what the
+-- contracts say of the C forms.
+use Prim.Native.Nat.{ℕ, zero, suc, _+_, _*_, _/_, _%_, _^_, _<_}
+use native.Mathlib.Nat.{pow-suc}
+use native.Mathlib.Omega.{arith}
+use mathlib.Core.Path.{_≡_, refl, ap, _∙_}
+use mathlib.Core.Logic.{_↔_}
+use mathlib.Core.List.{List}
+use lib.ListN.{length}
+use Rattle.text.specs.Text.{Text}
+use Rattle.text.specs.Refusal.{ok, refused}
+use Rattle.search.specs.Answers.{Next}
+use Rattle.cerantuh.specs.Forms.{lowFirst, lowValue, searchingInto, searchAnswer, feedingInto, feedAnswer}
+use Rattle.cerantuh.proofs.Codes.{coded-zero, coded-apart, search-form-coded, feed-form-coded}
+
+-- a search answers 0 exactly when it is accepted
+pub search-zero : (P s marks block : List ℕ) → (searchAnswer P s marks block ≡ 0) ↔ ((t : Text) × (searchingInto P s (length marks) (length block) ≡ ok t))
+search-zero P s marks block = coded-zero (searchingInto P s (length marks) (length block)) (search-form-coded P s (length marks) (length block))
+
+-- and from any other answer its number and its place are had by a remainder and a quotient
+pub search-apart : (P s marks block : List ℕ) (n p : ℕ) → searchingInto P s (length marks) (length block) ≡ refused n p
+    → (searchAnswer P s marks block % 256 ≡ n) × (searchAnswer P s marks block / 256 ≡ p)
+search-apart P s marks block n p e =
+    coded-apart (searchingInto P s (length marks) (length block)) n p (search-form-coded P s (length marks) (length block)) e
+
+-- the same of a feed
+pub feed-zero : (P : List ℕ) (st : ℕ) (s block : List ℕ) → (feedAnswer P st s block ≡ 0) ↔ ((x : Next) × (feedingInto P st s (length block) ≡ ok x))
+feed-zero P st s block = coded-zero (feedingInto P st s (length block)) (feed-form-coded P st s (length block))
+
+pub feed-apart : (P : List ℕ) (st : ℕ) (s block : List ℕ) (n p : ℕ) → feedingInto P st s (length block) ≡ refused n p
+    → (feedAnswer P st s block % 256 ≡ n) × (feedAnswer P st s block / 256 ≡ p)
+feed-apart P st s block n p e = coded-apart (feedingInto P st s (length block)) n p (feed-form-coded P st s (length block)) e
+
+-- the bytes of a number read back as the number
+low-value : (k n : ℕ) → n < 256 ^ k → lowValue (lowFirst k n) ≡ n
+unfolding lowFirst lowValue
+low-value zero n l = omega (arith, l)
+low-value (suc k) n l =
+    let high : n / 256 < 256 ^ k = omega (arith, l, pow-suc 256 k) in
+    let e : lowValue (lowFirst k (n / 256)) ≡ n / 256 = low-value k (n / 256) high in
+    ap (λ (x : ℕ). n % 256 + 256 * x) e ∙ omega arith
+
+pub result-value : (n : ℕ) → n < 2 ^ 64 → lowValue (lowFirst 8 n) ≡ n
+result-value n l = low-value 8 n l

@@ -1,0 +1,262 @@
+-- The search by bit-vectors, letter by letter: the tables as they are filled, and the word as it is shifted.
+use Prim.Native.Nat.{ℕ, zero, suc, _+_, _-_, _*_, _/_, _%_, _^_, _≤_, _<_}
+use native.Mathlib.Nat.{pow-suc, one-mul, mod-eq-of-lt}
+use native.Mathlib.Numerals.{add-one, one-add}
+use native.Mathlib.Decide.{decLt, ℕ-discrete}
+use native.Mathlib.Omega.{arith}
+use mathlib.Core.Path.{_≡_, refl, sym, ap, ap₂, subst, _∙_}
+use mathlib.Core.Logic.{by-cases}
+use mathlib.Core.Bool.{Bool, true, false, not, cond, _||_, _&&_, true≢false}
+use mathlib.Core.List.{List, [], _∷_}
+use borrow.Author.Tests.{lt-ltb, le-ltb, eq-eqb, ne-eqb}
+use lib.Arith.{digits-div}
+use lib.Bits.{bitAnd, bitOr, and-le-r, or-lt, or-zero-r}
+use lib.Dec.{eqb, ltb, lit<}
+use lib.ListN.{length, getD, take, set, replicate, length-set, length-take, length-replicate, getD-replicate}
+use lib.Pow.{pow-pos, pow-lt, ones-split, ones-lt}
+use lib.Seq.{take-suc, take-all, getD-take, getD-set-same, getD-set-other}
+use Rattle.text.specs.Letter.{letter, every}
+use Rattle.text.specs.Text.{Variant}
+use Rattle.text.specs.Bits.{bit, fromBits, anyOf}
+use Rattle.text.specs.State.{next, endsAt, ends}
+use Rattle.text.proofs.Truth.{or-false, or-right, and-true, and-false}
+use Rattle.text.proofs.Letters.{every-snoc}
+use Rattle.text.proofs.Bits.{bit-ext, bit-above, bit-zero, bit-or, bit-and, bit-fromBits, fromBits-lt, bit-single, bit-shl, bit-shl-below, bit-mod, bit-mod-above, bit-shr-test}
+use Rattle.text.proofs.Snoc.{_▸_}
+use Rattle.text.proofs.Steps.{next-open}
+use Rattle.text.proofs.Scan.{empty-state, empty-ends, scan-state, scan-ends}
+use Rattle.search.specs.Masks.{maskOf, bases, Masks, Ready}
+use Rattle.search.specs.Words.{Words}
+
+-- one bit more
+bits-more : (f : ℕ → Bool) (k : ℕ) → fromBits f (suc k) ≡ bitOr (fromBits f k) (cond (f k) (2 ^ k) 0)
+bits-more f k =
+    bit-ext (suc k) (fromBits f (suc k)) (bitOr (fromBits f k) (cond (f k) (2 ^ k) 0))
+    (fromBits-lt f (suc k)) (or-lt (suc k) _ _ below (top (f k))) each
+  where
+    below : fromBits f k < 2 ^ suc k
+    below = omega (arith, fromBits-lt f k, pow-suc 2 k)
+
+    top : (b : Bool) → cond b (2 ^ k) 0 < 2 ^ suc k
+    top true = pow-lt (let z : k < suc k = omega arith in z)
+    top false = pow-pos (suc k)
+
+    bit-top : (b : Bool) (r : ℕ) → r < k → bit (cond b (2 ^ k) 0) r ≡ false
+    bit-top true r l = bit-single k r ∙ ne-eqb k r (λ e. omega arith)
+    bit-top false r l = bit-zero r
+
+    at-top : (b : Bool) → bit (cond b (2 ^ k) 0) k ≡ b
+    at-top true = bit-single k k ∙ eq-eqb k k refl
+    at-top false = bit-zero k
+
+    each : (r : ℕ) → r < suc k → bit (fromBits f (suc k)) r ≡ bit (bitOr (fromBits f k) (cond (f k) (2 ^ k) 0)) r
+    each r l =
+        by-cases (decLt r k)
+        (λ (h : r < k).
+        bit-fromBits f (suc k) r l
+        ∙ sym (bit-or (fromBits f k) (cond (f k) (2 ^ k) 0) r ∙ rw (bit-fromBits f k r h, bit-top (f k) r h) (or-false (f r))))
+        (λ (h : ¬ (r < k)).
+        let e : r ≡ k = omega arith in
+        rw e
+        (bit-fromBits f (suc k) k (let z : k < suc k = omega arith in z)
+        ∙ sym (bit-or (fromBits f k) (cond (f k) (2 ^ k) 0) k ∙ rw (bit-above (fromBits f k) k k (fromBits-lt f k) (let z : k ≤ k = omega arith in z), at-top (f k)))))
+
+-- k bases are entered into the table
+pub record Filling (P table : List ℕ) (k : ℕ) : Type 0 where
+  pub most : k ≤ length P
+  pub full : length table ≡ 256
+  pub each : (c : ℕ) → c < 256 → getD table c 0 ≡ fromBits (λ j. eqb (getD P j 0) c) k
+
+pub filling-none : (P : List ℕ) → Filling P (replicate 256 0) 0
+unfolding fromBits
+filling-none P = record { most = omega arith; full = length-replicate {A = ℕ} 256 0; each = λ c l. getD-replicate {A = ℕ} 256 c 0 0 l }
+
+-- base k is entered at its byte b
+pub filling-more : (P table : List ℕ) (k b : ℕ) → Filling P table k → k < length P → k < 64 → b ≡ getD P k 0 → b < 256
+    → Filling P (set table b (bitOr (getD table b 0) (1 * 2 ^ k % 2 ^ 64))) (k + 1)
+filling-more P table k b f l short e small =
+    record { most = omega arith; full = length-set table b _ ∙ f .full; each = each }
+  where
+    one : 1 * 2 ^ k % 2 ^ 64 ≡ 2 ^ k
+    one =
+        let fits : 2 ^ k < 2 ^ 64 = pow-lt short in
+        ap (λ (n : ℕ). n % 2 ^ 64) (one-mul (2 ^ k)) ∙ mod-eq-of-lt fits
+
+    test : ℕ → ℕ → Bool
+    test c j = eqb (getD P j 0) c
+
+    each : (c : ℕ) → c < 256 → getD (set table b (bitOr (getD table b 0) (1 * 2 ^ k % 2 ^ 64))) c 0 ≡ fromBits (λ j. eqb (getD P j 0) c) (k + 1)
+    each c h =
+        by-cases (ℕ-discrete c b)
+        (λ (same : c ≡ b).
+        let inside : b < length table = omega (arith, f .full) in
+        rw (same, add-one)
+        (getD-set-same table b _ 0 inside ∙ ap₂ bitOr (f .each b small) one
+        ∙ sym (bits-more (test b) k ∙ ap (λ (t : Bool). bitOr (fromBits (test b) k) (cond t (2 ^ k) 0)) (eq-eqb (getD P k 0) b (sym e)))))
+        (λ (other : ¬ (c ≡ b)).
+        rw add-one
+        (getD-set-other table b c _ 0 other ∙ f .each c h
+        ∙ sym
+        (bits-more (test c) k
+        ∙ ap (λ (t : Bool). bitOr (fromBits (test c) k) (cond t (2 ^ k) 0)) (ne-eqb (getD P k 0) c (λ z. other (sym z ∙ sym e)))
+        ∙ or-zero-r (fromBits (test c) k))))
+
+pub filling-all : (P table : List ℕ) (k : ℕ) → Filling P table k → length P ≤ k → Masks P table
+unfolding maskOf
+filling-all P table k f l =
+    let e : k ≡ length P = omega (arith, f .most) in
+    record { full = f .full; each = λ c h. f .each c h ∙ ap (fromBits (λ j. eqb (getD P j 0) c)) e }
+
+-- of a pattern over 64 bytes the first 64 are entered
+module _ (P : List ℕ) where
+  pub bases-long : 64 < length P → length (bases P) ≡ 64
+  unfolding bases
+  bases-long l = simp length-take (omega arith)
+
+  pub bases-all : length P ≤ 64 → bases P ≡ P
+  unfolding bases
+  bases-all l = take-all 64 P l
+
+  -- a base that is entered stands where it stands in the pattern
+  module _ (k : ℕ) (l : k < length (bases P)) where
+    pub bases-near : k < 64
+    unfolding bases
+    bases-near = omega (arith, length-take 64 P)
+
+    pub bases-inside : k < length P
+    unfolding bases
+    bases-inside = omega (arith, length-take 64 P)
+
+    pub bases-at : getD P k 0 ≡ getD (bases P) k 0
+    unfolding bases
+    bases-at = sym (getD-take 64 P k 0 bases-near)
+
+-- the letter vectors of a pattern of at most 64 bytes
+pub masks-short : (P table : List ℕ) → length P ≤ 64 → Masks (bases P) table → Masks P table
+masks-short P table l m = rw (bases-all P l) at m
+
+-- a letter keeps those bits of a word whose base it is
+module _ (P masks : List ℕ) (vectors : Masks P masks) (d c : ℕ) (small : c < 256) where
+  pub kept-bit : (r : ℕ) → r < length P → bit (bitAnd d (getD masks c 0)) r ≡ (bit d r && eqb (getD P r 0) c)
+  unfolding maskOf
+  kept-bit r h =
+      bit-and d (getD masks c 0) r
+      ∙ ap (λ (b : Bool). bit d r && b) (ap (λ (n : ℕ). bit n r) (vectors .each c small) ∙ bit-fromBits (λ k. eqb (getD P k 0) c) (length P) r h)
+
+  pub kept-lt : bitAnd d (getD masks c 0) < 2 ^ length P
+  unfolding maskOf
+  kept-lt = omega (arith, and-le-r d (getD masks c 0), vectors .each c small, fromBits-lt (λ k. eqb (getD P k 0) c) (length P))
+
+-- a byte more is bad where it is no letter
+classed : (bad : ℕ) (b : Bool) → eqb (bitOr bad (cond b 0 1)) 0 ≡ (eqb bad 0 && b)
+classed bad true = ap (λ (n : ℕ). eqb n 0) (or-zero-r bad) ∙ sym (and-true (eqb bad 0))
+classed bad false = ne-eqb (bitOr bad 1) 0 (λ e. true≢false (sym odd ∙ ap (λ (n : ℕ). bit n 0) e ∙ bit-zero 0)) ∙ sym (and-false (eqb bad 0))
+  where
+    odd : bit (bitOr bad 1) 0 ≡ true
+    odd = bit-or bad 1 0 ∙ or-right (bit bad 0) (bit 1 0) (bit-single 0 0)
+
+-- an occurrence ends in a lone variant
+pub ends-lone : (P : List ℕ) (st : ℕ) (v : Variant) → ends P st (v ∷ []) ≡ endsAt P st v
+unfolding ends anyOf
+ends-lone P st v = or-false (endsAt P st v)
+
+-- i letters of the variant v have been read
+pub record Scanning (P : List ℕ) (st : ℕ) (v : Variant) (i d hits bad : ℕ) : Type 0 where
+  pub inside : i ≤ length v
+  pub state : (r : ℕ) → r < length P → bit d r ≡ bit (next P st (take i v ∷ [])) r
+  pub fits : hits < 2 ^ length P
+  pub ended : bit hits (length P - 1) ≡ endsAt P st (take i v)
+  pub clean : eqb bad 0 ≡ every letter (take i v)
+
+pub scanning-none : (P masks classes : List ℕ) (st : ℕ) (v : Variant) → Ready P masks classes st → Scanning P st v 0 st 0 0
+unfolding every
+scanning-none P masks classes st v y =
+    record {
+      inside = omega arith;
+      state = λ r l. ap (λ (n : ℕ). bit n r) (sym (empty-state P st (y .some) (y .state .small)));
+      fits = pow-pos (length P);
+      ended = bit-zero (length P - 1) ∙ sym (empty-ends P st (y .some));
+      clean = refl;
+    }
+
+module _ (P masks classes : List ℕ) (st : ℕ) (v : Variant) (i d hits bad : ℕ) (y : Ready P masks classes st)
+    (s : Scanning P st v i d hits bad) (l : i < length v) (c : ℕ) (e : c ≡ getD v i 0) (small : c < 256) where
+  longer : take (i + 1) v ≡ take i v ▸ c
+  longer = rw add-one (take-suc v i 0 l ∙ ap (λ (x : ℕ). take i v ▸ x) (sym e))
+
+  kept : (r : ℕ) → r < length P → bit (bitAnd d (getD masks c 0)) r ≡ (bit (next P st (take i v ∷ [])) r && eqb (getD P r 0) c)
+  kept r h = kept-bit P masks (y .vectors) d c small r h ∙ ap (λ (b : Bool). b && eqb (getD P r 0) c) (s .state r h)
+
+  shifted : (r : ℕ) → r < length P → bit (bitOr (bitAnd d (getD masks c 0) * 2 ^ 1 % 2 ^ 64) (st % 2)) r ≡ bit (next P st (take (i + 1) v ∷ [])) r
+  shifted zero h =
+      bit-or _ (st % 2) 0
+      ∙ ap₂ _||_ (bit-mod (bitAnd d (getD masks c 0) * 2 ^ 1) 64 0 (lit< tt) ∙ bit-shl-below (bitAnd d (getD masks c 0)) 1 0 (lit< tt)) (bit-mod st 1 0 (lit< tt))
+      ∙ sym (next-open P st (take (i + 1) v ∷ []) (y .some))
+  shifted (suc r) h =
+      let near : suc r < 64 = omega (arith, y .short) in
+      let before : r < length P = omega arith in
+      bit-or _ (st % 2) (suc r)
+      ∙ ap₂ _||_
+      (bit-mod (bitAnd d (getD masks c 0) * 2 ^ 1) 64 (suc r) near ∙ rw (← one-add r) (bit-shl (bitAnd d (getD masks c 0)) 1 r) ∙ kept r before)
+      (bit-mod-above st 1 (suc r) (omega arith))
+      ∙ or-false _
+      ∙ sym (ap (λ (t : List ℕ). bit (next P st (t ∷ [])) (suc r)) longer ∙ scan-state P st (take i v) c r h)
+
+  ends-more : bit (bitOr hits (bitAnd d (getD masks c 0))) (length P - 1) ≡ endsAt P st (take (i + 1) v)
+  ends-more =
+      let long : length P ≡ suc (length P - 1) = omega (arith, y .some) in
+      let last : length P - 1 < length P = omega (arith, y .some) in
+      bit-or hits _ (length P - 1)
+      ∙ ap₂ _||_ (s .ended) (kept (length P - 1) last)
+      ∙ sym (ap (endsAt P st) longer ∙ scan-ends P st (take i v) c (length P - 1) long)
+
+  clean-more : eqb (bitOr bad (getD classes c 0)) 0 ≡ every letter (take (i + 1) v)
+  clean-more =
+      ap (λ (n : ℕ). eqb (bitOr bad n) 0) (y .letters .each c small)
+      ∙ classed bad (letter c)
+      ∙ ap (λ (t : Bool). t && letter c) (s .clean)
+      ∙ sym (ap (every letter) longer ∙ every-snoc letter (take i v) c)
+
+  pub scanning-more : Scanning P st v (i + 1) (bitOr (bitAnd d (getD masks c 0) * 2 ^ 1 % 2 ^ 64) 1) (bitOr hits (bitAnd d (getD masks c 0))) (bitOr bad (getD classes c 0))
+  scanning-more =
+      record {
+        inside = omega arith;
+        state = λ r h. ap (λ (n : ℕ). bit (bitOr (bitAnd d (getD masks c 0) * 2 ^ 1 % 2 ^ 64) n) r) (sym (y .state .odd)) ∙ shifted r h;
+        fits = or-lt (length P) hits (bitAnd d (getD masks c 0)) (s .fits) (kept-lt P masks (y .vectors) d c small);
+        ended = ends-more;
+        clean = clean-more;
+      }
+
+-- the m lowest bits, as they are made from a word of ones
+pub low-ones : (m : ℕ) → m ≤ 64 → 0xffff_ffff_ffff_ffff / 2 ^ (64 - m) ≡ 2 ^ m - 1
+low-ones m l =
+    let whole : m + (64 - m) ≡ 64 = omega arith in
+    ap (λ (n : ℕ). n / 2 ^ (64 - m)) (subst (λ (n : ℕ). 2 ^ n - 1 ≡ (2 ^ m - 1) * 2 ^ (64 - m) + (2 ^ (64 - m) - 1)) whole (ones-split m (64 - m)))
+    ∙ digits-div (2 ^ m - 1) (ones-lt (64 - m))
+
+-- a number below 2 ^ (n + 1) has bit n exactly when it is above 2 ^ n - 1
+pub top-bit : (n x : ℕ) → x < 2 ^ suc n → ltb (2 ^ n - 1) x ≡ bit x n
+top-bit n x l =
+    by-cases (decLt x (2 ^ n))
+    (λ (h : x < 2 ^ n). le-ltb (2 ^ n - 1) x (let z : x ≤ 2 ^ n - 1 = omega arith in z) ∙ sym (bit-above x n n h (let z : n ≤ n = omega arith in z)))
+    (λ (h : ¬ (x < 2 ^ n)).
+    let rest : x - 2 ^ n < 2 ^ n = omega (arith, pow-suc 2 n) in
+    let whole : 1 * 2 ^ n + (x - 2 ^ n) ≡ x = omega arith in
+    lt-ltb (2 ^ n - 1) x (let z : 2 ^ n - 1 < x = omega (arith, pow-pos n) in z)
+    ∙ sym (sym (bit-shr-test x n) ∙ ap (λ (y : ℕ). eqb (y % 2) 1) (ap (λ (y : ℕ). y / 2 ^ n) (sym whole) ∙ digits-div 1 rest)))
+
+-- all letters have been read
+module _ (P : List ℕ) (st : ℕ) (v : Variant) (i d hits bad : ℕ) (s : Scanning P st v i d hits bad) (l : length v ≤ i) where
+  all : take i v ≡ v
+  all = take-all i v l
+
+  pub scanning-all : Words P st (v ∷ []) d hits
+  scanning-all =
+      record {
+        state = λ r h. s .state r h ∙ ap (λ (t : List ℕ). bit (next P st (t ∷ [])) r) all;
+        fits = s .fits;
+        end = s .ended ∙ ap (endsAt P st) all ∙ sym (ends-lone P st v);
+      }
+
+  pub scanning-wrong : not (eqb bad 0) ≡ not (every letter v)
+  scanning-wrong = ap not (s .clean ∙ ap (every letter) all)

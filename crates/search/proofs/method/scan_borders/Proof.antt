@@ -1,0 +1,33 @@
+-- `search::method::scan_borders` meets its contract: a step by borders, told as words.
+use borrow.Author.Needs.{needs}
+use Rattle.search.proofs.Words.{words-hit, words-miss, letters-bad, letters-good}
+use Rattle.search.proofs.method.scan_borders.Statement.{statement}
+use Rattle.search.proofs.method.scan_borders.Tie as tie
+
+returns : tie.Need-returns
+returns c = letters-bad _ _ _ _ (c .before .first-wrong .ensures) (c .if1 .taken)
+
+returns-2 : tie.Need-returns-2
+returns-2 c =
+    let d = c .before .before in
+    let y = c .before .before .before .before .before .before .pre in
+    letters-good _ _ _ _ (d .before .first-wrong .ensures) (d .if1 .left) _ _
+    (words-hit _ _ _ _ (y .sized .some) (y .sized .short) (c .before .step-borders .ensures) (c .if2 .taken))
+
+returns-3 : tie.Need-returns-3
+returns-3 c =
+    let d = c .before .before in
+    letters-good _ _ _ _ (d .before .first-wrong .ensures) (d .if1 .left) _ _
+    (words-miss _ _ _ _ (c .before .step-borders .ensures) (c .if2 .left))
+
+pub scan-borders-spec : {M : Type 1} → statement M
+scan-borders-spec =
+    tie.close
+    (tie.spec
+    (λ c κs. search needs)
+    returns
+    (λ c κs. search needs)
+    (λ c. search needs)
+    (λ c. search needs)
+    returns-2
+    returns-3)

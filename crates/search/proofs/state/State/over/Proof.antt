@@ -1,0 +1,89 @@
+-- `search::State::over` meets its contract. The loop's invariant, `Sweeping`: k variants are read, and the words are theirs. The measure
+-- is the number of variants left.
+use Prim.Native.Nat.{_-_, _≤_}
+use borrow.Author.Needs.{needs}
+use native.Mathlib.Omega.{arith}
+use mathlib.Core.Path.{refl, sym, _∙_}
+use Rattle.stretch.proofs.Frames.{Counts, count-refused, count-met, count-many}
+use Rattle.stretch.proofs.Segments.{in-whole, in-all}
+use Rattle.search.proofs.Passes.{segment-passed-not, segment-passed}
+use Rattle.search.proofs.Words.{Sweeping, sweeping-none, sweeping-more, sweeping-refused, sweeping-taken}
+use Rattle.search.proofs.state.State.over.Statement.{statement}
+use Rattle.search.proofs.state.State.over.Tie as tie
+
+abbrev Inv-loop : tie.InvT-loop
+Inv-loop method pattern table classes stretch at count bits first next₀ size₀ word₀ hits₀ k₀ next size word hits k =
+    Sweeping pattern bits stretch first k next size word hits × (k ≤ count)
+
+abbrev μ-loop : tie.MeasureT-loop
+μ-loop method pattern table classes stretch at count bits first next₀ size₀ word₀ hits₀ k₀ next size word hits k = count - k
+
+returns : tie.Need-returns Inv-loop μ-loop
+returns c = sym (segment-passed-not _ _ _ _ _ _ (count-refused _ _ (c .before .before .before .variants .ensures) (c .before .wrong .given .1)))
+
+-- the count is there
+counts : (c : tie.After-count Inv-loop μ-loop)
+    → Counts (c .before .before .before .before .before .args .stretch .now) (c .before .before .before .before .before .args .at) (c .count .given .0 .0)
+counts c = count-met _ _ (c .before .before .variants .ensures) (c .count .given .1)
+
+add-first : tie.Need-add-first Inv-loop μ-loop
+add-first c = omega (arith, counts (c .before) .inside)
+
+loop-holds : tie.Need-loop-holds Inv-loop μ-loop
+loop-holds c =
+    let n = c .before in
+    let p = n .before .before .before .before .before .pre in
+    (sweeping-none _ _ _ _ (p .0 .founded .some) (p .1 .odd) (omega (arith, counts n .inside)), omega arith)
+
+variant-by-requires : tie.Need-variant-by-requires Inv-loop μ-loop
+variant-by-requires c κs = (search needs, in-whole _ _ _ _ _ _ (c .before .loop .inv .0 .sum))
+
+returns-2 : tie.Need-returns-2 Inv-loop μ-loop
+returns-2 c =
+    let d = c .before .before .before in
+    let a = d .before .before in
+    let n = a .before .before in
+    let wrong = c .before .wrong2 .given .1 in
+    let all = sweeping-refused _ _ _ _ _ _ _ _ _ (a .loop .inv .0) _ (d .variant-by .ensures) _ (d .before .loop-test .taken) _ _ wrong in
+    sym (segment-passed-not _ _ _ _ _ _ (count-many _ _ (n .before .before .variants .ensures) (n .count .given .1) ∙ all))
+
+loop-again : tie.Need-loop-again Inv-loop μ-loop
+loop-again c =
+    let d = c .before .before .before in
+    (sweeping-more _ _ _ _ _ _ _ _ _ (d .before .before .loop .inv .0) _ (d .variant-by .ensures) _ _ _ _ (c .before .behind .given .1), omega arith)
+
+add-size : tie.Need-add-size Inv-loop μ-loop
+add-size c = let m = loop-again c .0 .sum in omega (arith, m .small, m .inside)
+
+returns-3 : tie.Need-returns-3 Inv-loop μ-loop
+returns-3 c =
+    let a = c .before in
+    let n = a .before .before in
+    let p = n .before .before .before .before .before .pre in
+    let t = sweeping-taken _ _ _ _ _ _ _ _ _ (a .loop .inv .0) (p .0 .founded .some) (p .0 .founded .short) _ refl in
+    let all = in-all _ _ _ _ _ _ (t .sum) (n .count .given .0 .0) (omega arith) in
+    sym (segment-passed _ _ _ _ _ _ _ _ _ t (count-many _ _ (n .before .before .variants .ensures) (n .count .given .1) ∙ all))
+
+pub over-spec : {M : Type 1} → statement M
+over-spec =
+    tie.close
+    (tie.spec
+    Inv-loop
+    μ-loop
+    (λ c κs. search needs)
+    (λ c. search needs)
+    returns
+    (λ c. search needs)
+    add-first
+    loop-holds
+    variant-by-requires
+    (λ c. search needs)
+    returns-2
+    (λ c. search needs)
+    add-size
+    (λ c. search needs)
+    (λ c. search needs)
+    loop-again
+    (λ c. search needs)
+    (λ c. search needs)
+    returns-3)

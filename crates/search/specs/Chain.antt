@@ -1,0 +1,41 @@
+-- A text that comes in pieces: lone segments fed, or stretches searched, one after another, the state of each handed on to the next.
+use Prim.Native.Nat.{ℕ}
+use mathlib.Core.Bool.{Bool, cond}
+use mathlib.Core.List.{List, [], _∷_, _++_, map}
+use Rattle.text.specs.Text.{Text}
+use Rattle.text.specs.State.{marksFrom}
+use Rattle.text.specs.Refusal.{Outcome, ok, after}
+use Rattle.stretch.specs.Reading.{segmentOf, stretchOf}
+use Rattle.search.specs.Answers.{Next, feeding, seeking, seenFrom}
+
+-- the text of lone segments; the first that is refused refuses all
+unfoldable pub segmentsText : List (List ℕ) → Outcome Text
+segmentsText [] = ok []
+segmentsText (s ∷ ss) = after (segmentOf s) λ g. after (segmentsText ss) λ T. ok (g ∷ T)
+
+-- lone segments fed one by one
+unfoldable pub feeds : List ℕ → ℕ → List (List ℕ) → Outcome (List Next)
+feeds P st [] = ok []
+feeds P st (s ∷ ss) = after (feeding P st s) λ x. after (feeds P (x .state) ss) λ xs. ok (x ∷ xs)
+
+-- whether an occurrence ends, as a mark
+abbrev pub markOf : Next → ℕ
+markOf x = cond (x .ends) 1 0
+
+-- the text of stretches end to end; the first that is refused refuses all
+unfoldable pub stretchesText : List (List ℕ) → Outcome Text
+stretchesText [] = ok []
+stretchesText (s ∷ ss) = after (stretchOf s) λ t. after (stretchesText ss) λ T. ok (t ++ T)
+
+-- the marks that searches leave, end to end, and the state behind the last of them
+pub record Trail : Type 0 where
+  pub marks : List ℕ
+  pub state : ℕ
+
+-- stretches searched one by one, each into a buffer of so many bytes
+unfoldable pub seeks : List ℕ → ℕ → ℕ → List (List ℕ) → Outcome Trail
+seeks P st room [] = ok (record { marks = []; state = st })
+seeks P st room (s ∷ ss) =
+    after (seeking P st s room) λ t.
+    after (seeks P (seenFrom P st t .state) room ss) λ x.
+    ok (record { marks = marksFrom P st t ++ x .marks; state = x .state })

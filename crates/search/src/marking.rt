@@ -1,0 +1,121 @@
+// Marks reach the caller's buffer only once the whole stretch is accepted: a search runs into a buffer of its own, and copies.
+use crate::method::Method;
+use crate::run::run_stretch;
+use crate::state::Sought;
+use crate::state::State;
+use crate::vectors::classes;
+use text::Refusal;
+use text::refusal;
+ghost use mathlib.Core.Path.{_≡_};
+ghost use Prim.Native.Nat.{_≤_};
+ghost use lib.ListN.{length};
+ghost use Rattle.text.specs.Refusal.{ok, after};
+ghost use Rattle.text.specs.State.{marksFrom};
+ghost use Rattle.stretch.specs.Bytes.{over};
+ghost use Rattle.stretch.specs.Answers.{leftBy};
+ghost use Rattle.search.specs.Answers.{stretchInto, seenFrom, toldSought, Roomy};
+ghost use Rattle.search.specs.Masks.{StateOf};
+ghost use Rattle.search.specs.Method.{Founded};
+
+// Copies `from` over the front of `to`.
+fn copy(from: &[u8], to: &mut [u8])
+    requires { ⌜ length (now from) ≤ length (now to) ⌝ }
+    ensures { λ r. ⌜ now (to .exit) ≡ over (now (to .entry)) 0 (now (from .entry)) ⌝ }
+{
+    let mut i = 0;
+    while i < from.len() {
+        to[i] = from[i];
+        i += 1;
+    }
+}
+
+// Runs over the stretch into `found`, and copies what it found to the caller's marks once all is accepted: refusal 10.
+fn mark_by_way_of(
+    method: Method,
+    pattern: &[u8],
+    table: &[u64; 256],
+    state: State,
+    stretch: &[u8],
+    found: &mut [u8],
+    marks: &mut [u8],
+) -> Sought
+    requires { ⌜ Founded method (now pattern) (now table) × StateOf (now pattern) (state .bits) ⌝ }
+    requires { ⌜ Roomy (now stretch) (now found) ⌝ }
+    ensures { λ r. ⌜ toldSought r ≡ after (stretchInto (now (stretch .entry)) (length (now (marks .entry))))
+        (λ t. ok (seenFrom (now (pattern .entry)) (state .bits) t)) ⌝ }
+    ensures { λ r. ⌜ now (marks .exit) ≡ leftBy (marksFrom (now (pattern .entry)) (state .bits))
+        (stretchInto (now (stretch .entry)) (length (now (marks .entry)))) (now (marks .entry)) ⌝ }
+{
+    let letters = classes();
+    match run_stretch(
+        method,
+        pattern,
+        table,
+        &letters,
+        state,
+        stretch,
+        &mut *found,
+    ) {
+        Sought::Refused(refused) => Sought::Refused(refused),
+        Sought::Marked {
+            segments,
+            size,
+            ends,
+            state: reached,
+        } => {
+            if marks.len() < segments {
+                return Sought::Refused(Refusal {
+                    number: refusal::BUFFER_SHORT,
+                    place: 0,
+                });
+            }
+            copy(&found[..segments], &mut *marks);
+            Sought::Marked {
+                segments,
+                size,
+                ends,
+                state: reached,
+            }
+        }
+    }
+}
+
+// Marks the segments of a stretch by a method and its table, from a state on: the refusals of the stretch, then 10. A small stretch
+// takes a small buffer, since clearing one for the most segments costs more than the search of some hundred bytes.
+pub fn mark(
+    method: Method,
+    pattern: &[u8],
+    table: &[u64; 256],
+    state: State,
+    stretch: &[u8],
+    marks: &mut [u8],
+) -> Sought
+    requires { ⌜ Founded method (now pattern) (now table) × StateOf (now pattern) (state .bits) ⌝ }
+    ensures { λ r. ⌜ toldSought r ≡ after (stretchInto (now (stretch .entry)) (length (now (marks .entry))))
+        (λ t. ok (seenFrom (now (pattern .entry)) (state .bits) t)) ⌝ }
+    ensures { λ r. ⌜ now (marks .exit) ≡ leftBy (marksFrom (now (pattern .entry)) (state .bits))
+        (stretchInto (now (stretch .entry)) (length (now (marks .entry)))) (now (marks .entry)) ⌝ }
+{
+    if stretch.len() <= 1024 {
+        let mut found = [0u8; 340];
+        return mark_by_way_of(
+            method,
+            pattern,
+            table,
+            state,
+            stretch,
+            &mut found,
+            &mut *marks,
+        );
+    }
+    let mut found = [0u8; refusal::MOST_IN_STRETCH];
+    mark_by_way_of(
+        method,
+        pattern,
+        table,
+        state,
+        stretch,
+        &mut found,
+        &mut *marks,
+    )
+}

@@ -1,0 +1,36 @@
+// The tables of the search by bit-vectors, filled once for each call and lent to the loops.
+use text::refusal;
+ghost use Rattle.search.specs.Masks.{bases, Masks, Classes};
+
+// The letter vector of each byte: bit k is set where base k of the pattern is that byte. Of a pattern over 64 bytes the first 64
+// count, since a word has no more bits.
+pub fn masks(pattern: &[u8]) -> [u64; 256]
+    ensures { λ r. ⌜ Masks (bases (now (pattern .entry))) r ⌝ }
+{
+    let all = pattern.len();
+    let m = if refusal::GREATEST_PATTERN < all {
+        refusal::GREATEST_PATTERN
+    } else {
+        all
+    };
+    let mut table = [0u64; 256];
+    let mut k = 0;
+    while k < m {
+        let c = pattern[k] as usize;
+        table[c] = table[c] | (1 << k);
+        k += 1;
+    }
+    table
+}
+
+// 0 for each letter, 1 for every other byte.
+pub fn classes() -> [u8; 256]
+    ensures { λ r. ⌜ Classes r ⌝ }
+{
+    let mut table = [1u8; 256];
+    table[0x41] = 0;
+    table[0x43] = 0;
+    table[0x47] = 0;
+    table[0x54] = 0;
+    table
+}
