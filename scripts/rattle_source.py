@@ -1,6 +1,8 @@
 """Reads the crates' sources as far as contracts go: the items of .rt files with their clauses, what other crates can reach of
 them, and the `use` lines and definitions of .antt files. Files are a dictionary from path to text, so that a test can change one."""
 import functools
+import glob
+import os
 import re
 from dataclasses import dataclass, field
 
@@ -31,6 +33,7 @@ class Item:
     parameters: tuple = ()  # (name, type)
     result: str = ''
     clauses: tuple = ()
+    body: str = ''
 
 
 @dataclass
@@ -49,6 +52,16 @@ class Use:
     name: str
     local: str  # the name behind `as`, else the same
     passed: bool = False  # `pub use`
+
+
+def read_files(top):
+    """The list of crates, and the sources and the definitions of each."""
+    files = {}
+    for pattern in ('crates.txt', 'crates/*/src/**/*.rt', 'crates/*/specs/**/*.antt'):
+        for path in glob.glob(os.path.join(top, pattern), recursive=True):
+            with open(path, encoding='utf-8') as file:
+                files[os.path.relpath(path, top)] = file.read()
+    return files
 
 
 def squeezed(text):
@@ -127,7 +140,7 @@ def read_function(text, hush, found, owner):
     clauses, body = read_clauses(hushed(text, True), result.end())
     end = body if hush[body] == ';' else until(hush, body + 1, '}')
     return Item('fn', name.group(1), is_public(found), signature, found.start(), owner, bool(found.group(3)), result.end(),
-                tuple(parameters), result_type, clauses), end + 1
+                tuple(parameters), result_type, clauses, hush[body:end + 1]), end + 1
 
 
 def is_public(found):
@@ -210,26 +223,31 @@ def spread(tree):
     return [(path, other.strip() or path[-1])]
 
 
+def brought(root, module, name, rest, path):
+    """What a name that a `use` line of the module brings means, with the rest of a path behind it."""
+    for item in module.items:
+        if item.kind == 'use':
+            for way, local in spread(item.text[len('use '):]):
+                found = resolve(root, module, way + rest) if local == name and way + rest != path else []
+                if found:
+                    return found
+    return []
+
+
 def resolve(root, module, path):
-    """The items and modules that a path means, read from a module; none where it leads out of the crate."""
+    """The items and modules that a path means, read from a module: (module, item or None); none where it leads out of the crate."""
     heads = {'crate': root, 'self': module, 'super': module.parent}
     at, rest = (heads[path[0]], path[1:]) if path[0] in heads else (module, path)
     for k, name in enumerate(rest):
-        last = k == len(rest) - 1
-        here = [item for item in at.items if item.name == name and not item.owner and item.kind not in ('use', 'mod')]
-        if last and here:
-            return [(at, item) for item in here]
-        if name in at.children:
+        here = [(at, item) for item in at.items if item.name == name and not item.owner and item.kind not in ('use', 'mod')]
+        if k < len(rest) - 1 and name in at.children:
             at = at.children[name]
             continue
-        for item in at.items:
-            if item.kind == 'use':
-                for way, local in spread(item.text[len('use '):]):
-                    if local == name and way != path:
-                        found = resolve(root, at, way + rest[k + 1:])
-                        if found:
-                            return found
-        return []
+        # a module and a function that a `use` line brings may share a name
+        found = here if here and k == len(rest) - 1 else brought(root, at, name, rest[k + 1:], path)
+        if found or name not in at.children:
+            return found
+        at = at.children[name]
     return [(at, None)]
 
 
