@@ -55,9 +55,9 @@ class Use:
 
 
 def read_files(top):
-    """The list of crates, and the sources and the definitions of each."""
+    """The list of crates, and the sources, definitions and proofs of each."""
     files = {}
-    for pattern in ('crates.txt', 'crates/*/src/**/*.rt', 'crates/*/specs/**/*.antt'):
+    for pattern in ('crates.txt', 'crates/*/src/**/*.rt', 'crates/*/specs/**/*.antt', 'crates/*/proofs/**/*.antt'):
         for path in glob.glob(os.path.join(top, pattern), recursive=True):
             with open(path, encoding='utf-8') as file:
                 files[os.path.relpath(path, top)] = file.read()
@@ -339,14 +339,14 @@ def uses_of(text):
 
 
 DEFINITION = re.compile(r'( *)(?:(?:unfoldable|abbrev|pub|private|axiom)\s+)*'
-                        r'(?:(data|record|ruleset)\s+([^\s:({]+)|((?:[^\s(){}:=]+ )+)(?:(?:\{[^}]*\}|\([^)]*\)) )*: )')
+                        r'(?:(data|record|ruleset)\s+([^\s:({]+)|((?:(?![:=] )[^\s(){}]+ )+)(?:(?:\{[^}]*\}|\([^)]*\)) )*: )')
 
 
 @functools.lru_cache(maxsize=None)
 def defined_in(text):
     """The names that a file defines, constructors and helpers too; a record's fields are reached by `.name` alone."""
     names, in_record = set(), False
-    for line in plain(text).split('\n'):
+    for line in re.sub(r'\n\s+:(?=\s)', ' :', plain(text)).split('\n'):
         found = DEFINITION.match(line + ' ')
         if line and line[0] != ' ':
             in_record = bool(found) and found.group(2) == 'record'
