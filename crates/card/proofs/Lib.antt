@@ -15,3 +15,8 @@ pub mod RowSteps
 pub mod RowSegments
 pub mod RowWalks
 pub mod OfStretches
+pub mod Calls
+pub mod TextCalls
+pub mod Groupings
+pub mod Neutral
+pub mod Theorems

@@ -6,41 +6,38 @@ use mathlib.Core.Path.{_≡_, refl, sym, ap, ap₂, subst, _∙_}
 use mathlib.Core.Logic.{by-cases}
 use mathlib.Core.Bool.{true, false, cond, _||_, true≢false}
 use mathlib.Core.List.{List, [], _∷_, _++_}
-use borrow.Author.Tests.{ltb-true, lt-ltb, eqb-false}
+use borrow.Author.Tests.{lt-ltb, eqb-false}
 use lib.Bits.{bitOr}
 use lib.Dec.{ltb}
 use lib.ListN.{length, getD, take, drop, replicate, length-replicate, getD-replicate}
-use lib.Pow.{pow-pos}
 use Rattle.text.specs.Text.{Segment}
 use Rattle.text.specs.Bits.{bit, fromBits}
 use Rattle.text.specs.State.{next, endsAt, ends}
 use Rattle.text.specs.Refusal.{ok, refused}
 use Rattle.text.specs.Card.{Row, none}
-use Rattle.text.proofs.Truth.{not-true-false}
-use Rattle.text.proofs.Bits.{bit-zero, bit-first, bit-above, bit-fromBits, fromBits-lt}
-use Rattle.text.proofs.Outcomes.{ok-inj, demand-met, after-met}
-use Rattle.text.proofs.Steps.{From, afresh, carrying, next-open, next-lt, ends-is}
-use Rattle.text.proofs.Rows.{union-zero}
-use Rattle.text.proofs.Linear.{next-linear}
+use Rattle.text.proofs.Bits.{bit-first, bit-above, bit-fromBits, fromBits-lt}
+use Rattle.text.proofs.Outcomes.{ok-inj, refused-ok, after-met}
+use Rattle.text.proofs.Steps.{next-open, next-lt}
 use Rattle.text.proofs.Folds.{next-none, next-snoc, ends-none, ends-snoc}
-use Rattle.stretch.specs.Reading.{Taken, lettersAt, variantAt, many, segmentAt}
-use Rattle.stretch.specs.Variants.{headAt}
-use Rattle.stretch.proofs.Heads.{head-is, head-not, whole-part}
-use Rattle.stretch.proofs.Segments.{Read, variant-read}
+use Rattle.stretch.specs.Pieces.{variantsAt, headAt}
+use Rattle.stretch.specs.Reading.{Taken, valueOf, variantAt, many, segmentAt}
+use Rattle.stretch.proofs.Frames.{variants-met}
+use Rattle.stretch.proofs.Heads.{head-is, head-not, whole-part, value-part}
+use Rattle.stretch.proofs.Units.{Read, variant-read}
 use Rattle.card.specs.RowStep.{Within, meets, Alive, Covers, Readable, VariantOver, Settled, SegmentOver, rowAt, rowOver}
-use Rattle.card.proofs.Meets.{no-bits, meets-none, meets-or, within-lt, within-clear}
+use Rattle.card.proofs.Meets.{meets-none, meets-or, within-lt, within-clear}
 
 -- a sound segment has its count, and its variants behind it
-pub sound-count : (s : List ℕ) (at : ℕ) → Readable s at → at < length s
+pub count-there : (s : List ℕ) (at : ℕ) → Readable s at → (n p : ℕ) → variantsAt s at ≡ refused n p → ⊥
 unfolding segmentAt
-sound-count s at g = ltb-true at (length s) (demand-met (ltb at (length s)) 5 at _ (g .read) (g .is) .0)
+count-there s at g n p e = refused-ok n p (g .read) (rw e at (g .is))
 
-sound-variants : (s : List ℕ) (at : ℕ) → Readable s at → segmentAt s at ≡ many (variantAt s) (getD s at 0) [] (at + 1)
+pub count-inside : (s : List ℕ) (at count : ℕ) → variantsAt s at ≡ ok count → at < length s
+count-inside s at count e = variants-met s at count e .inside
+
+count-many : (s : List ℕ) (at count : ℕ) → variantsAt s at ≡ ok count → segmentAt s at ≡ many (variantAt s) count [] (at + 1)
 unfolding segmentAt
-sound-variants s at g =
-    let a = demand-met (ltb at (length s)) 5 at _ (g .read) (g .is) in
-    let b = demand-met (ltb 0 (getD s at 0)) 6 at _ (g .read) (a .1) in
-    rw (a .0, b .0)
+count-many s at count e = rw e
 
 -- a state that carries lengths alone has bit 0 clear
 even : (x live : ℕ) → Within x live → bit live 0 ≡ false → x % 2 ≡ 0
@@ -57,13 +54,13 @@ pub record Bearing (P s : List ℕ) (at live count : ℕ) (exits new : List ℕ)
   pub each : (q : ℕ) → 0 < q → q < length P → getD new q 0 ≡ next P (getD exits q 0) seen
   pub end : (x : ℕ) → Within x live → ends P x seen ≡ meets x finished
 
-pub bearing-none : (P masks s : List ℕ) (at live count : ℕ) (exits : List ℕ) → Alive P masks live → Covers (length P) live exits → Readable s at
-    → count ≡ getD s at 0 → Bearing P s at live count exits (replicate 64 0) 0 (at + 1) 0
-bearing-none P masks s at live count exits y covers g e =
+pub bearing-none : (P masks s : List ℕ) (at live count : ℕ) (exits : List ℕ) → Alive P masks live → Covers (length P) live exits
+    → variantsAt s at ≡ ok count → Bearing P s at live count exits (replicate 64 0) 0 (at + 1) 0
+bearing-none P masks s at live count exits y covers e =
     record {
       seen = [];
       most = omega arith;
-      rest = sound-variants s at g ∙ ap (λ (n : ℕ). many (variantAt s) n [] (at + 1)) (let z : getD s at 0 ≡ count - 0 = omega arith in z);
+      rest = count-many s at count e ∙ ap (λ (n : ℕ). many (variantAt s) n [] (at + 1)) (let z : count ≡ count - 0 = omega arith in z);
       full = length-replicate {A = ℕ} 64 0;
       each = λ q some l.
           getD-replicate {A = ℕ} 64 q 0 0 (let z : q < 64 = omega (arith, y .bases .short) in z)
@@ -93,8 +90,8 @@ module _ (P s : List ℕ) (at live count : ℕ) (exits new : List ℕ) (finished
         → Bearing P s at live count exits after (bitOr finished ended) beyond (j + 1)
     bearing-more start beyond after ended h p =
         let w = head-is s from start beyond h in
-        let v = lettersAt s from in
-        let same : take (beyond - start) (drop start s) ≡ v = whole-part s from start beyond w in
+        let v = valueOf s from in
+        let same : take (beyond - start) (drop start s) ≡ v = whole-part s from start beyond w ∙ sym (value-part s from) in
         record {
           seen = b .seen ++ (v ∷ []);
           most = omega arith;

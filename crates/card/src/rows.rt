@@ -2,12 +2,15 @@
 // pass over each variant; each row is then a shift and a mask.
 use crate::carry::carry;
 use crate::ends::sooner;
-use stretch::bytes::wide;
-use stretch::variant::Part;
-use stretch::variant::head;
+use stretch::pieces::Counted;
+use stretch::pieces::Part;
+use stretch::pieces::head;
+use stretch::pieces::variants;
 ghost use mathlib.Core.Path.{_≡_};
 ghost use Prim.Native.Nat.{_≤_, _<_};
-ghost use lib.ListN.{length, getD};
+ghost use lib.ListN.{length};
+ghost use Rattle.text.specs.Refusal.{ok};
+ghost use Rattle.stretch.specs.Pieces.{variantsAt};
 ghost use Rattle.card.specs.Cards.{Full};
 ghost use Rattle.card.specs.RowStep.{Alive, Covers, Readable, Spread, VariantOver, Settled, SegmentOver};
 
@@ -77,11 +80,15 @@ fn settle(
 }
 
 // How many variants the segment at `at` has, a sound one.
-fn variants(stretch: &[u8], at: usize) -> usize
+fn count(stretch: &[u8], at: usize) -> usize
     requires { ⌜ Readable (now stretch) at ⌝ }
-    ensures { λ r. ⌜ r ≡ getD (now (stretch .entry)) at 0 ⌝ }
+    ensures { λ r. ⌜ variantsAt (now (stretch .entry)) at ≡ ok r ⌝ }
 {
-    wide(stretch[at])
+    match variants(stretch, at) {
+        Counted::Variants(all) => all,
+        // A sound segment has its count.
+        Counted::Refused(_) => 0,
+    }
 }
 
 // Takes the rows over the segment at `at`, a sound one with the number k.
@@ -100,12 +107,12 @@ pub fn segment_rows(
     ensures { λ r. ⌜ SegmentOver (now (pattern .entry)) (now (stretch .entry)) at k (now (exits .entry)) (now (firsts .entry))
         (now (exits .exit)) (now (firsts .exit)) (r .live) (r .next) ⌝ }
 {
-    let count = variants(stretch, at);
+    let all = count(stretch, at);
     let mut next = [0u64; 64];
     let mut finished = 0;
     let mut from = at + 1;
     let mut j = 0;
-    while j < count {
+    while j < all {
         match head(stretch, from) {
             Part::Refused(_) => {
                 // In a sound segment no variant is cut off.

@@ -5,26 +5,26 @@ use borrow.Author.Needs.{needs}
 use native.Mathlib.Omega.{arith}
 use mathlib.Core.Path.{_≡_, sym, ap, _∙_}
 use Rattle.text.specs.Refusal.{ok}
-use Rattle.stretch.specs.Variants.{toldPart, headAt}
+use Rattle.stretch.specs.Pieces.{toldPart, headAt}
 use Rattle.stretch.proofs.Heads.{head-is}
-use Rattle.card.proofs.RowSegments.{sound-count, Bearing, bearing-none, bearing-whole, bearing-more, bearing-all, bearing-end}
+use Rattle.card.proofs.RowSegments.{count-inside, Bearing, bearing-none, bearing-whole, bearing-more, bearing-all, bearing-end}
 use Rattle.card.proofs.rows.segment_rows.Statement.{statement}
 use Rattle.card.proofs.rows.segment_rows.Tie as tie
 
 abbrev Inv-loop : tie.InvT-loop
-Inv-loop pattern masks live stretch at k exits firsts count next₀ finished₀ from₀ j₀ next finished from j =
-    Bearing pattern stretch at live count exits next finished from j
+Inv-loop pattern masks live stretch at k exits firsts all next₀ finished₀ from₀ j₀ next finished from j =
+    Bearing pattern stretch at live all exits next finished from j
 
 abbrev μ-loop : tie.MeasureT-loop
-μ-loop pattern masks live stretch at k exits firsts count next₀ finished₀ from₀ j₀ next finished from j = count - j
+μ-loop pattern masks live stretch at k exits firsts all next₀ finished₀ from₀ j₀ next finished from j = all - j
 
 add-from : tie.Need-add-from Inv-loop μ-loop
-add-from c = omega (arith, sound-count _ _ (c .before .before .before .before .before .pre .3))
+add-from c = omega (arith, count-inside _ _ _ (c .count .ensures))
 
 loop-holds : tie.Need-loop-holds Inv-loop μ-loop
 loop-holds c =
     let p = c .before .before .before .before .before .pre in
-    bearing-none _ _ _ _ _ _ _ (p .0) (p .1) (p .3) (c .variants .ensures)
+    bearing-none _ _ _ _ _ _ _ (p .0) (p .1) (c .count .ensures)
 
 returns : tie.Need-returns Inv-loop μ-loop
 returns c =
