@@ -1,4 +1,4 @@
-# What the toolchain makes of the crates, and how to run it here. Sourced from the top folder.
+# What the toolchain makes of the crates, how to run it here, and packages. Sourced from the top folder.
 
 # The toolchain's folder with its compiler, the loader that programs run with and, on Arm, an emulator.
 toolchain() {
@@ -16,4 +16,11 @@ run_program() {
     emulator=$tools/bin/qemu-x86_64
     [ -x "$emulator" ] || emulator=''
     $emulator "$tools/lib/ld-linux-x86-64.so.2" --library-path "$tools/lib" "target/bin/$1"
+}
+
+# Installs packages, where apt-get and the right to use it are there, and says so before.
+install_packages() {
+    [ "$(id -u)" = 0 ] && command -v apt-get >/dev/null || return 1
+    echo "installing by apt-get, since it is missing here: $*"
+    { apt-get -q update && DEBIAN_FRONTEND=noninteractive apt-get -q install -y "$@"; } >/dev/null 2>&1
 }

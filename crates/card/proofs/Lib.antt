@@ -8,5 +8,15 @@ pub mod Formed
 pub mod Joins
 pub mod Answered
 pub mod Numbers
+pub mod FirstEnds
+pub mod Meets
+pub mod Carries
+pub mod RowSteps
+pub mod RowSegments
+pub mod RowWalks
 pub mod OfStretches
 pub mod Calls
+pub mod TextCalls
+pub mod Groupings
+pub mod Neutral
+pub mod Theorems

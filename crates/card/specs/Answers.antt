@@ -1,12 +1,19 @@
 -- What the calls on cards answer, in document 01's numbers and values.
+use Prim.Native.Nat.{ℕ}
+use mathlib.Core.List.{List}
 use lib.ListN.{replicate}
-use Rattle.text.specs.Refusal.{Outcome, ok, refused}
-use Rattle.text.specs.Card.{Row, Card}
+use Rattle.text.specs.Refusal.{Outcome, ok, refused, after, pattern}
+use Rattle.text.specs.Card.{Row, Card, cardOf}
+use Rattle.stretch.specs.Reading.{stretchOf}
 use Rattle.card.specs.declared.cards.Card.{Card as Held}
 use Rattle.card.specs.declared.answers.Made.{Made}
 use Rattle.card.specs.declared.answers.Asked.{Asked}
 use Rattle.card.specs.declared.answers.Asked.the-variants.{Told}
 use Rattle.card.specs.Cards.{cardOut}
+
+-- the card of a stretch: 1, 2, 3, then those of the stretch
+unfoldable pub carding : List ℕ → List ℕ → Outcome Card
+carding P s = pattern P (after (stretchOf s) λ t. ok (cardOf P t))
 
 -- the card of all zeros
 unfoldable pub zeroCard : Held

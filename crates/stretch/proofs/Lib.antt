@@ -33,3 +33,5 @@ pub mod TextBytes
 pub mod Writings
 pub mod Writable
 pub mod RoundTrips
+pub mod Rewriting
+pub mod Theorems

@@ -1,53 +1,42 @@
--- Reading an accepted stretch: a place that has a variant gives exactly its letters, and reading on from the first place hands out
--- every variant of the text, in text order, and then the end.
+-- Reading on in an accepted stretch: from the first place the calls hand out every variant of the text, in text order, each with its
+-- segment's number, and then the end. So the segments that are read are those of the text.
 use Prim.Native.Nat.{ℕ, _+_, _≤_, _<_}
 use native.Mathlib.Nat.{add-zero}
 use native.Mathlib.Omega.{arith}
-use mathlib.Core.Path.{_≡_, refl, sym, ap, _∙_}
-use mathlib.Core.List.{List, [], _∷_, _++_, flatten}
-use lib.ListN.{length, getD, drop, length-append, length-drop, List·getD-eq-default}
+use mathlib.Core.Path.{_≡_, refl, sym, ap, ap₂, subst₂, _∙_}
+use mathlib.Core.Bool.{true}
+use mathlib.Core.List.{List, [], _∷_, _++_, map}
+use borrow.Author.Tests.{eq-eqb, ne-eqb, ltb-true}
+use lib.ListN.{length, getD, drop, length-append, length-drop, length-map, List·getD-eq-default}
 use lib.Seq.{drop-drop, getD-drop}
 use Rattle.text.specs.Text.{Variant, Segment, Text, segment}
 use Rattle.text.specs.Refusal.{Outcome, ok, refused}
-use Rattle.stretch.specs.Bytes.{part}
-use Rattle.stretch.specs.Reading.{Taken, many, stretchOf}
-use Rattle.stretch.specs.Places.{variant, Found, found, end, reading, partOf}
-use Rattle.stretch.proofs.Rows.{Row, row-many, row-append, row-from}
-use Rattle.stretch.proofs.Decoding.{stretch-read}
+use Rattle.text.proofs.Truth.{and-left, and-right}
+use Rattle.text.proofs.Outcomes.{refused-ok}
+use Rattle.stretch.specs.Reading.{stretchOf}
+use Rattle.stretch.specs.Encoding.{all}
+use Rattle.stretch.specs.Places.{variant, startOf, found, end, Reading, reading, readIn, partOf}
+use Rattle.stretch.specs.Answers.{toldGot}
+use Rattle.stretch.specs.Onward.{Handed, HandsOut, ReadOn, before, joined, gathered, ReadsAs}
+use Rattle.stretch.specs.declared.reading.Got.{Got}
+use Rattle.stretch.specs.declared.reading.Got.the-variants.{End}
+use Rattle.stretch.proofs.Lengths.{filled}
+use Rattle.stretch.proofs.Decoding.{stretch-read, stretch-filled}
 use Rattle.stretch.proofs.Places.{segment-there, part-there}
-use Rattle.stretch.proofs.Readings.{ended, read-text, some-segment, read-here, read-next, read-end}
+use Rattle.stretch.proofs.Readings.{read-text, some-segment, read-here, read-next, read-end}
 
--- a place in a text
-pub record Place : Type 0 where
-  pub segment : ℕ
-  pub variant : ℕ
+-- the variants of a segment, and of all segments from number j on, with their numbers
+abbrev tag : ℕ → Variant → Handed
+tag j v = record { segment = j; letters = v }
 
-abbrev pub at : ℕ → ℕ → Place
-at j v = record { segment = j; variant = v }
+unfoldable tagged : ℕ → Text → List Handed
+tagged j [] = []
+tagged j (g ∷ t) = map (tag j) g ++ tagged (j + 1) t
 
--- what an answer hands out, with the place that goes with it; one that hands nothing out is a refusal, the end one of number 0
-abbrev pub handedOut : List ℕ → Place → Outcome Found → Outcome (Taken Variant Place)
-handedOut s p (ok (found start len)) = ok (record { value = part s start len; next = p })
-handedOut s p (ok end) = refused 0 0
-handedOut s p (refused n q) = refused n q
-
--- one read, whatever was handed out before it
-unfoldable pub readAt : List ℕ → List Variant → Place → Outcome (Taken Variant Place)
-readAt s seen p =
-    let x = reading s (p .segment) (p .variant) in
-    handedOut s (at (x .segment) (x .variant)) (x .answer)
-
--- as many reads from the first place as there are variants hand out all of them, in text order, and the next read answers the end
-pub record ReadAll (s : List ℕ) (t : Text) : Type 0 where
-  pub last : Place
-  pub all : many (readAt s) (length (flatten t)) [] (at 0 0) ≡ ok (record { value = flatten t; next = last })
-  pub over : reading s (last .segment) (last .variant) ≡ ended (last .segment) (last .variant)
-
--- reads from p on hand out the variants l, and then the end
-record ReadOn (s : List ℕ) (seen : List Variant) (p : Place) (l : List Variant) : Type 0 where
-  last : Place
-  row : Row (readAt s) seen p l last
-  over : reading s (last .segment) (last .variant) ≡ ended (last .segment) (last .variant)
+-- the first of these belongs to another segment than j
+abbrev Apart : ℕ → List Handed → Type 0
+Apart j [] = Unit {0}
+Apart j (h ∷ l) = j ≡ h .segment → ⊥
 
 -- what stands at a place of a list, and what stands behind it
 drop-next :
@@ -58,81 +47,155 @@ drop-next {A = A} l k none a rest d = (
   sym (drop-drop 1 k l) ∙ ap (drop 1) d,
 )
 
+-- the answer at a place tells what is handed out there, so reading on has one course
+module _ (s : List ℕ) (j v : ℕ) (h i : Handed) (x : HandsOut s j v h) (y : HandsOut s j v i) where
+  told : toldGot (Got.Variant (x .start) (x .len) (h .segment) (x .next)) ≡ toldGot (Got.Variant (y .start) (y .len) (i .segment) (y .next))
+  told = x .read ∙ sym (y .read)
+
+  same-handed : h ≡ i
+  same-handed =
+      let number : h .segment ≡ i .segment = ap (λ (r : Reading). r .segment) told in
+      let letters : h .letters ≡ i .letters = x .letters ∙ sym (y .letters) in
+      λ k. record { segment = number k; letters = letters k }
+
+  same-next : x .next ≡ y .next
+  same-next = ap (λ (r : Reading). r .variant) told
+
+read-once : (s : List ℕ) (j v : ℕ) (l m : List Handed) → ReadOn s j v l → ReadOn s j v m → l ≡ m
+unfolding ReadOn
+read-once s j v [] [] r q = refl
+read-once s j v [] (i ∷ m) r q =
+    let e : toldGot (End j v) .answer ≡ toldGot (Got.Variant (q .0 .start) (q .0 .len) (i .segment) (q .0 .next)) .answer =
+    ap (λ (x : Reading). x .answer) (r ∙ sym (q .0 .read)) in
+    absurd (let z : _≡_ {A = ℕ} 0 1 = cc in let y : ⊥ = omega arith in y)
+read-once s j v (h ∷ l) [] r q =
+    let e : toldGot (End j v) .answer ≡ toldGot (Got.Variant (r .0 .start) (r .0 .len) (h .segment) (r .0 .next)) .answer =
+    ap (λ (x : Reading). x .answer) (q ∙ sym (r .0 .read)) in
+    absurd (let z : _≡_ {A = ℕ} 0 1 = cc in let y : ⊥ = omega arith in y)
+read-once s j v (h ∷ l) (i ∷ m) r q =
+    let same : h ≡ i = same-handed s j v h i (r .0) (q .0) in
+    let rest : ReadOn s (h .segment) (r .0 .next) m =
+    subst₂ (λ (a b : ℕ). ReadOn s a b m) (ap (λ (x : Handed). x .segment) (sym same)) (sym (same-next s j v h i (r .0) (q .0))) (q .1) in
+    ap₂ _∷_ same (read-once s (h .segment) (r .0 .next) l m (r .1) rest)
+
+-- what is read on to the end was accepted
+pub read-accepted : (s : List ℕ) (l : List Handed) → ReadOn s 0 0 l → (t : Text) × (stretchOf s ≡ ok t)
+unfolding ReadOn reading
+read-accepted s l r = go (stretchOf s) refl l r
+  where
+    go : (o : Outcome Text) → stretchOf s ≡ o → (l : List Handed) → ReadOn s 0 0 l → (t : Text) × (stretchOf s ≡ ok t)
+    go (ok t) e l r = (t, e)
+    go (refused n p) e [] r = absurd (refused-ok n p end (sym (ap (λ (x : Reading). x .answer) r ∙ ap (λ (o : Outcome Text). readIn o 0 0 .answer) e)))
+    go (refused n p) e (h ∷ l) r =
+        let x = r .0 in
+        absurd
+        (refused-ok n p (found (x .start) (x .len))
+        (sym (ap (λ (y : Reading). y .answer) (x .read) ∙ ap (λ (o : Outcome Text). readIn o 0 0 .answer) e)))
+
 module _ (s : List ℕ) (t : Text) (e : stretchOf s ≡ ok t) where
   -- the letters at a place that has a variant
   pub read-letters : (j v : ℕ) → v < length (segment t j) → partOf s (reading s j v .answer) ≡ variant t j v
   read-letters j v l =
       rw (read-text s t e j v, read-here t j v l) (part-there s t (stretch-read s t e) j (some-segment t j v l) v l)
 
-  -- one read there, and the place behind it
-  read-one :
-      (j v : ℕ) (seen : List Variant) → v < length (segment t j) →
-      readAt s seen (at j v) ≡ ok (record { value = variant t j v; next = at j (v + 1) })
-  unfolding readAt
-  read-one j v seen l =
-      rw (read-text s t e j v, read-here t j v l, part-there s t (stretch-read s t e) j (some-segment t j v l) v l)
+  -- the end
+  ended : (j v : ℕ) → length (segment t j) ≤ v → length t ≤ j + 1 → ReadOn s j v []
+  unfolding ReadOn
+  ended j v none few = sym (read-text s t e j v ∙ read-end t j v none few)
 
-  -- the rest of a segment, from variant v on
+  -- one call there
+  read-one : (j v : ℕ) (a : Variant) → v < length (segment t j) → variant t j v ≡ a → HandsOut s j v (tag j a)
+  read-one j v a l is = record {
+    start = startOf t j v;
+    len = length (variant t j v);
+    next = v + 1;
+    read = sym (read-text s t e j v ∙ read-here t j v l);
+    letters = sym (read-letters j v l ∙ is);
+  }
+
+  -- the rest of a segment, from variant v on, and what is read behind it
   read-segment :
-      (j : ℕ) (l : Segment) (v : ℕ) (seen : List Variant) → v ≤ length (segment t j) → drop v (segment t j) ≡ l →
-      Row (readAt s) seen (at j v) l (at j (length (segment t j)))
-  unfolding Row
-  read-segment j [] v seen h d =
-      let n : v ≡ length (segment t j) = omega (arith, rw length-drop at (ap length d)) in
-      ap (at j) n
-  read-segment j (a ∷ l) v seen h d =
+      (j : ℕ) (g : Segment) (v : ℕ) (rest : List Handed) → v ≤ length (segment t j) → drop v (segment t j) ≡ g →
+      ReadOn s j (length (segment t j)) rest → ReadOn s j v (map (tag j) g ++ rest)
+  unfolding ReadOn read-one
+  read-segment j [] v rest h d r =
+      let n : length (segment t j) ≡ v = omega (arith, rw length-drop at (ap length d)) in
+      rw n at r
+  read-segment j (a ∷ g) v rest h d r =
       let m : v < length (segment t j) = omega (arith, rw length-drop at (ap length d)) in
-      let n = drop-next (segment t j) v [] a l d in
-      (at j (v + 1), read-one j v seen m ∙ rw (n .0), read-segment j l (v + 1) (seen ++ (a ∷ [])) (omega arith) (n .1))
+      let n = drop-next (segment t j) v [] a g d in
+      (read-one j v a m (n .0), read-segment j g (v + 1) rest (omega arith) (n .1) r)
 
   -- behind a segment's last variant stands the next segment's first
-  read-across :
-      (j : ℕ) (seen : List Variant) → j + 1 < length t →
-      readAt s seen (at j (length (segment t j))) ≡ readAt s seen (at (j + 1) 0)
-  unfolding readAt
-  read-across j seen h =
-      let some : 0 < length (segment t (j + 1)) = segment-there s t (stretch-read s t e) (j + 1) h .some in
-      rw (
-        read-text s t e j (length (segment t j)),
-        read-next t j (length (segment t j)) (omega arith) h,
-        read-text s t e (j + 1) 0,
-        read-here t (j + 1) 0 some,
+  read-across : (j : ℕ) (l : List Handed) → j + 1 < length t → 0 < length l → ReadOn s (j + 1) 0 l → ReadOn s j (length (segment t j)) l
+  unfolding ReadOn
+  read-across j [] more some r = absurd (let z : ⊥ = omega arith in z)
+  read-across j (h ∷ l) more some r =
+      let first : 0 < length (segment t (j + 1)) = segment-there s t (stretch-read s t e) (j + 1) more .some in
+      let same : reading s (j + 1) 0 ≡ reading s j (length (segment t j)) =
+      read-text s t e (j + 1) 0 ∙ read-here t (j + 1) 0 first
+      ∙ sym (read-text s t e j (length (segment t j)) ∙ read-next t j (length (segment t j)) (omega arith) more) in
+      let x = r .0 in (
+        record {
+          start = x .start;
+          len = x .len;
+          next = x .next;
+          read = x .read ∙ same;
+          letters = x .letters ∙ ap (λ (y : Reading). partOf s (y .answer)) same;
+        },
+        r .1,
       )
 
   -- the text from segment j on
-  read-rest : (us : Text) (j : ℕ) (seen : List Variant) → drop j t ≡ us → ReadOn s seen (at j 0) (flatten us)
-  unfolding flatten Row
-  read-rest [] j seen d =
+  read-rest : (us : Text) (j : ℕ) → drop j t ≡ us → ReadOn s j 0 (tagged j us)
+  unfolding tagged
+  read-rest [] j d =
       let few : length t ≤ j = omega (arith, rw length-drop at (ap length d)) in
       let none : length (segment t j) ≤ 0 = rw (List·getD-eq-default t [] {n = j} few) (omega arith) in
-      record { last = at j 0; row = refl; over = read-text s t e j 0 ∙ read-end t j 0 none (omega arith) }
-  read-rest (g ∷ []) j seen d =
+      ended j 0 none (omega arith)
+  read-rest (g ∷ []) j d =
       let n = drop-next t j [] g [] d in
       let few : length t ≤ j + 1 = omega (arith, rw length-drop at (ap length (n .1))) in
-      let last : Place = at j (length (segment t j)) in
-      record {
-        last = last;
-        row = row-append (readAt s) g [] seen (at j 0) last last (read-segment j g 0 seen (omega arith) (n .0)) refl;
-        over = read-text s t e j (length (segment t j)) ∙ read-end t j (length (segment t j)) (omega arith) few;
-      }
-  read-rest (g ∷ (h ∷ us)) j seen d =
+      read-segment j g 0 [] (omega arith) (n .0) (ended j (length (segment t j)) (omega arith) few)
+  read-rest (g ∷ (h ∷ us)) j d =
       let n = drop-next t j [] g (h ∷ us) d in
       let m = drop-next t (j + 1) [] h us (n .1) in
       let more : j + 1 < length t = omega (arith, rw length-drop at (ap length (n .1))) in
-      let some : 0 < length (segment t (j + 1)) = segment-there s t (stretch-read s t e) (j + 1) more .some in
-      let rest : 0 < length (h ++ flatten us) = rw (length-append, ← m .0) (omega arith) in
-      let r = read-rest (h ∷ us) (j + 1) (seen ++ g) (n .1) in
-      let here : Place = at j (length (segment t j)) in
-      record {
-        last = r .last;
-        row = row-append (readAt s) g (h ++ flatten us) seen (at j 0) here (r .last)
-            (read-segment j g 0 seen (omega arith) (n .0))
-            (row-from (readAt s) here (at (j + 1) 0) (h ++ flatten us) (seen ++ g) (r .last)
-            (read-across j (seen ++ g) more) rest (r .row));
-        over = r .over;
-      }
+      let some : 0 < length h = rw (m .0) at (segment-there s t (stretch-read s t e) (j + 1) more .some) in
+      read-segment j g 0 (tagged (j + 1) (h ∷ us)) (omega arith) (n .0)
+      (read-across j (tagged (j + 1) (h ∷ us)) more (omega (arith, length-append (map (tag (j + 1)) h) (tagged (j + 1 + 1) us), length-map h (tag (j + 1))))
+      (read-rest (h ∷ us) (j + 1) (n .1)))
 
-  pub read-all : ReadAll s t
-  read-all =
-      let r = read-rest t 0 [] refl in
-      record { last = r .last; all = row-many (readAt s) (flatten t) [] (at 0 0) (r .last) (r .row); over = r .over }
+-- gathering the variants by their numbers gives the segments back
+gathered-segment :
+    (j : ℕ) (v : Variant) (g : Segment) (rest : List Handed) → Apart j rest →
+    gathered (map (tag j) (v ∷ g) ++ rest) ≡ (v ∷ g) ∷ gathered rest
+unfolding gathered
+gathered-segment j v [] [] a = refl
+gathered-segment j v [] (i ∷ rest) a = rw (ne-eqb j (i .segment) a)
+gathered-segment j v (w ∷ g) rest a = rw (eq-eqb j j refl, gathered-segment j w g rest a)
+
+gathered-text : (t : Text) (j : ℕ) → all filled t ≡ true → gathered (tagged j t) ≡ t
+unfolding tagged gathered all
+gathered-text [] j f = refl
+gathered-text ([] ∷ t) j f =
+    absurd (let l : 0 < 0 = ltb-true 0 0 (and-left (filled []) (all filled t) f) in let z : ⊥ = omega arith in z)
+gathered-text ((v ∷ g) ∷ t) j f =
+    let rest = and-right (filled (v ∷ g)) (all filled t) f in
+    gathered-segment j v g (tagged (j + 1) t) (apart t rest) ∙ ap (λ (u : Text). (v ∷ g) ∷ u) (gathered-text t (j + 1) rest)
+  where
+    apart : (u : Text) → all filled u ≡ true → Apart j (tagged (j + 1) u)
+    apart [] f = tt
+    apart ([] ∷ u) f = absurd (let l : 0 < 0 = ltb-true 0 0 (and-left (filled []) (all filled u) f) in let z : ⊥ = omega arith in z)
+    apart ((w ∷ h) ∷ u) f = λ e. let z : ⊥ = omega arith in z
+
+-- an accepted stretch is read on as its text
+pub reads-as : (s : List ℕ) (t : Text) → stretchOf s ≡ ok t → ReadsAs s t
+reads-as s t e =
+    let read = read-rest s t e t 0 refl in
+    record {
+      all = tagged 0 t;
+      read = read;
+      once = λ l r. read-once s 0 0 l (tagged 0 t) r read;
+      is = gathered-text t 0 (stretch-filled s t (stretch-read s t e));
+    }

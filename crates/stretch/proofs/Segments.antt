@@ -13,10 +13,9 @@ use Rattle.stretch.specs.Bytes.{word}
 use Rattle.stretch.specs.Pieces.{nextOf}
 use Rattle.stretch.specs.Reading.{Taken, valueOf, variantAt, valuesFrom, many, segmentAt}
 use Rattle.stretch.specs.Skips.{stepped, behindVariants, UpTo}
-use Rattle.stretch.specs.Variants.{soundAt}
-use Rattle.stretch.specs.Answers.{walkedSegment}
+use Rattle.stretch.specs.Answers.{spanAt, walkedSegment}
 use Rattle.stretch.proofs.Heads.{value-length}
-use Rattle.stretch.proofs.Units.{sound-read}
+use Rattle.stretch.proofs.Units.{span-read, span-read-not}
 pub use Rattle.stretch.proofs.Units.{Read, variant-read}
 use Rattle.stretch.proofs.Frames.{variants-cut, variants-none, variants-some}
 use Rattle.stretch.proofs.Walks.{Step, Walk, walk-refused, Summed, summed-none, summed-more}
@@ -72,19 +71,18 @@ module _ (s : List ℕ) (first k : ℕ) (seen : Segment) (at size : ℕ) (m : In
   pub in-not : (n : ℕ) → k < n → (j p : ℕ) → variantAt s (valuesFrom s k first) at ≡ refused j p → many (variantAt s) n [] first ≡ refused j p
   in-not n l j p e = walk-refused (variantAt s) first k seen at (m .walk) n l j p (rw in-values e)
 
-  -- the same told by its span
-  pub in-more : (start next more : ℕ) → soundAt s first k at ≡ ok (record { start = start; next = next }) → more ≡ counted (next - start)
-      → InSegment s first (k + 1) (seen ++ (valueOf s at ∷ [])) next (size + more)
+  -- the same told by where its letters stand
+  pub in-more : (start next more : ℕ) → spanAt s (valuesFrom s k first) at ≡ ok (record { start = start; next = next })
+      → more ≡ counted (next - start) → InSegment s first (k + 1) (seen ++ (valueOf s at ∷ [])) next (size + more)
   unfolding weight
   in-more start next more e count =
-      let (w, read) = sound-read s first k at start next e in
+      let (w, read) = span-read s (valuesFrom s k first) at start next e in
       let long : next - start ≡ length (valueOf s at) = omega (arith, value-length s at (w .inside), w .starts, w .ends) in
       in-next (record { value = valueOf s at; next = next }) more read (count ∙ ap counted long)
 
-  pub in-refused : (n : ℕ) → k < n → (j p : ℕ) → soundAt s first k at ≡ refused j p → many (variantAt s) n [] first ≡ refused j p
-  unfolding soundAt
-  in-refused n l j p e =
-      in-not n l j p (told-refused (variantAt s (valuesFrom s k first) at) (λ x. record { start = at + 2; next = x .next }) j p e)
+  pub in-refused : (n : ℕ) → k < n → (j p : ℕ) → spanAt s (valuesFrom s k first) at ≡ refused j p
+      → many (variantAt s) n [] first ≡ refused j p
+  in-refused n l j p e = in-not n l j p (span-read-not s (valuesFrom s k first) at j p e)
 
   pub in-all : (n : ℕ) → k ≡ n → many (variantAt s) n [] first ≡ ok (record { value = seen; next = at })
   in-all n done = rw (← done) (m .walk)

@@ -11,10 +11,11 @@ use Rattle.text.specs.Text.{Variant, Segment}
 use Rattle.text.specs.Refusal.{Outcome, ok, refused, after}
 use Rattle.text.specs.declared.refusal.Refusal.{Refusal}
 use Rattle.text.proofs.Letters.{first-le, first-every, first-not-every}
-use Rattle.text.proofs.Outcomes.{ok-inj, demand-met, after-met, after-demand, told-met}
+use Rattle.text.proofs.Outcomes.{ok-inj, demand-met, after-met, after-demand, told-met, told-refused}
 use Rattle.stretch.specs.Skips.{UpTo}
 use Rattle.stretch.specs.Pieces.{lettersAt, nextOf, Span, headAt, misspeltAt, judgedAt, toldPart, toldVerdict}
 use Rattle.stretch.specs.Reading.{Taken, among, valueOf, formed, variantAt, valuesFrom}
+use Rattle.stretch.specs.Answers.{spanAt}
 use Rattle.stretch.specs.Variants.{soundAt}
 use Rattle.stretch.specs.declared.pieces.Part.{Part}
 use Rattle.stretch.specs.declared.pieces.Verdict.{Verdict}
@@ -74,36 +75,39 @@ module _ {s : List ℕ} {first k at start next : ℕ} (up : UpTo s first k at) (
     unfolding letters
     judged-sound is = sym (judged-is _ refl) ∙ rw (← spelt, ← told, is, w .ends)
 
--- the same told by the span of the variant
-pub sound-refused : (s : List ℕ) (first k at n p : ℕ) → headAt s at ≡ refused n p → soundAt s first k at ≡ refused n p
-unfolding soundAt variantAt formed
-sound-refused s first k at n p e = rw e
+-- the same told by where its letters stand
+module _ (s : List ℕ) (seen : Segment) (at : ℕ) where
+  pub span-not : (n p : ℕ) → variantAt s seen at ≡ refused n p → spanAt s seen at ≡ refused n p
+  unfolding spanAt
+  span-not n p e = rw e
 
-pub sound-not : (s : List ℕ) (first k at n p : ℕ) → variantAt s (valuesFrom s k first) at ≡ refused n p → soundAt s first k at ≡ refused n p
-unfolding soundAt
-sound-not s first k at n p e = rw e
+  pub span-is : (start next : ℕ) → Whole s at start next → variantAt s seen at ≡ ok (record { value = valueOf s at; next = next })
+      → spanAt s seen at ≡ ok (record { start = start; next = next })
+  unfolding spanAt
+  span-is start next w e = rw (e, w .starts)
 
-pub sound-is : (s : List ℕ) (first k at start next : ℕ) → Whole s at start next
-    → variantAt s (valuesFrom s k first) at ≡ ok (record { value = valueOf s at; next = next })
-    → soundAt s first k at ≡ ok (record { start = start; next = next })
-unfolding soundAt
-sound-is s first k at start next w e = rw (e, w .starts)
+  -- what was told so was read
+  pub span-read-not : (n p : ℕ) → spanAt s seen at ≡ refused n p → variantAt s seen at ≡ refused n p
+  unfolding spanAt
+  span-read-not n p e = told-refused (variantAt s seen at) (λ x. record { start = at + 2; next = x .next }) n p e
 
--- a sound variant is whole, and was read
-pub sound-read : (s : List ℕ) (first k at start next : ℕ) → soundAt s first k at ≡ ok (record { start = start; next = next })
-    → Whole s at start next × (variantAt s (valuesFrom s k first) at ≡ ok (record { value = valueOf s at; next = next }))
-unfolding soundAt
-sound-read s first k at start next e =
-    let v = valuesFrom s k first in
-    let t = told-met (variantAt s v at) (λ x. record { start = at + 2; next = x .next }) (record { start = start; next = next }) e in
-    let r = variant-read s v at (t .0) (t .1) in
-    let same : t .0 .next ≡ nextOf s at = ap (λ (x : Taken Variant ℕ). x .next) (r .is) in
-    let ends : next ≡ nextOf s at = sym (ap (λ (x : Span). x .next) (t .2)) ∙ same in (
-      record { starts = sym (ap (λ (x : Span). x .start) (t .2)); ends = ends; inside = r .inside },
-      t .1 ∙ ap ok (r .is) ∙ rw ends,
-    )
+  pub span-read : (start next : ℕ) → spanAt s seen at ≡ ok (record { start = start; next = next })
+      → Whole s at start next × (variantAt s seen at ≡ ok (record { value = valueOf s at; next = next }))
+  unfolding spanAt
+  span-read start next e =
+      let t = told-met (variantAt s seen at) (λ x. record { start = at + 2; next = x .next }) (record { start = start; next = next }) e in
+      let r = variant-read s seen at (t .0) (t .1) in
+      let same : t .0 .next ≡ nextOf s at = ap (λ (x : Taken Variant ℕ). x .next) (r .is) in
+      let ends : next ≡ nextOf s at = sym (ap (λ (x : Span). x .next) (t .2)) ∙ same in (
+        record { starts = sym (ap (λ (x : Span). x .start) (t .2)); ends = ends; inside = r .inside },
+        t .1 ∙ ap ok (r .is) ∙ rw ends,
+      )
 
 -- the same from the tests
+pub sound-refused : (s : List ℕ) (first k at n p : ℕ) → headAt s at ≡ refused n p → soundAt s first k at ≡ refused n p
+unfolding spanAt variantAt formed
+sound-refused s first k at n p e = rw e
+
 module _ (s : List ℕ) (first k at start next : ℕ) (w : Whole s at start next) where
   long : length (lettersAt s at) ≡ next - start
   long = omega (arith, whole-length s at start next w)
@@ -113,7 +117,7 @@ module _ (s : List ℕ) (first k at start next : ℕ) (w : Whole s at start next
     wrong = e ∙ ap (firstNot letter) (whole-part s at start next w)
 
     pub sound-wrong : x < next - start → soundAt s first k at ≡ refused 7 (start + x)
-    unfolding soundAt variantAt formed
+    unfolding spanAt variantAt formed
     sound-wrong l =
         let short : firstNot letter (lettersAt s at) < length (lettersAt s at) = omega (arith, wrong, long) in
         rw (head-found s at _ refl (w .inside), first-not-every letter (lettersAt s at) short, wrong, w .starts)
@@ -128,9 +132,9 @@ module _ (s : List ℕ) (first k at start next : ℕ) (w : Whole s at start next
       own = whole-part s at start next w ∙ sym (value-part s at)
 
       pub sound-repeated : among (take (next - start) (drop start s)) (valuesFrom s k first) ≡ true → soundAt s first k at ≡ refused 8 at
-      unfolding soundAt variantAt formed
+      unfolding spanAt variantAt formed
       sound-repeated r = rw (head-found s at _ refl (w .inside), right, rw own at r)
 
       pub sound-ok : among (take (next - start) (drop start s)) (valuesFrom s k first) ≡ false → soundAt s first k at ≡ ok (record { start = start; next = next })
-      unfolding soundAt variantAt formed
+      unfolding spanAt variantAt formed
       sound-ok r = rw (head-found s at _ refl (w .inside), right, rw own at r, w .starts, w .ends)

@@ -3,9 +3,10 @@ use Prim.Native.Nat.{ℕ, _+_}
 use mathlib.Core.Path.{_≡_}
 use mathlib.Core.List.{List}
 use lib.ListN.{length}
-use Rattle.text.specs.Text.{Text, total, weight, size}
+use Rattle.text.specs.Text.{Segment, Text, total, weight, size}
 use Rattle.text.specs.Refusal.{Outcome, ok, refused, after}
-use Rattle.stretch.specs.Reading.{Taken, segmentAt, stretchOf}
+use Rattle.stretch.specs.Pieces.{Span}
+use Rattle.stretch.specs.Reading.{Taken, variantAt, segmentAt, stretchOf}
 use Rattle.stretch.specs.Bytes.{word, over}
 use Rattle.stretch.specs.Encoding.{encode}
 use Rattle.stretch.specs.Writing.{Spot}
@@ -21,6 +22,10 @@ use Rattle.stretch.specs.declared.reading.Got.{Got}
 use Rattle.stretch.specs.declared.reading.Got.the-variants.{End}
 use Rattle.stretch.specs.declared.writing.Written.{Written}
 use Rattle.stretch.specs.declared.writing.Written.the-variants.{Bytes}
+
+-- where the letters of the variant at `at` stand, read behind those seen of its segment
+unfoldable pub spanAt : List ℕ → Segment → ℕ → Outcome Span
+spanAt s seen at = after (variantAt s seen at) λ x. ok (record { start = at + 2; next = x .next })
 
 -- how far a walk over a segment has come, and the segment's size
 abbrev pub toldWalked : Walked → Outcome (Taken ℕ ℕ)

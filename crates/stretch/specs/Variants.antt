@@ -1,10 +1,11 @@
 -- The unit of a walk over variants.
-use Prim.Native.Nat.{ℕ, _+_}
+use Prim.Native.Nat.{ℕ}
 use mathlib.Core.Bool.{Bool}
 use mathlib.Core.List.{List}
 use Rattle.text.specs.Text.{Variant}
-use Rattle.text.specs.Refusal.{Outcome, ok, after}
-use Rattle.stretch.specs.Reading.{among, variantAt, valuesFrom}
+use Rattle.text.specs.Refusal.{Outcome}
+use Rattle.stretch.specs.Reading.{among, valuesFrom}
+use Rattle.stretch.specs.Answers.{spanAt}
 pub use Rattle.stretch.specs.Pieces.{Span}
 unfoldable pub use Rattle.stretch.specs.Pieces.{toldPart, headAt, repeatedBefore, repeats}
 
@@ -13,5 +14,5 @@ abbrev pub repeated : List ℕ → Variant → ℕ → ℕ → Bool
 repeated s v k at = among v (valuesFrom s k at)
 
 -- the variant at `at`, behind the k of its segment that stand from `first` on
-unfoldable pub soundAt : List ℕ → ℕ → ℕ → ℕ → Outcome Span
-soundAt s first k at = after (variantAt s (valuesFrom s k first) at) λ x. ok (record { start = at + 2; next = x .next })
+abbrev pub soundAt : List ℕ → ℕ → ℕ → ℕ → Outcome Span
+soundAt s first k at = spanAt s (valuesFrom s k first) at

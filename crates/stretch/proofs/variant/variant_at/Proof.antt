@@ -5,7 +5,7 @@ use mathlib.Core.Path.{sym, ap, _∙_}
 use Rattle.stretch.specs.Pieces.{toldPart}
 use Rattle.stretch.proofs.Heads.{Whole, head-is}
 use Rattle.stretch.proofs.Verdicts.{spelt-wrong}
-use Rattle.stretch.proofs.Units.{head-refused, judged-refused, judged-sound, sound-not, sound-is}
+use Rattle.stretch.proofs.Units.{head-refused, judged-refused, judged-sound, span-not, span-is}
 use Rattle.stretch.proofs.variant.variant_at.Statement.{statement}
 use Rattle.stretch.proofs.variant.variant_at.Tie as tie
 
@@ -31,7 +31,7 @@ sub-wrong : tie.Need-sub-wrong
 sub-wrong c = let w = found (c .before .before .before) in omega (arith, w .starts, w .ends)
 
 returns : tie.Need-returns
-returns c = sym (sound-not _ _ _ _ _ _ (head-refused _ _ (c .before .before .before .head .ensures) (c .before .wrong .given .1) _))
+returns c = sym (span-not _ _ _ _ _ (head-refused _ _ (c .before .before .before .head .ensures) (c .before .wrong .given .1) _))
 
 returns-2 : tie.Need-returns-2
 returns-2 c =
@@ -40,7 +40,7 @@ returns-2 c =
     let w = found (d .before .before .before) in
     let up = d .before .before .before .before .before .before .before .pre in
     let spelt = spelt-wrong _ _ _ _ w _ (d .first-wrong .ensures) in
-    sym (sound-not _ _ _ _ _ _ (judged-refused up w spelt (j .judged .ensures) (c .before .wrong2 .given .1)))
+    sym (span-not _ _ _ _ _ (judged-refused up w spelt (j .judged .ensures) (c .before .wrong2 .given .1)))
 
 returns-3 : tie.Need-returns-3
 returns-3 c =
@@ -49,7 +49,7 @@ returns-3 c =
     let w = found (d .before .before .before) in
     let up = d .before .before .before .before .before .before .before .pre in
     let spelt = spelt-wrong _ _ _ _ w _ (d .first-wrong .ensures) in
-    sym (sound-is _ _ _ _ _ _ w (judged-sound up w spelt (j .judged .ensures) (c .enum-told .given .1)))
+    sym (span-is _ _ _ _ _ w (judged-sound up w spelt (j .judged .ensures) (c .enum-told .given .1)))
 
 pub variant-at-spec : {M : Type 1} → statement M
 variant-at-spec =

@@ -8,27 +8,12 @@ use borrow.Author.Needs.{needs}
 use Rattle.card.proofs.cards.Card.empty.Statement.{statement}
 use Rattle.card.proofs.cards.Card.empty.Tie as tie
 
-check-requires : tie.Need-check-requires
-check-requires c κs = search needs
-
-enum-known-wrong : tie.Need-enum-known-wrong
-enum-known-wrong c = search needs
-
-refused-requires : tie.Need-refused-requires
-refused-requires c κs = search needs
-
-enum-told : tie.Need-enum-told
-enum-told c = search needs
-
 -- the pattern was found sound
 sound : (c : tie.After-enum-told) → SoundPattern (c .before .before .before .before .args .pattern .now)
 sound c = pattern-sound _ (sym (c .before .before .check .ensures) ∙ ap toldPattern (c .enum-told .given .1))
 
 nothing-requires : tie.Need-nothing-requires
 nothing-requires c κs = sound c .short
-
-accepted-requires : tie.Need-accepted-requires
-accepted-requires c κs = search needs
 
 returns : tie.Need-returns
 returns c =
@@ -44,11 +29,11 @@ pub empty-spec : {M : Type 1} → statement M
 empty-spec =
     tie.close
     (tie.spec
-    check-requires
-    enum-known-wrong
-    refused-requires
-    enum-told
+    (λ c κs. search needs)
+    (λ c. search needs)
+    (λ c κs. search needs)
+    (λ c. search needs)
     nothing-requires
-    accepted-requires
+    (λ c κs. search needs)
     returns
     returns-2)
