@@ -1,0 +1,5 @@
+-- Laws of the definitions in specs/.
+pub mod Putting
+pub mod Digits
+pub mod Marked
+pub mod Answering
