@@ -81,7 +81,7 @@ module _ {number : ℕ} {out : List ℕ} {rest i : ℕ} (s : Spelling number out
   spelling-room l =
       let below : number < 10 ^ 20 = omega (arith, s .small) in
       let sum : length (digits number) ≡ length (digits rest) + length (drop (i + 1) out) =
-          ap length (s .split) ∙ length-append (digits rest) (drop (i + 1) out) in
+      ap length (s .split) ∙ length-append (digits rest) (drop (i + 1) out) in
       omega (arith, digits-few 19 number below, sum, length-more rest l, digits-some (rest / 10), length-drop (i + 1) out, s .full, s .upto)
 
   pub spelling-more : 10 ≤ rest → Spelling number (set out i (digit (rest % 10))) (rest / 10) (i - 1)
@@ -92,7 +92,7 @@ module _ {number : ℕ} {out : List ℕ} {rest i : ℕ} (s : Spelling number out
       let inside : i < length out = omega (arith, s .full, s .upto) in
       let behind : drop (i - 1 + 1) (set out i d) ≡ d ∷ drop (i + 1) out = rw back (drop-set out i d inside) in
       let next : digits rest ++ drop (i + 1) out ≡ digits (rest / 10) ++ (d ∷ drop (i + 1) out) =
-          rw (digits-more rest l) (append-assoc (digits (rest / 10)) (d ∷ []) (drop (i + 1) out)) in
+      rw (digits-more rest l) (append-assoc (digits (rest / 10)) (d ∷ []) (drop (i + 1) out)) in
       record {
         small = s .small;
         full = length-set out i d ∙ s .full;

@@ -3,3 +3,5 @@ pub mod Putting
 pub mod Digits
 pub mod Marked
 pub mod Answering
+pub mod Enough
+pub mod Theorems

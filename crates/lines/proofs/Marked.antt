@@ -2,6 +2,7 @@
 use Prim.Native.Nat.{ℕ, zero, suc, _+_, _-_, _≤_, _<_}
 use native.Mathlib.Omega.{arith}
 use mathlib.Core.Path.{_≡_, refl, sym, ap, _∙_}
+use mathlib.Core.Bool.{Bool, true, false, cond}
 use mathlib.Core.List.{List, [], _∷_, _++_, append-nil, append-assoc}
 use borrow.Author.Tests.{eq-eqb, ne-eqb}
 use lib.ListN.{length, drop, getD, drop-of-length-le}
@@ -10,6 +11,11 @@ use Rattle.lines.specs.Decimal.{line}
 use Rattle.lines.specs.Puts.{Put}
 use Rattle.lines.specs.Answer.{endWord, firstWord, noneLine, markedFrom, endLines, firstLine}
 use Rattle.lines.proofs.Putting.{put-none, put-more, put-length}
+
+-- what holds of the marked segments whether the first one is marked or not
+pub either : (b : Bool) (j : ℕ) (js : List ℕ) (Q : List ℕ → Type 0) → Q (j ∷ js) → Q js → Q (cond b (j ∷ js) js)
+either true j js Q a b = a
+either false j js Q a b = b
 
 -- the marked segments from segment k on
 abbrev pub from : List ℕ → ℕ → List ℕ

@@ -1,5 +1,5 @@
 -- The lines of document 01's program: what a search answers, as bytes.
-use Prim.Native.Nat.{ℕ, suc}
+use Prim.Native.Nat.{ℕ, suc, _+_, _*_}
 use mathlib.Core.Bool.{cond}
 use mathlib.Core.List.{List, [], _∷_, _++_}
 use lib.Dec.{eqb}
@@ -84,3 +84,7 @@ screening input = searching (patternIn input) (stretchIn input) mostInStretch
 -- the lines that the program prints for an input
 unfoldable pub linesOf : List ℕ → List ℕ
 linesOf input = answerLines (patternIn input) (screening input)
+
+-- the most bytes of them: ten for each `end` line of the most segments, and 49 for the four other lines
+abbrev pub mostBytes : ℕ
+mostBytes = 10 * mostInStretch + 49

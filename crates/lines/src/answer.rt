@@ -13,6 +13,9 @@ ghost use Rattle.lines.specs.Puts.{Put};
 ghost use Rattle.lines.specs.Answer.{markedFrom, endLines, firstLine, textLines, refusalLine, linesOf};
 ghost use Rattle.search.specs.Answers.{Sums};
 
+// The most bytes of an answer's lines: ten for each `end` line of the most segments, and 49 for the four other lines.
+pub const MOST_BYTES: usize = 10 * refusal::MOST_IN_STRETCH + 49;
+
 // A refusal: its number and its place.
 pub fn put_refusal(wrong: Refusal, out: &mut [u8], at: usize) -> usize
     ensures { λ r. ⌜ Put (now (out .entry)) at (refusalLine (wrong .number) (wrong .place)) (now (out .exit)) r ⌝ }

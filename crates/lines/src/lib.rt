@@ -2,6 +2,7 @@
 mod answer;
 mod put;
 
+pub use answer::MOST_BYTES;
 pub use answer::put_refusal;
 pub use answer::screened;
 pub use put::put_bytes;

@@ -18,15 +18,6 @@ abbrev μ-loop : tie.MeasureT-loop
 loop-holds : tie.Need-loop-holds Inv-loop μ-loop
 loop-holds c = (seeking-none _, refl)
 
-shared-slice-read-if1 : tie.Need-shared-slice-read-if1 Inv-loop μ-loop
-shared-slice-read-if1 c = search needs
-
-slice-aggregate-put-line : tie.Need-slice-aggregate-put-line Inv-loop μ-loop
-slice-aggregate-put-line c = search needs
-
-put-line-requires : tie.Need-put-line-requires Inv-loop μ-loop
-put-line-requires c κs = search needs
-
 same-length : tie.Need-same-length Inv-loop μ-loop
 same-length c =
     let d = c .before .before in
@@ -40,22 +31,10 @@ returns c =
     let i = t .before .before .before .loop .inv in
     rw (← seeking-marked (i .0) (t .before .before .loop-test .taken) (t .if1 .taken), ← i .1) (d .put-line .ensures)
 
-add-k : tie.Need-add-k Inv-loop μ-loop
-add-k c = search needs
-
-loop-less : tie.Need-loop-less Inv-loop μ-loop
-loop-less c = search needs
-
 loop-again : tie.Need-loop-again Inv-loop μ-loop
 loop-again c =
     let i = c .before .before .before .loop .inv in
     (seeking-unmarked (i .0) (c .before .before .loop-test .taken) (c .if1 .left), i .1)
-
-slice-aggregate-put-bytes : tie.Need-slice-aggregate-put-bytes Inv-loop μ-loop
-slice-aggregate-put-bytes c = search needs
-
-put-bytes-requires : tie.Need-put-bytes-requires Inv-loop μ-loop
-put-bytes-requires c κs = search needs
 
 same-length-2 : tie.Need-same-length-2 Inv-loop μ-loop
 same-length-2 c =
@@ -75,15 +54,15 @@ put-first-spec =
     Inv-loop
     μ-loop
     loop-holds
-    shared-slice-read-if1
-    slice-aggregate-put-line
-    put-line-requires
+    (λ c. search needs)
+    (λ c. search needs)
+    (λ c κs. search needs)
     same-length
     returns
-    add-k
-    loop-less
+    (λ c. search needs)
+    (λ c. search needs)
     loop-again
-    slice-aggregate-put-bytes
-    put-bytes-requires
+    (λ c. search needs)
+    (λ c κs. search needs)
     same-length-2
     returns-2)

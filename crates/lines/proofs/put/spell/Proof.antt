@@ -17,15 +17,6 @@ abbrev μ-loop : tie.MeasureT-loop
 loop-holds : tie.Need-loop-holds Inv-loop μ-loop
 loop-holds c = spelling-none _ _ (search needs) (search needs)
 
-cast-out : tie.Need-cast-out Inv-loop μ-loop
-cast-out c = search needs
-
-add-out : tie.Need-add-out Inv-loop μ-loop
-add-out c = search needs
-
-slice-write-out : tie.Need-slice-write-out Inv-loop μ-loop
-slice-write-out c = search needs
-
 sub-i : tie.Need-sub-i Inv-loop μ-loop
 sub-i c = spelling-room (c .before .loop .inv) (c .loop-test .taken)
 
@@ -34,15 +25,6 @@ loop-less c = omega (arith, spelling-room (c .before .loop .inv) (c .loop-test .
 
 loop-again : tie.Need-loop-again Inv-loop μ-loop
 loop-again c = spelling-more (c .before .loop .inv) (c .loop-test .taken)
-
-cast-out-2 : tie.Need-cast-out-2 Inv-loop μ-loop
-cast-out-2 c = search needs
-
-add-out-2 : tie.Need-add-out-2 Inv-loop μ-loop
-add-out-2 c = search needs
-
-slice-write-out-2 : tie.Need-slice-write-out-2 Inv-loop μ-loop
-slice-write-out-2 c = search needs
 
 same-length : tie.Need-same-length Inv-loop μ-loop
 same-length c = simp length-set (c .before .loop .inv .full ∙ c .before .before .pre)
@@ -57,14 +39,14 @@ spell-spec =
     Inv-loop
     μ-loop
     loop-holds
-    cast-out
-    add-out
-    slice-write-out
+    (λ c. search needs)
+    (λ c. search needs)
+    (λ c. search needs)
     sub-i
     loop-less
     loop-again
-    cast-out-2
-    add-out-2
-    slice-write-out-2
+    (λ c. search needs)
+    (λ c. search needs)
+    (λ c. search needs)
     same-length
     returns)
