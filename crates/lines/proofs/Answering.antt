@@ -1,7 +1,7 @@
 -- The lines of a search's answer, from what the search tells and the marks that it leaves.
 use Prim.Native.Nat.{ℕ, _+_, _≤_}
 use native.Mathlib.Omega.{arith}
-use mathlib.Core.Path.{_≡_, refl, sym, ap, ap₂, _∙_}
+use mathlib.Core.Path.{_≡_, sym, ap, ap₂, _∙_}
 use mathlib.Core.List.{List, _++_}
 use lib.ListN.{length, take, drop, length-append}
 use lib.Seq.{take-at}

@@ -1,13 +1,13 @@
 -- Laws of decimal digits: how they are had one by one, how many there are, and how they are spelt from the last one on.
-use Prim.Native.Nat.{ℕ, zero, suc, _+_, _-_, _*_, _/_, _%_, _^_, _≤_, _<_}
+use Prim.Native.Nat.{ℕ, zero, suc, _+_, _-_, _/_, _%_, _^_, _≤_, _<_}
 use native.Mathlib.Omega.{arith}
 use native.Mathlib.Decide.{decLt}
 use native.Mathlib.Nat.{pow-suc}
-use mathlib.Core.Path.{_≡_, refl, sym, ap, _∙_}
+use mathlib.Core.Path.{_≡_, sym, ap, _∙_}
 use mathlib.Core.Logic.{by-cases}
 use mathlib.Core.List.{List, [], _∷_, _++_, append-nil, append-assoc}
 use borrow.Author.Tests.{lt-ltb, le-ltb}
-use lib.ListN.{length, drop, set, getD, length-append, length-drop, length-set, drop-of-length-le}
+use lib.ListN.{length, drop, set, getD, length-append, length-drop, length-set, drop-of-length-le, List·getD-append}
 use lib.Seq.{drop-cons, getD-set-same, drop-set-lt}
 use Rattle.lines.specs.Decimal.{digit, digitsIn, digits}
 
@@ -40,7 +40,7 @@ digits-more n l =
 length-more : (n : ℕ) → 10 ≤ n → length (digits n) ≡ length (digits (n / 10)) + 1
 length-more n l = ap length (digits-more n l) ∙ length-append (digits (n / 10)) (digit (n % 10) ∷ [])
 
-digits-some : (n : ℕ) → 0 < length (digits n)
+pub digits-some : (n : ℕ) → 0 < length (digits n)
 digits-some n =
     by-cases (decLt n 10)
     (λ (few : n < 10). omega (arith, ap length (digits-one n few)))
@@ -55,6 +55,29 @@ digits-few (suc k) n l =
     let ten : 10 ≤ n = omega arith in
     let tenth : n / 10 < 10 ^ suc k = omega (arith, pow-suc 10 (suc k)) in
     omega (arith, length-more n ten, digits-few k (n / 10) tenth))
+
+-- the highest digit is a digit, and 0 of no number but 0
+pub record Front (n first : ℕ) : Type 0 where
+  pub low : 48 ≤ first
+  pub high : first < 58
+  pub some : 0 < n → 48 < first
+
+front-below : (k n : ℕ) → n < k → Front n (getD (digits n) 0 0)
+front-below zero n l = absurd (let z : ⊥ = omega arith in z)
+front-below (suc k) n l =
+    by-cases (decLt n 10)
+    (λ (few : n < 10). rw (digits-one n few) (record { low = omega arith; high = omega arith; some = λ h. omega arith }))
+    (λ (many : n < 10 → ⊥).
+    let ten : 10 ≤ n = omega arith in
+    let f = front-below k (n / 10) (omega arith) in
+    let same : getD (digits n) 0 0 ≡ getD (digits (n / 10)) 0 0 =
+    ap (λ (l : List ℕ). getD l 0 0) (digits-more n ten)
+    ∙ List·getD-append (digits (n / 10)) (digit (n % 10) ∷ []) 0 0 (digits-some (n / 10)) in
+    let some : 0 < n / 10 = omega arith in
+    rw same (record { low = f .low; high = f .high; some = λ h. f .some some }))
+
+pub digits-front : (n : ℕ) → Front n (getD (digits n) 0 0)
+digits-front n = front-below (suc n) n (omega arith)
 
 -- digits put from the last of 20 places on: behind place i stand those behind the digits of `rest`
 pub record Spelling (number : ℕ) (out : List ℕ) (rest i : ℕ) : Type 0 where

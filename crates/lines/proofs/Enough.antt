@@ -1,7 +1,7 @@
 -- A buffer of so many bytes has room for the lines of every input.
-use Prim.Native.Nat.{ℕ, zero, suc, _+_, _*_, _^_, _≤_, _<_}
+use Prim.Native.Nat.{ℕ, suc, _+_, _*_, _≤_, _<_}
 use native.Mathlib.Omega.{arith}
-use mathlib.Core.Path.{_≡_, refl, sym, ap, _∙_}
+use mathlib.Core.Path.{_≡_, refl, sym, _∙_}
 use mathlib.Core.Bool.{Bool, true, false, cond}
 use mathlib.Core.List.{List, [], _∷_, _++_}
 use borrow.Author.Tests.{leb-true}
@@ -22,10 +22,10 @@ use Rattle.stretch.proofs.Rows.{row-many}
 use Rattle.stretch.proofs.Decoding.{stretch-read}
 use Rattle.stretch.proofs.Stretches.{segment-steps, stretch-most}
 use Rattle.stretch.proofs.Refusals.{stretch-low}
-use Rattle.search.specs.Answers.{Sums, sumsOf, stretchInto, searching}
+use Rattle.search.specs.Answers.{sumsOf, stretchInto, searching}
 use Rattle.input.specs.Input.{patternIn, stretchIn}
 use Rattle.lines.specs.Decimal.{digits, line}
-use Rattle.lines.specs.Answer.{segmentsWord, sizeWord, endsWord, endWord, firstWord, refusedWord, atWord, markedFrom, endLines, firstLine}
+use Rattle.lines.specs.Answer.{segmentsWord, sizeWord, endsWord, endWord, firstWord, atWord, markedFrom, endLines, firstLine}
 use Rattle.lines.specs.Answer.{textLines, refusalLine, answerLines, screening, linesOf, mostBytes}
 use Rattle.lines.proofs.Digits.{digits-few}
 use Rattle.lines.proofs.Marked.{either}

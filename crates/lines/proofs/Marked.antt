@@ -1,5 +1,5 @@
 -- Laws of the lines of marked segments, mark by mark.
-use Prim.Native.Nat.{ℕ, zero, suc, _+_, _-_, _≤_, _<_}
+use Prim.Native.Nat.{ℕ, suc, _+_, _-_, _≤_, _<_}
 use native.Mathlib.Omega.{arith}
 use mathlib.Core.Path.{_≡_, refl, sym, ap, _∙_}
 use mathlib.Core.Bool.{Bool, true, false, cond}
@@ -10,7 +10,7 @@ use lib.Seq.{drop-cons}
 use Rattle.lines.specs.Decimal.{line}
 use Rattle.lines.specs.Puts.{Put}
 use Rattle.lines.specs.Answer.{endWord, firstWord, noneLine, markedFrom, endLines, firstLine}
-use Rattle.lines.proofs.Putting.{put-none, put-more, put-length}
+use Rattle.lines.proofs.Putting.{put-none, put-more}
 
 -- what holds of the marked segments whether the first one is marked or not
 pub either : (b : Bool) (j : ℕ) (js : List ℕ) (Q : List ℕ → Type 0) → Q (j ∷ js) → Q js → Q (cond b (j ∷ js) js)

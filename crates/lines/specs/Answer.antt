@@ -3,7 +3,6 @@ use Prim.Native.Nat.{ℕ, suc, _+_, _*_}
 use mathlib.Core.Bool.{cond}
 use mathlib.Core.List.{List, [], _∷_, _++_}
 use lib.Dec.{eqb}
-use lib.ListN.{length}
 use Rattle.text.specs.Text.{Text}
 use Rattle.text.specs.State.{marks}
 use Rattle.text.specs.Refusal.{Outcome, ok, refused}

@@ -8,10 +8,8 @@ use search::Searched;
 use search::by_bits;
 use text::Refusal;
 use text::refusal;
-ghost use mathlib.Core.Path.{_≡_};
 ghost use Rattle.lines.specs.Puts.{Put};
 ghost use Rattle.lines.specs.Answer.{markedFrom, endLines, firstLine, textLines, refusalLine, linesOf};
-ghost use Rattle.search.specs.Answers.{Sums};
 
 // The most bytes of an answer's lines: ten for each `end` line of the most segments, and 49 for the four other lines.
 pub const MOST_BYTES: usize = 10 * refusal::MOST_IN_STRETCH + 49;

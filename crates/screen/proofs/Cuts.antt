@@ -5,17 +5,15 @@ use native.Mathlib.Decide.{decLt}
 use mathlib.Core.Path.{_≡_, refl, sym, ap, _∙_}
 use mathlib.Core.Logic.{by-cases}
 use mathlib.Core.List.{List, [], _∷_}
-use lib.ListN.{length, take, drop, getD, length-take, length-drop}
+use lib.ListN.{length, take, drop, getD, length-drop}
 use lib.Seq.{take-all, take-nil, take-take, getD-take, length-take-le}
-use Rattle.text.specs.Refusal.{Outcome, refused, pattern}
-use Rattle.text.specs.Text.{Text}
 use Rattle.stretch.specs.Bytes.{greatestStretch}
 use Rattle.stretch.specs.Reading.{mostInStretch}
 use Rattle.stretch.proofs.Stretches.{stretch-long}
 use Rattle.search.specs.Answers.{stretchInto, searching}
 use Rattle.input.specs.Input.{announced, patternIn, stretchIn, mostRead}
 use Rattle.lines.specs.Puts.{Put}
-use Rattle.lines.specs.Answer.{answerLines, screening, linesOf, mostBytes}
+use Rattle.lines.specs.Answer.{answerLines, linesOf, mostBytes}
 use Rattle.lines.proofs.Putting.{put-all}
 use Rattle.lines.proofs.Enough.{enough}
 use Rattle.screen.specs.Screened.{Read, Screened}
