@@ -24,7 +24,8 @@ use Rattle.lines.specs.Answer.{textLines, refusalLine, answerLines, line
 module _ (P s d left : List ℕ) (room : ℕ) (r : Searched)
     (told : toldSearched r ≡ after (searching P s room) (λ t. ok (sumsOf P t)))
     (wrote : left ≡ leftBy (marked P) (searching P s room) d) where
-  pub answered-refused : (wrong : Refusal) → r ≡ Refused wrong → refusalLine (wrong .number) (wrong .place) ≡ answerLines P (searching P s room)
+  pub answered-refused :
+      (wrong : Refusal) → r ≡ Refused wrong → refusalLine (wrong .number) (wrong .place) ≡ answerLines P (searching P s room)
   answered-refused wrong e =
       sym (ap (answerLines P) (told-refused (searching P s room) (sumsOf P) (wrong .number) (wrong .place) (sym told ∙ ap toldSearched e)))
 
@@ -36,17 +37,20 @@ module _ (P s d left : List ℕ) (room : ℕ) (r : Searched)
     unfolding sumsOf marks
     count = marks-length P fresh (met .0) ∙ ap (λ (x : Sums). x .segments) (met .2)
 
-    front : left ≡ marks P (met .0) ++ drop (0 + length (marks P (met .0))) d
-    unfolding over
+    further : List ℕ
+    further = drop (0 + length (marks P (met .0))) d
+
+    front : left ≡ marks P (met .0) ++ further
+    unfolding over further
     front = wrote ∙ ap (λ (o : Outcome Text). leftBy (marked P) o d) (met .1)
 
     -- there are as many marks as it tells segments
     pub answered-long : n ≤ length left
-    answered-long = omega (arith, count, ap length front ∙ length-append (marks P (met .0)) (drop (0 + length (marks P (met .0))) d))
+    answered-long = omega (arith, count, ap length front ∙ length-append (marks P (met .0)) further)
 
     pub answered-marked : textLines (record { segments = n; size = z; ends = m }) (take n left) ≡ answerLines P (searching P s room)
     answered-marked =
-        let own : take n left ≡ marks P (met .0) = ap (take n) front ∙ take-at (marks P (met .0)) (drop (0 + length (marks P (met .0))) d) n count in
+        let own : take n left ≡ marks P (met .0) = ap (take n) front ∙ take-at (marks P (met .0)) further n count in
         ap₂ textLines (sym (met .2)) own ∙ sym (ap (answerLines P) (met .1))
 
 -- what is put are the lines of an input with this pattern and this stretch

@@ -133,4 +133,6 @@ module _ (P s : List ℕ) (room : ℕ) where
 pub enough : (input : List ℕ) → length (linesOf input) ≤ mostBytes
 unfolding linesOf
 enough input =
-    answer-long (patternIn input) (stretchIn input) mostInStretch (screening input) refl (searching-five (patternIn input) (stretchIn input) mostInStretch)
+    let P : List ℕ = patternIn input in
+    let s : List ℕ = stretchIn input in
+    answer-long P s mostInStretch (screening input) refl (searching-five P s mostInStretch)

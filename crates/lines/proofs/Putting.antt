@@ -8,7 +8,8 @@ use mathlib.Core.List.{List, [], _∷_, _++_}
 use lib.ListN.{length, take, drop, getD, set, length-take, length-drop, length-append}
 use lib.Seq.{take-all, take-at, getD-take, take-nil, length-take-le}
 use Rattle.stretch.specs.Bytes.{over}
-use Rattle.stretch.proofs.Overs.{over-none, length-over, over-over, Copied, copied-none, copied-room, copied-more, copied-end, emitted-length}
+use Rattle.stretch.proofs.Overs.{over-none, length-over, over-over, emitted-length}
+use Rattle.stretch.proofs.Overs.{Copied, copied-none, copied-room, copied-more, copied-end}
 use Rattle.lines.specs.Puts.{fitting, Put}
 
 take-append : (n : ℕ) (xs ys : List ℕ) → take n (xs ++ ys) ≡ take n xs ++ take (n - length xs) ys
@@ -135,8 +136,8 @@ module _ {bytes d : List ℕ} {at n : ℕ} {out : List ℕ} {i : ℕ} (f : Filli
 
 -- a part from a place to the end is all that stands there
 pub spelt :
-    (d xs ds out : List ℕ) (at first next n : ℕ) → length xs ≡ n → drop first xs ≡ ds → Put d at (take (n - first) (drop first xs)) out next →
-    Put d at ds out next
+    (d xs ds out : List ℕ) (at first next n : ℕ) → length xs ≡ n → drop first xs ≡ ds →
+    Put d at (take (n - first) (drop first xs)) out next → Put d at ds out next
 spelt d xs ds out at first next n l e p =
     let left : length (drop first xs) ≤ n - first = omega (arith, length-drop first xs) in
     rw (take-all (n - first) (drop first xs) left, e) at p

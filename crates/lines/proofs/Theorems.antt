@@ -119,7 +119,10 @@ none-ends (j ∷ js) h = absurd (h j (List·Memᴰ·head refl))
 pub clear :
     (input : List ℕ) (t : Text) → screening input ≡ ok t →
     (linesOf input ≡ naming t []) ↔ ((j : ℕ) → EndsIn (patternIn input) t j → ⊥)
-clear input t e = (λ is j h. none-listed (none-named t (p .named) (sym (p .are) ∙ is)) (p .exactly j .1 h), λ none. p .are ∙ ap (naming t) (none-ends (p .named) (λ j m. none j (p .exactly j .0 m))))
+clear input t e = (
+  λ is j h. none-listed (none-named t (p .named) (sym (p .are) ∙ is)) (p .exactly j .1 h),
+  λ none. p .are ∙ ap (naming t) (none-ends (p .named) (λ j m. none j (p .exactly j .0 m))),
+)
   where
     p : Printed (patternIn input) t (linesOf input)
     p = accepted input t e

@@ -42,12 +42,12 @@ fn put_ends(marks: &[u8], out: &mut [u8], at: usize) -> usize
 fn put_first(marks: &[u8], out: &mut [u8], at: usize) -> usize
     ensures { λ r. ⌜ Put (now (out .entry)) at (firstLine (markedFrom 0 (now (marks .entry)))) (now (out .exit)) r ⌝ }
 {
-    let mut k = 0;
-    while k < marks.len() {
-        if marks[k] == 1 {
-            return put_line(b"first ", k as u64, &mut *out, at);
+    let mut j = 0;
+    while j < marks.len() {
+        if marks[j] == 1 {
+            return put_line(b"first ", j as u64, &mut *out, at);
         }
-        k += 1;
+        j += 1;
     }
     put_bytes(b"first none\n", &mut *out, at)
 }

@@ -19,9 +19,10 @@ use Rattle.lines.proofs.Enough.{enough}
 use Rattle.screen.specs.Screened.{Read, Screened}
 
 -- how a stretch is searched, if it is too long
-long : (P s : List ℕ) (room : ℕ) → greatestStretch < length s → (u : List ℕ) → greatestStretch < length u → searching P s room ≡ searching P u room
+long :
+    (P s u : List ℕ) (room : ℕ) → greatestStretch < length s → greatestStretch < length u → searching P s room ≡ searching P u room
 unfolding searching stretchInto
-long P s room l u k = rw (stretch-long s l, stretch-long u k)
+long P s u room l k = rw (stretch-long s l, stretch-long u k)
 
 -- behind the first byte
 cut-behind : (x : ℕ) (xs : List ℕ) (k : ℕ) → x < 256 → mostRead ≤ suc k → linesOf (x ∷ take k xs) ≡ linesOf (x ∷ xs)
@@ -34,7 +35,7 @@ cut-behind x xs k small most =
     let read : length (take k xs) ≡ k = length-take-le k xs (omega arith) in
     let one : greatestStretch < length (drop x (take k xs)) = omega (arith, length-drop x (take k xs)) in
     let all : greatestStretch < length (drop x xs) = omega (arith, length-drop x xs) in
-    rw (pattern, next) (ap (answerLines (take x xs)) (long (take x xs) (drop x (take k xs)) mostInStretch one (drop x xs) all)))
+    rw (pattern, next) (ap (answerLines (take x xs)) (long (take x xs) (drop x (take k xs)) (drop x xs) mostInStretch one all)))
     (λ (l : k < length xs → ⊥). rw (take-all k xs (omega arith)) refl)
 
 -- a front that has the bytes that count

@@ -1,4 +1,4 @@
--- `lines::answer::put_first` meets its contract. The loop's invariant, `Seeking`: no segment before k is marked, and nothing is put.
+-- `lines::answer::put_first` meets its contract. The loop's invariant, `Seeking`: no segment before j is marked, and nothing is put.
 -- The measure is the number of marks left.
 use Prim.Native.Nat.{_-_}
 use mathlib.Core.Path.{_≡_, refl, ap, _∙_}
@@ -10,10 +10,10 @@ use Rattle.lines.proofs.answer.put_first.Statement.{statement}
 use Rattle.lines.proofs.answer.put_first.Tie as tie
 
 abbrev Inv-loop : tie.InvT-loop
-Inv-loop marks out₀ at k₀ t5 t6 out k = Seeking marks k × (out ≡ out₀)
+Inv-loop marks out₀ at j₀ t5 t6 out j = Seeking marks j × (out ≡ out₀)
 
 abbrev μ-loop : tie.MeasureT-loop
-μ-loop marks out₀ at k₀ t5 t6 out k = length marks - k
+μ-loop marks out₀ at j₀ t5 t6 out j = length marks - j
 
 loop-holds : tie.Need-loop-holds Inv-loop μ-loop
 loop-holds c = (seeking-none _, refl)
