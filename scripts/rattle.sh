@@ -30,8 +30,8 @@ run_program() {
 # Ends what rt has started, all of it, and then the script. rt starts provers that a Ctrl-C does not reach, so it has a group of its own.
 end_prover() {
     trap '' HUP INT TERM
-    kill -- "-$prover" 2>/dev/null || kill "$prover" 2>/dev/null
-    wait "$prover" 2>/dev/null
+    [ -z "$prover" ] || kill -- "-$prover" 2>/dev/null || kill "$prover" 2>/dev/null
+    wait
     rm -f "$made.new"
     exit 2
 }
@@ -54,10 +54,11 @@ show_prover() {
 # Proves and builds a program by rt, whose whole output goes to a log.
 check_program() {
     : >"$2"
+    prover=''
+    trap end_prover HUP INT TERM
     # shellcheck disable=SC2046
     $(command -v setsid) rt check "$1" >"$2" 2>&1 </dev/null &
     prover=$!
-    trap end_prover HUP INT TERM
     show_prover "$2"
     wait "$prover"
     checked=$?
@@ -74,7 +75,10 @@ prove_program() {
         return 1
     fi
     echo "The program $1 is being proved and built: some minutes on the first call, nothing on later ones." >&2
-    mkdir -p target && : >"$made.new" && keep_runtime || return 1
+    if ! mkdir -p target || ! : >"$made.new" || ! keep_runtime; then
+        echo "${0##*/}: the toolchain's files that programs run with could not be copied to $runtime" >&2
+        return 1
+    fi
     [ -x "target/bin/$1" ] || rm -f "target/stamp/$1"
     check_program "$1" "$log" || {
         echo "It was not built; once more, from nothing." >&2
