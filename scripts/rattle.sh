@@ -66,22 +66,31 @@ check_program() {
     [ $checked = 0 ] && [ -x "target/bin/$1" ]
 }
 
-# Proves and builds a program, unless that is done. What an earlier run has left half built is built again from nothing.
-prove_program() {
+# Waits for another call that builds, and keeps later ones waiting until this one, and all that it has started, has ended.
+alone() {
+    command exec 9>target/building || return 1
+    ! command -v flock >/dev/null || flock -n 9 || {
+        echo 'Another call is proving and building; this one waits for it.' >&2
+        flock 9
+    }
+}
+
+# Whether a program is proved and built, and what it runs with is there.
+is_built() {
+    is_new "target/$1.done" && [ -x "target/bin/$1" ] && [ -d "$runtime" ]
+}
+
+# Proves and builds a program. What an earlier run has left half built is built again, from nothing if need be.
+build_program() {
     made=target/$1.done log=target/$1.log
-    is_new "$made" && [ -x "target/bin/$1" ] && [ -d "$runtime" ] && return 0
-    if ! command -v rt >/dev/null; then
-        echo "${0##*/}: the program $1 is to be proved and built; that needs the Rattle toolchain, whose command rt is not found" >&2
-        return 1
-    fi
     echo "The program $1 is being proved and built: some minutes on the first call, nothing on later ones." >&2
-    if ! mkdir -p target || ! : >"$made.new" || ! keep_runtime; then
+    if ! : >"$made.new" || ! keep_runtime; then
         echo "${0##*/}: the toolchain's files that programs run with could not be copied to $runtime" >&2
         return 1
     fi
     [ -x "target/bin/$1" ] || rm -f "target/stamp/$1"
     check_program "$1" "$log" || {
-        echo "It was not built; once more, from nothing." >&2
+        echo 'It was not built; once more, from nothing.' >&2
         rm -rf target/stamp target/rlib target/obj target/bin
         check_program "$1" "$log"
     } || {
@@ -89,4 +98,17 @@ prove_program() {
         return 1
     }
     mv "$made.new" "$made"
+}
+
+# Proves and builds a program, unless that is done.
+prove_program() {
+    is_built "$1" && return
+    if ! command -v rt >/dev/null; then
+        echo "${0##*/}: the program $1 is to be proved and built; that needs the Rattle toolchain, whose command rt is not found" >&2
+        return 1
+    fi
+    mkdir -p target && alone && { is_built "$1" || build_program "$1"; }
+    built=$?
+    exec 9>&-
+    return $built
 }
