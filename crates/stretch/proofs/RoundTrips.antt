@@ -1,6 +1,6 @@
--- Round trips of reading and writing: what a write writes reads back as what it was given, and a text that can be written, taken
--- apart and written, is the same text; so an accepted stretch that is read and written again is the same bytes.
-use Prim.Native.Nat.{ℕ, _+_, _<_, _≤_}
+-- A text that can be written, taken apart and written, is the same text; so an accepted stretch that is read and written again is the
+-- same bytes.
+use Prim.Native.Nat.{ℕ, _+_, _≤_}
 use native.Mathlib.Nat.{add-zero}
 use native.Mathlib.Omega.{arith}
 use mathlib.Core.Path.{_≡_, refl, sym, ap, _∙_}
@@ -21,19 +21,10 @@ use Rattle.stretch.specs.Writing.{Spot, spot, given, Matching, needed, v
 use Rattle.stretch.specs.Writing.{lettersOf, lengthsOf, countsOf}
 use Rattle.stretch.proofs.Stands.{Bytes, Stands, stands-front, stands-back, stands-at}
 use Rattle.stretch.proofs.Rows.{Row, row-many}
-use Rattle.stretch.proofs.Encoding.{Fresh, fresh-letters, fresh-once, fresh-rest, writable-segment, stretch-of}
+use Rattle.stretch.proofs.Encoding.{Fresh, fresh-letters, fresh-once, fresh-rest, writable-segment}
 use Rattle.stretch.proofs.Decoding.{stretch-bytes, stretch-writable}
 use Rattle.stretch.proofs.Texts.{needed-is}
 use Rattle.stretch.proofs.GivenText.{next-segment, text-is}
-use Rattle.stretch.proofs.Writable.{writing-writable}
-
--- what a write writes reads back as the segments that it was given
-pub written-back :
-    (letters lengths counts : List ℕ) (room : ℕ) (t : Text) → ((k : ℕ) → getD counts k 0 < 256) →
-    writing letters lengths counts room ≡ ok t → stretchOf (encode t) ≡ ok (given letters lengths counts)
-written-back letters lengths counts room t bytes e =
-    let (is, w) = writing-writable letters lengths counts bytes room t e in
-    stretch-of t w ∙ ap ok is
 
 flatten-append : {A : Type 0} (l k : List (List A)) → flatten (l ++ k) ≡ flatten l ++ flatten k
 unfolding flatten

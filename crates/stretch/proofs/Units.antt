@@ -1,27 +1,23 @@
 -- Laws of one variant of a walk: what reading it behind those before it answers, from what its head and its verdict tell.
-use Prim.Native.Nat.{ℕ, _+_, _-_, _≤_, _<_}
-use native.Mathlib.Omega.{arith}
-use mathlib.Core.Path.{_≡_, refl, sym, ap, ap₂, _∙_}
+use Prim.Native.Nat.{ℕ, _+_, _-_, _≤_}
+use mathlib.Core.Path.{_≡_, refl, sym, ap, _∙_}
 use mathlib.Core.Bool.{Bool, true, false, not}
 use mathlib.Core.List.{List}
-use borrow.Author.Tests.{leb-true}
 use lib.ListN.{length, take, drop}
-use Rattle.text.specs.Letter.{letter, every, firstNot}
+use Rattle.text.specs.Letter.{letter, every}
 use Rattle.text.specs.Text.{Variant, Segment}
-use Rattle.text.specs.Refusal.{Outcome, ok, refused, after}
+use Rattle.text.specs.Refusal.{ok, refused, after}
 use Rattle.text.specs.declared.refusal.Refusal.{Refusal}
-use Rattle.text.proofs.Letters.{first-le, first-every, first-not-every}
 use Rattle.text.proofs.Outcomes.{ok-inj, demand-met, after-met, after-demand, told-met, told-refused}
 use Rattle.stretch.specs.Skips.{UpTo}
 use Rattle.stretch.specs.Pieces.{lettersAt, nextOf, Span, headAt, misspeltAt, judgedAt, toldPart, toldVerdict}
 use Rattle.stretch.specs.Reading.{Taken, among, valueOf, formed, variantAt, valuesFrom}
 use Rattle.stretch.specs.Answers.{spanAt}
-use Rattle.stretch.specs.Variants.{soundAt}
 use Rattle.stretch.specs.declared.pieces.Part.{Part}
 use Rattle.stretch.specs.declared.pieces.Verdict.{Verdict}
 use Rattle.stretch.specs.declared.pieces.Verdict.the-variants.{Sound}
-use Rattle.stretch.proofs.Heads.{Whole, head-found, head-is, whole-part, whole-length, value-part}
-use Rattle.stretch.proofs.Repeats.{repeats-walk}
+use Rattle.stretch.proofs.Heads.{Whole, head-found, head-is, whole-part, value-part}
+use Rattle.stretch.proofs.RepeatsInBytes.{repeats-walk}
 
 -- a variant that was read: its letters, whole, and where the next one begins
 pub record Read (s : List ℕ) (seen : Segment) (at : ℕ) (x : Taken Variant ℕ) : Type 0 where
@@ -102,39 +98,3 @@ module _ (s : List ℕ) (seen : Segment) (at : ℕ) where
         record { starts = sym (ap (λ (x : Span). x .start) (t .2)); ends = ends; inside = r .inside },
         t .1 ∙ ap ok (r .is) ∙ rw ends,
       )
-
--- the same from the tests
-pub sound-refused : (s : List ℕ) (first k at n p : ℕ) → headAt s at ≡ refused n p → soundAt s first k at ≡ refused n p
-unfolding spanAt variantAt formed
-sound-refused s first k at n p e = rw e
-
-module _ (s : List ℕ) (first k at start next : ℕ) (w : Whole s at start next) where
-  long : length (lettersAt s at) ≡ next - start
-  long = omega (arith, whole-length s at start next w)
-
-  module _ (x : ℕ) (e : x ≡ firstNot letter (take (next - start) (drop start s))) where
-    wrong : x ≡ firstNot letter (lettersAt s at)
-    wrong = e ∙ ap (firstNot letter) (whole-part s at start next w)
-
-    pub sound-wrong : x < next - start → soundAt s first k at ≡ refused 7 (start + x)
-    unfolding spanAt variantAt formed
-    sound-wrong l =
-        let short : firstNot letter (lettersAt s at) < length (lettersAt s at) = omega (arith, wrong, long) in
-        rw (head-found s at _ refl (w .inside), first-not-every letter (lettersAt s at) short, wrong, w .starts)
-
-    module _ (l : next - start ≤ x) where
-      right : every letter (lettersAt s at) ≡ true
-      right =
-          first-every letter (lettersAt s at)
-          (let all : firstNot letter (lettersAt s at) ≡ length (lettersAt s at) = omega (arith, wrong, long, first-le letter (lettersAt s at)) in all)
-
-      own : take (next - start) (drop start s) ≡ valueOf s at
-      own = whole-part s at start next w ∙ sym (value-part s at)
-
-      pub sound-repeated : among (take (next - start) (drop start s)) (valuesFrom s k first) ≡ true → soundAt s first k at ≡ refused 8 at
-      unfolding spanAt variantAt formed
-      sound-repeated r = rw (head-found s at _ refl (w .inside), right, rw own at r)
-
-      pub sound-ok : among (take (next - start) (drop start s)) (valuesFrom s k first) ≡ false → soundAt s first k at ≡ ok (record { start = start; next = next })
-      unfolding spanAt variantAt formed
-      sound-ok r = rw (head-found s at _ refl (w .inside), right, rw own at r, w .starts, w .ends)

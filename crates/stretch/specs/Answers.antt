@@ -16,12 +16,12 @@ use Rattle.stretch.specs.declared.segment.Walked.{Walked}
 use Rattle.stretch.specs.declared.segment.Walked.the-variants.{To}
 use Rattle.stretch.specs.declared.checking.Checked.{Checked}
 use Rattle.stretch.specs.declared.checking.Checked.the-variants.{Sound}
-use Rattle.stretch.specs.declared.given.Reached.{Reached}
-use Rattle.stretch.specs.declared.given.Reached.the-variants.{Letter}
+use Rattle.stretch.specs.declared.writer.sound.Reached.{Reached}
+use Rattle.stretch.specs.declared.writer.sound.Reached.the-variants.{Letter}
 use Rattle.stretch.specs.declared.reading.Got.{Got}
 use Rattle.stretch.specs.declared.reading.Got.the-variants.{End}
-use Rattle.stretch.specs.declared.writing.Written.{Written}
-use Rattle.stretch.specs.declared.writing.Written.the-variants.{Bytes}
+use Rattle.stretch.specs.declared.writer.Written.{Written}
+use Rattle.stretch.specs.declared.writer.Written.the-variants.{Bytes}
 
 -- where the letters of the variant at `at` stand, read behind those seen of its segment
 unfoldable pub spanAt : List ℕ → Segment → ℕ → Outcome Span

@@ -8,5 +8,4 @@ pub mod Writing
 pub mod Places
 pub mod Skips
 pub mod Answers
-pub mod Variants
 pub mod Onward
