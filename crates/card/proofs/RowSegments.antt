@@ -16,7 +16,7 @@ use Rattle.text.specs.State.{next, endsAt, ends}
 use Rattle.text.specs.Refusal.{ok, refused}
 use Rattle.text.specs.Card.{Row, none}
 use Rattle.text.proofs.Bits.{bit-first, bit-above, bit-fromBits, fromBits-lt}
-use Rattle.text.proofs.Outcomes.{refused-ok, ok-inj, refused-ok, after-met}
+use Rattle.text.proofs.Outcomes.{ok-inj, refused-ok, after-met}
 use Rattle.text.proofs.Steps.{next-open, next-lt}
 use Rattle.text.proofs.Folds.{next-none, next-snoc, ends-none, ends-snoc}
 use Rattle.stretch.specs.Pieces.{variantsAt, headAt}
