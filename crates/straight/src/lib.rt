@@ -1,0 +1,24 @@
+// Document 01's rules done the plain way, with nothing of the library: a reader of stretches and a search, straight from the
+// definitions, that programs compare the library's calls with.
+mod occurrences;
+mod parts;
+mod reader;
+
+pub use occurrences::NONE;
+pub use occurrences::Ran;
+pub use occurrences::Step;
+pub use occurrences::run;
+pub use occurrences::through;
+pub use parts::Place;
+pub use parts::letters_at;
+pub use parts::number_at;
+pub use parts::part;
+pub use parts::place_of;
+pub use parts::segment_at;
+pub use parts::skip;
+pub use parts::variants_before;
+pub use parts::word_at;
+pub use reader::Came;
+pub use reader::pattern;
+pub use reader::repeats;
+pub use reader::stretch;
