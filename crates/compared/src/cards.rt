@@ -1,30 +1,13 @@
-// The card of a text: its pattern, and each of its rows, compared with what is found.
+// A card of a text: its pattern, and each of its rows, compared with what is found.
 use card::Card;
 use card::Made;
-use check::same;
-use drawn::put_part;
-use straight::NONE;
+use straight::put_part;
 use straight::run;
+use straight::word_at;
 use tally::Answer;
 use tally::Tally;
 use tally::held;
 use tally::row;
-
-// The exits and the first ends of the rows of a card.
-pub struct Rows {
-    pub exits: [u64; 64],
-    pub firsts: [usize; 64],
-}
-
-impl Rows {
-    // What row q is to be.
-    fn wanted(self, q: usize, segments: usize) -> Answer {
-        let exits = self.exits;
-        let firsts = self.firsts;
-        let i = q % 64;
-        Answer::told(exits[i] as usize, firsts[i], segments)
-    }
-}
 
 // A lone length below m; none from m up.
 fn lone(p: &[u8], q: usize) -> u64 {
@@ -34,22 +17,14 @@ fn lone(p: &[u8], q: usize) -> u64 {
     1 << q % 64
 }
 
-// The rows that are found: below m what comes of a lone length, and nothing from m up.
-pub fn found(p: &[u8], bytes: &[u8]) -> Rows {
-    let mut exits = [0u64; 64];
-    let mut firsts = [NONE; 64];
-    let mut q = 0;
-    while q < 64 {
-        let ran = run(p, bytes, lone(p, q));
-        exits[q] = ran.bits;
-        firsts[q] = ran.first;
-        q += 1;
-    }
-    Rows { exits, firsts }
+// What row q is to be: what comes of the lone length q.
+fn wanted(p: &[u8], bytes: &[u8], q: usize) -> Answer {
+    let found = run(p, bytes, lone(p, q));
+    Answer::told(found.bits as usize, found.first, word_at(bytes, 0))
 }
 
 // A card's m, where its pattern is P and behind it 0.
-fn named(made: Made, p: &[u8]) -> Answer {
+pub fn named(made: Made, p: &[u8]) -> Answer {
     let card = made.card;
     let bytes = card.pattern;
     let mut padded = [0u8; 64];
@@ -57,20 +32,19 @@ fn named(made: Made, p: &[u8]) -> Answer {
     held(Answer::told(card.m as usize, 0, 0), &bytes, &padded)
 }
 
-// A card is to have the pattern P, so many segments, and these rows.
+// A card is to have the pattern P, and the rows of a text.
 pub fn compare(
     tally: Tally,
     group: usize,
     number: u64,
     p: &[u8],
-    segments: usize,
+    bytes: &[u8],
     made: Made,
-    rows: Rows,
 ) -> Tally {
     let mut t = tally.compare(group, number, named(made, p), Answer::told(p.len(), 0, 0));
     let mut q = 0;
     while q < Card::GREATEST_PATTERN {
-        t = t.compare(group, number, row(made, q), rows.wanted(q, segments));
+        t = t.compare(group, number, row(made, q), wanted(p, bytes, q));
         q += 1;
     }
     t

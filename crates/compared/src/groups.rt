@@ -9,16 +9,16 @@ pub const SEGMENTS: usize = 18;
 pub const MARKED: usize = 19;
 
 // What is compared.
-pub const WRITES: usize = 24;
+pub const WRITES: usize = 56;
 
-pub const CHECKS: usize = 25;
+pub const CHECKS: usize = 57;
 
-pub const READS: usize = 26;
+pub const READS: usize = 58;
 
-pub const SEARCHES: usize = 27;
+pub const SEARCHES: usize = 59;
 
-pub const FEEDS: usize = 28;
+pub const FEEDS: usize = 60;
 
-pub const CARDS: usize = 29;
+pub const CARDS: usize = 61;
 
-pub const JOINS: usize = 30;
+pub const JOINS: usize = 62;

@@ -1,6 +1,5 @@
 // A text in two parts: their cards joined, and what cards make of the states before their parts.
 use crate::cards;
-use crate::cards::Rows;
 use crate::groups::JOINS;
 use card::Card;
 use card::Made;
@@ -15,57 +14,51 @@ use tally::Answer;
 use tally::Tally;
 use tally::asked;
 
-// What a card of a text makes of a state is what is found.
+// What the card of a text makes of a state is what is found.
 fn ask(tally: Tally, number: u64, p: &[u8], bytes: &[u8], bits: u64) -> Tally {
     let found = run(p, bytes, bits);
+    let wanted = Answer::told(found.bits as usize, found.first, 0);
     let made = Card::of(p, bytes);
     let got = asked(made.card.ask(State { bits }));
-    tally.compare(
-        JOINS,
-        number,
-        got,
-        Answer::told(found.bits as usize, found.first, 0),
-    )
+    tally.compare(JOINS, number, got, wanted)
 }
 
-// Two parts of a text of so many segments: their cards, joined, are to have these rows, and each card and the whole one is to
-// make of the state before it what is found.
-fn parts(
-    tally: Tally,
-    number: u64,
-    p: &[u8],
-    left: &[u8],
-    right: &[u8],
-    segments: usize,
-    rows: Rows,
-) -> Tally {
+// The card of the join of two texts.
+fn joined(p: &[u8], left: &[u8], right: &[u8]) -> Made {
     let first = Card::of(p, left);
     let second = Card::of(p, right);
-    let joined = first.card.join(second.card);
-    let t = cards::compare(tally, JOINS, number, p, segments, joined, rows);
-    let asked = ask(t, number, p, left, 1);
+    first.card.join(second.card)
+}
+
+// The whole text and its two parts, asked with the states before them.
+fn asks(tally: Tally, number: u64, p: &[u8], bytes: &[u8], left: &[u8], right: &[u8]) -> Tally {
+    let t = ask(tally, number, p, bytes, 1);
+    let first = ask(t, number, p, left, 1);
     let middle = run(p, left, 1);
-    ask(asked, number, p, right, middle.bits)
+    ask(first, number, p, right, middle.bits)
+}
+
+// A text in two parts.
+fn parts(tally: Tally, number: u64, p: &[u8], bytes: &[u8], left: &[u8], right: &[u8]) -> Tally {
+    let t = asks(tally, number, p, bytes, left, right);
+    cards::compare(t, JOINS, number, p, bytes, joined(p, left, right))
+}
+
+// A text whose first part is this one, and whose other part follows behind so many segments.
+fn back(tally: Tally, number: u64, p: &[u8], bytes: &[u8], left: &[u8], cut: usize) -> Tally {
+    let segments = wrapping_sub_usize(word_at(bytes, 0), cut);
+    let at = segment_at(bytes, cut);
+    let rest = part(bytes, at, wrapping_sub_usize(bytes.len(), at));
+    let mut right = [0u8; 2048];
+    let n = drawn::stretch(&mut right, segments, rest);
+    parts(tally, number, p, bytes, left, part(&right, 0, n))
 }
 
 // A text, cut behind some of its segments.
-pub fn compare(tally: Tally, number: u64, p: &[u8], bytes: &[u8], rows: Rows) -> Tally {
-    let segments = word_at(bytes, 0);
-    let cut = drawn::below(number, 800, wrapping_add_usize(segments, 1));
+pub fn compare(tally: Tally, number: u64, p: &[u8], bytes: &[u8]) -> Tally {
+    let cut = drawn::below(number, 800, wrapping_add_usize(word_at(bytes, 0), 1));
     let at = segment_at(bytes, cut);
-    let mut front = [0u8; 2048];
-    let n = drawn::stretch(&mut front, cut, part(bytes, 2, wrapping_sub_usize(at, 2)));
-    let mut back = [0u8; 2048];
-    let rest = part(bytes, at, wrapping_sub_usize(bytes.len(), at));
-    let k = drawn::stretch(&mut back, wrapping_sub_usize(segments, cut), rest);
-    let t = ask(tally, number, p, bytes, 1);
-    parts(
-        t,
-        number,
-        p,
-        part(&front, 0, n),
-        part(&back, 0, k),
-        segments,
-        rows,
-    )
+    let mut left = [0u8; 2048];
+    let n = drawn::stretch(&mut left, cut, part(bytes, 2, wrapping_sub_usize(at, 2)));
+    back(tally, number, p, bytes, part(&left, 0, n), cut)
 }

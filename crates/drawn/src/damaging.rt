@@ -1,12 +1,12 @@
 // Stretches damaged at random: a byte is another, or bytes are taken out, cut off or put in.
 use crate::numbers::below;
 use crate::puts::letter;
-use crate::puts::put;
-use crate::puts::put_part;
 use std::num::wrapping_add_usize;
 use std::num::wrapping_sub_usize;
 use straight::number_at;
 use straight::part;
+use straight::put;
+use straight::put_part;
 
 // A byte that may stand in a stretch, or any other.
 fn byte(seed: u64) -> u8 {

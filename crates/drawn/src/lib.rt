@@ -10,6 +10,5 @@ pub use numbers::below;
 pub use numbers::seed;
 pub use patterns::pattern;
 pub use patterns::spoil;
-pub use puts::put_part;
 pub use texts::stretch;
 pub use texts::text;

@@ -1,13 +1,13 @@
 // Patterns for a text: read out of it along random variants, or of random bases; and spoilt ones.
 use crate::numbers::below;
 use crate::puts::letter;
-use crate::puts::put;
 use crate::puts::put_letters;
-use crate::puts::put_part;
 use std::num::wrapping_add_usize;
 use straight::letters_at;
 use straight::number_at;
 use straight::part;
+use straight::put;
+use straight::put_part;
 use straight::skip;
 use straight::word_at;
 

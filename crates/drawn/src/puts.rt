@@ -1,13 +1,7 @@
 // Bytes put into a buffer, as far as there is room.
 use crate::numbers::below;
 use std::num::wrapping_add_usize;
-
-// A byte at a place.
-pub fn put(out: &mut [u8], at: usize, byte: u8) {
-    if at < out.len() {
-        out[at] = byte;
-    }
-}
+use straight::put;
 
 // A number of two bytes, low byte first.
 pub fn put_word(out: &mut [u8], at: usize, number: usize) {
@@ -17,18 +11,6 @@ pub fn put_word(out: &mut [u8], at: usize, number: usize) {
         wrapping_add_usize(at, 1),
         (number / 256 % 256) as u8,
     );
-}
-
-// A part from a place on, as far as there is room; the place behind it.
-pub fn put_part(out: &mut [u8], from: usize, part: &[u8]) -> usize {
-    let mut at = from;
-    let mut i = 0;
-    while i < part.len() {
-        put(&mut *out, at, part[i]);
-        at = wrapping_add_usize(at, 1);
-        i += 1;
-    }
-    at
 }
 
 // One of the first so many of A, C, G, T.

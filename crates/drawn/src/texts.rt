@@ -1,11 +1,11 @@
 // The bytes of texts: up to 12 segments of up to 5 variants, mostly short, now and then empty or longer than any pattern.
 use crate::numbers::below;
 use crate::numbers::seed;
-use crate::puts::put;
 use crate::puts::put_letters;
-use crate::puts::put_part;
 use crate::puts::put_word;
 use std::num::wrapping_add_usize;
+use straight::put;
+use straight::put_part;
 use straight::repeats;
 
 // The place behind what was put, and how many variants or segments there are.

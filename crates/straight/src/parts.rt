@@ -110,3 +110,22 @@ pub fn place_of(bytes: &[u8], segments: usize, number: usize) -> Place {
         at,
     }
 }
+
+// Puts a byte at a place, if there is room.
+pub fn put(out: &mut [u8], at: usize, byte: u8) {
+    if at < out.len() {
+        out[at] = byte;
+    }
+}
+
+// Puts a part from a place on, as far as there is room, and tells the place behind it.
+pub fn put_part(out: &mut [u8], from: usize, part: &[u8]) -> usize {
+    let mut at = from;
+    let mut i = 0;
+    while i < part.len() {
+        put(&mut *out, at, part[i]);
+        at = wrapping_add_usize(at, 1);
+        i += 1;
+    }
+    at
+}

@@ -150,7 +150,7 @@ pub fn stretch(bytes: &[u8]) -> Came {
 }
 
 // What is to be said of a pattern: number 0, or the refusal.
-pub fn pattern(p: &[u8]) -> Came {
+fn pattern(p: &[u8]) -> Came {
     if p.len() == 0 {
         return START.at(1, 0);
     }
@@ -162,4 +162,13 @@ pub fn pattern(p: &[u8]) -> Came {
         return START.at(3, wrong);
     }
     START
+}
+
+// What is to be said of a pattern and a stretch that was read so far: the pattern's refusal comes first.
+pub fn both(p: &[u8], came: Came) -> Came {
+    let wrong = pattern(p);
+    if wrong.number != 0 {
+        return wrong;
+    }
+    came
 }

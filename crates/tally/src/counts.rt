@@ -1,27 +1,12 @@
 // How many answers were compared, in all and group by group, and how many of them differ.
 use crate::answers::Answer;
+use crate::lines;
 use std::num::wrapping_add_u64;
 
 pub struct Tally {
     pub ran: u64,
     pub differ: u64,
     pub groups: [u64; 64],
-}
-
-// Prints a number behind a space.
-fn print(number: u64) {
-    io::write_all(1, b" ");
-    io::print_decimal(1, number);
-}
-
-// Prints an answer.
-fn print_answer(name: &[u8], answer: Answer) {
-    io::write_all(1, name);
-    print(answer.number);
-    print(answer.place as u64);
-    print(answer.first as u64);
-    print(answer.second as u64);
-    print(answer.third as u64);
 }
 
 impl Tally {
@@ -58,17 +43,18 @@ impl Tally {
             };
         }
         if differ == 0 {
-            io::write_all(1, b"differs, at");
-            print(group as u64);
-            print(number);
-            print_answer(b": got", got);
-            print_answer(b", wanted", wanted);
-            io::write_all(1, b"\n");
+            lines::difference(group, number, got, wanted);
         }
         Tally {
             ran,
             differ: wrapping_add_u64(differ, 1),
             groups,
         }
+    }
+
+    // A group's count.
+    pub fn of(self, group: usize) -> u64 {
+        let groups = self.groups;
+        groups[group % 64]
     }
 }

@@ -2,6 +2,7 @@
 mod answers;
 mod calls;
 mod counts;
+mod lines;
 
 pub use answers::Answer;
 pub use answers::held;
@@ -13,3 +14,4 @@ pub use calls::row;
 pub use calls::searched;
 pub use calls::written;
 pub use counts::Tally;
+pub use lines::print;

@@ -5,10 +5,10 @@ use Rattle.compared.proofs.cards.compare.Statement.{statement}
 use Rattle.compared.proofs.cards.compare.Tie as tie
 
 abbrev Inv-loop : tie.InvT-loop
-Inv-loop group number p segments made rows t₀ q₀ t q = q ≤ 64
+Inv-loop group number p bytes made t₀ q₀ t q = q ≤ 64
 
 abbrev μ-loop : tie.MeasureT-loop
-μ-loop group number p segments made rows t₀ q₀ t q = 64 - q
+μ-loop group number p bytes made t₀ q₀ t q = 64 - q
 
 pub compare-spec : {M : Type 1} → statement M
 compare-spec =

@@ -1,10 +1,10 @@
--- `compared::writes::counts` is safe and ends: the buffer keeps its length. The measure is the number of places left.
+-- `straight::apart::counts` is safe and ends: the buffer keeps its length. The measure is the number of places left.
 use Prim.Native.Nat.{_-_}
 use mathlib.Core.Path.{_≡_}
 use lib.ListN.{length}
 use borrow.Author.Needs.{needs}
-use Rattle.compared.proofs.writes.counts.Statement.{statement}
-use Rattle.compared.proofs.writes.counts.Tie as tie
+use Rattle.straight.proofs.apart.counts.Statement.{statement}
+use Rattle.straight.proofs.apart.counts.Tie as tie
 
 abbrev Inv-loop : tie.InvT-loop
 Inv-loop out₀ bytes j₀ out j = length out ≡ length out₀

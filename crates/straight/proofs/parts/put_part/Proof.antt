@@ -1,10 +1,10 @@
--- `drawn::puts::put_part` is safe and ends: the buffer keeps its length. The measure is the number of bytes left.
+-- `straight::parts::put_part` is safe and ends: the buffer keeps its length. The measure is the number of bytes left.
 use Prim.Native.Nat.{_-_}
 use mathlib.Core.Path.{_≡_}
 use lib.ListN.{length}
 use borrow.Author.Needs.{needs}
-use Rattle.drawn.proofs.puts.put_part.Statement.{statement}
-use Rattle.drawn.proofs.puts.put_part.Tie as tie
+use Rattle.straight.proofs.parts.put_part.Statement.{statement}
+use Rattle.straight.proofs.parts.put_part.Tie as tie
 
 abbrev Inv-loop : tie.InvT-loop
 Inv-loop out₀ from part at₀ i₀ out at i = length out ≡ length out₀

@@ -1,10 +1,10 @@
--- `compared::writes::lengths` is safe and ends: the buffer keeps its length. The measure is the number of places left.
+-- `straight::apart::lengths` is safe and ends: the buffer keeps its length. The measure is the number of places left.
 use Prim.Native.Nat.{_-_}
 use mathlib.Core.Path.{_≡_}
 use lib.ListN.{length}
 use borrow.Author.Needs.{needs}
-use Rattle.compared.proofs.writes.lengths.Statement.{statement}
-use Rattle.compared.proofs.writes.lengths.Tie as tie
+use Rattle.straight.proofs.apart.lengths.Statement.{statement}
+use Rattle.straight.proofs.apart.lengths.Tie as tie
 
 abbrev Inv-loop : tie.InvT-loop
 Inv-loop out₀ bytes segments k₀ out k = length out ≡ length out₀

@@ -1,10 +1,10 @@
--- `compared::writes::letters` is safe and ends: the buffer keeps its length. The measure is the number of variants left.
+-- `straight::apart::letters` is safe and ends: the buffer keeps its length. The measure is the number of variants left.
 use Prim.Native.Nat.{_-_}
 use mathlib.Core.Path.{_≡_}
 use lib.ListN.{length}
 use borrow.Author.Needs.{needs}
-use Rattle.compared.proofs.writes.letters.Statement.{statement}
-use Rattle.compared.proofs.writes.letters.Tie as tie
+use Rattle.straight.proofs.apart.letters.Statement.{statement}
+use Rattle.straight.proofs.apart.letters.Tie as tie
 
 abbrev Inv-loop : tie.InvT-loop
 Inv-loop out₀ bytes segments variants n₀ k₀ out n k = length out ≡ length out₀
