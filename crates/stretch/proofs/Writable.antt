@@ -18,7 +18,7 @@ use Rattle.stretch.specs.Reading.{Taken, among, many}
 use Rattle.stretch.specs.Encoding.{encode, distinct, all, writableSegment, writable}
 use Rattle.stretch.specs.Writing.{Spot, spot, given, variantGiven, segmentGiven, segmentsGiven, writing}
 use Rattle.stretch.proofs.Walks.{many-length}
-use Rattle.stretch.proofs.Givens.{variant-met}
+use Rattle.stretch.proofs.GivenSegment.{variant-met}
 use Rattle.stretch.proofs.GivenText.{next-segment, text-is}
 use Rattle.stretch.proofs.Texts.{needed-is}
 use Rattle.stretch.proofs.Writings.{Met, writing-met}

@@ -4,7 +4,7 @@ use mathlib.Core.Bool.{Bool, false, not, cond, _||_, _&&_}
 use mathlib.Core.List.{List}
 use lib.Dec.{leb, ltb, eqb}
 use lib.ListN.{length, getD}
-use Rattle.text.specs.Letter.{letter, every, firstNot}
+use Rattle.text.specs.Letter.{letter, firstNot}
 use Rattle.text.specs.Text.{Variant}
 use Rattle.text.specs.Compare.{same}
 use Rattle.text.specs.Refusal.{Outcome, ok, refused, demand, after}

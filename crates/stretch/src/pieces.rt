@@ -1,8 +1,8 @@
 // The pieces of which every walk over a stretch is made, each a question that is asked here alone: may the stretch be read at all
 // and how many segments has it, how many variants has a segment, where does a variant stand, is it sound, and is nothing left
 // behind the last segment. Any bytes and any places are fine.
-use crate::bytes::wide;
-use crate::pair::pair;
+use crate::number::pair;
+use crate::number::wide;
 use crate::repetition::repeated;
 use text::Refusal;
 use text::letter::first_wrong;

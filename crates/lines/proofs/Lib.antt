@@ -1,0 +1,8 @@
+-- Laws of the definitions in specs/.
+pub mod Putting
+pub mod Digits
+pub mod Marked
+pub mod Named
+pub mod Answering
+pub mod Enough
+pub mod Theorems

@@ -1,0 +1,4 @@
+-- The lines that programs print: the digits of a number, a line, the lines of an answer, and how bytes are put into a buffer.
+pub mod Decimal
+pub mod Puts
+pub mod Answer
