@@ -19,7 +19,8 @@ use Rattle.text.proofs.Marks.{marks-length}
 use Rattle.text.proofs.Rows.{length-rowsOf, rowsOf-from}
 use Rattle.text.proofs.TextCards.{row-text, empty-text}
 use Rattle.stretch.specs.Bytes.{over}
-use Rattle.stretch.specs.Reading.{stretchOf, mostInStretch}
+use Rattle.stretch.specs.Pieces.{mostInStretch}
+use Rattle.stretch.specs.Reading.{stretchOf}
 use Rattle.stretch.specs.Answers.{leftBy}
 use Rattle.stretch.proofs.Stretches.{stretch-most}
 use Rattle.search.specs.Answers.{Seen, seenFrom, into, stretchInto, searching, seeking}

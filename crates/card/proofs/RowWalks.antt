@@ -23,7 +23,8 @@ use Rattle.text.proofs.Ends.{firstEnd-append, firstEnd-le, later-none}
 use Rattle.text.proofs.Rows.{union-zero, earliest-zero}
 use Rattle.text.proofs.Linear.{run-linear, first-linear}
 use Rattle.text.proofs.TextCards.{ran-append}
-use Rattle.stretch.specs.Reading.{segmentAt, stretchOf, mostInStretch}
+use Rattle.stretch.specs.Pieces.{mostInStretch}
+use Rattle.stretch.specs.Reading.{segmentAt, stretchOf}
 use Rattle.stretch.proofs.Rows as Read
 use Rattle.stretch.proofs.Decoding.{stretch-read}
 use Rattle.stretch.proofs.Stretches.{stretch-most}

@@ -23,7 +23,8 @@ use Rattle.text.proofs.Marks.{marks-length, run-append, marks-append}
 use Rattle.text.proofs.TextCards.{IsFirst, row-text, fresh-first, join-text, ask-text}
 use Rattle.stretch.specs.Bytes.{greatestStretch, wordBytes}
 use Rattle.stretch.specs.Encoding.{encodeSegment, encode, bytesOf, all, writableSegment, writable}
-use Rattle.stretch.specs.Reading.{stretchOf, mostInStretch}
+use Rattle.stretch.specs.Pieces.{mostInStretch}
+use Rattle.stretch.specs.Reading.{stretchOf}
 use Rattle.stretch.proofs.Stands.{Bytes}
 use Rattle.stretch.proofs.Refusals.{stretch-low}
 use Rattle.stretch.proofs.Stretches.{stretch-most}

@@ -16,7 +16,7 @@ use Rattle.stretch.specs.Answers.{leftBy}
 use Rattle.search.specs.Answers.{Sums, sumsOf, marked, searching, toldSearched}
 use Rattle.search.specs.declared.walk.Searched.{Searched}
 use Rattle.search.specs.declared.walk.Searched.the-variants.{Marked, Refused}
-use Rattle.stretch.specs.Reading.{mostInStretch}
+use Rattle.stretch.specs.Pieces.{mostInStretch}
 use Rattle.input.specs.Input.{patternIn, stretchIn}
 use Rattle.lines.specs.Puts.{Put}
 use Rattle.lines.specs.Answer.{textLines, refusalLine, answerLines, linesOf}

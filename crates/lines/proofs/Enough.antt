@@ -16,7 +16,8 @@ use Rattle.text.proofs.Marks.{marks-length}
 use Rattle.text.proofs.Outcomes.{demand-met, after-met}
 use Rattle.text.proofs.Patterns.{SoundPattern, pattern-sound, pattern-after}
 use Rattle.stretch.specs.Bytes.{greatestStretch}
-use Rattle.stretch.specs.Reading.{segmentAt, stretchOf, mostInStretch}
+use Rattle.stretch.specs.Pieces.{mostInStretch}
+use Rattle.stretch.specs.Reading.{segmentAt, stretchOf}
 use Rattle.stretch.proofs.Walks.{many-steps}
 use Rattle.stretch.proofs.Rows.{row-many}
 use Rattle.stretch.proofs.Decoding.{stretch-read}

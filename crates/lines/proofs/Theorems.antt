@@ -13,7 +13,7 @@ use Rattle.text.specs.State.{fresh, marks}
 use Rattle.text.specs.Refusal.{ok, refused}
 use Rattle.text.specs.Occurrence.{EndsIn}
 use Rattle.text.proofs.Occurrences.{marks-ends}
-use Rattle.stretch.specs.Reading.{mostInStretch}
+use Rattle.stretch.specs.Pieces.{mostInStretch}
 use Rattle.search.specs.Answers.{sumsOf}
 use Rattle.input.specs.Input.{patternIn, stretchIn}
 use Rattle.lines.specs.Decimal.{digit, digits, line}

@@ -6,7 +6,7 @@ use lib.Dec.{eqb}
 use Rattle.text.specs.Text.{Text}
 use Rattle.text.specs.State.{marks}
 use Rattle.text.specs.Refusal.{Outcome, ok, refused}
-use Rattle.stretch.specs.Reading.{mostInStretch}
+use Rattle.stretch.specs.Pieces.{mostInStretch}
 use Rattle.search.specs.Answers.{Sums, sumsOf, searching}
 use Rattle.input.specs.Input.{patternIn, stretchIn}
 use Rattle.lines.specs.Decimal.{digits, line}

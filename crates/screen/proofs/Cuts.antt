@@ -8,7 +8,7 @@ use mathlib.Core.List.{List, [], _∷_}
 use lib.ListN.{length, take, drop, getD, length-drop}
 use lib.Seq.{take-all, take-nil, take-take, getD-take, length-take-le}
 use Rattle.stretch.specs.Bytes.{greatestStretch}
-use Rattle.stretch.specs.Reading.{mostInStretch}
+use Rattle.stretch.specs.Pieces.{mostInStretch}
 use Rattle.stretch.proofs.Stretches.{stretch-long}
 use Rattle.search.specs.Answers.{stretchInto, searching}
 use Rattle.input.specs.Input.{announced, patternIn, stretchIn, mostRead}

@@ -17,7 +17,7 @@ use Rattle.text.proofs.Outcomes.{ok-inj}
 use Rattle.text.proofs.Marks.{marks-length}
 use Rattle.text.proofs.Occurrences.{marks-ends, state-carried}
 use Rattle.stretch.specs.Bytes.{over}
-use Rattle.stretch.specs.Reading.{mostInStretch}
+use Rattle.stretch.specs.Pieces.{mostInStretch}
 use Rattle.stretch.specs.Answers.{leftBy}
 use Rattle.search.specs.Answers.{Next, Sums, sumsOf, searching, toldSearched}
 use Rattle.search.specs.Chain.{segmentsText, feeds, markOf, stretchesText, Trail, seeks}

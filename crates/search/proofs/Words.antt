@@ -21,7 +21,8 @@ use Rattle.text.proofs.Letters.{first-le, first-every, first-not-every}
 use Rattle.text.proofs.Steps.{next-lt}
 use Rattle.text.proofs.Scan.{one-ends}
 use Rattle.text.proofs.Folds.{next-none, next-snoc, ends-none, ends-snoc}
-use Rattle.stretch.specs.Reading.{lettersAt, valueOf, variantAt, valuesFrom, many}
+use Rattle.stretch.specs.Pieces.{lettersAt}
+use Rattle.stretch.specs.Reading.{valueOf, variantAt, valuesFrom, many}
 use Rattle.stretch.proofs.Heads.{Whole, whole-part, value-part, value-length}
 use Rattle.stretch.proofs.Units.{variant-read}
 use Rattle.stretch.proofs.Segments.{InSegment, in-none, in-next, in-not}

@@ -9,7 +9,8 @@ use Rattle.text.specs.Text.{Text, total, size}
 use Rattle.text.specs.State.{isState, fresh, next, ends, run, marksFrom, marks}
 use Rattle.text.specs.Refusal.{Outcome, ok, refused, demand, after, pattern}
 use Rattle.stretch.specs.Bytes.{greatestStretch}
-use Rattle.stretch.specs.Reading.{Taken, fits, loneSegment, stretchOf}
+use Rattle.stretch.specs.Pieces.{fits}
+use Rattle.stretch.specs.Reading.{Taken, loneSegment, stretchOf}
 use Rattle.search.specs.declared.entry.Entry.{Entry}
 use Rattle.search.specs.declared.entry.Entry.the-variants.{Open}
 use Rattle.search.specs.declared.state.Fed.{Fed}
