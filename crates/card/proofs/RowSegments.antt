@@ -2,7 +2,7 @@
 use Prim.Native.Nat.{ℕ, zero, suc, _+_, _-_, _%_, _≤_, _<_, min}
 use native.Mathlib.Decide.{decLt}
 use native.Mathlib.Omega.{arith}
-use mathlib.Core.Path.{_≡_, sym, ap, ap₂, subst, _∙_}
+use mathlib.Core.Path.{_≡_, refl, sym, ap, ap₂, subst, _∙_}
 use mathlib.Core.Logic.{by-cases}
 use mathlib.Core.Bool.{true, false, cond, _||_, true≢false}
 use mathlib.Core.List.{List, [], _∷_, _++_}
@@ -19,10 +19,11 @@ use Rattle.text.proofs.Bits.{bit-first, bit-above, bit-fromBits, fromBits-lt}
 use Rattle.text.proofs.Outcomes.{ok-inj, refused-ok, after-met}
 use Rattle.text.proofs.Steps.{next-open, next-lt}
 use Rattle.text.proofs.Folds.{next-none, next-snoc, ends-none, ends-snoc}
+use Rattle.stretch.specs.Bytes.{word}
 use Rattle.stretch.specs.Pieces.{variantsAt, headAt}
 use Rattle.stretch.specs.Reading.{Taken, valueOf, variantAt, many, segmentAt}
 use Rattle.stretch.proofs.Frames.{variants-met}
-use Rattle.stretch.proofs.Heads.{head-is, head-not, whole-part, value-part}
+use Rattle.stretch.proofs.Heads.{head-found, head-is, whole-part, value-part}
 use Rattle.stretch.proofs.Units.{Read, variant-read}
 use Rattle.card.specs.RowStep.{Within, meets, Alive, Covers, Readable, VariantOver, Settled, SegmentOver, rowAt, rowOver}
 use Rattle.card.proofs.Meets.{meets-none, meets-or, within-lt, within-clear}
@@ -86,7 +87,7 @@ module _ (P s : List ℕ) (at live count : ℕ) (exits new : List ℕ) (finished
     read = variant-read s (b .seen) from (whole .0) (whole .1)
 
     pub bearing-whole : (n p : ℕ) → headAt s from ≡ refused n p → ⊥
-    bearing-whole n p e = omega (arith, head-not s from n p e, read .inside)
+    bearing-whole n p e = refused-ok n p _ (sym e ∙ head-found s from (word s from) refl (read .inside))
 
     pub bearing-more : (start beyond : ℕ) (after : List ℕ) (ended : ℕ) → headAt s from ≡ ok (record { start = start; next = beyond })
         → VariantOver P live (take (beyond - start) (drop start s)) exits new after ended
