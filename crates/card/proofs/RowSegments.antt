@@ -19,7 +19,6 @@ use Rattle.text.proofs.Bits.{bit-first, bit-above, bit-fromBits, fromBits-lt}
 use Rattle.text.proofs.Outcomes.{ok-inj, refused-ok, after-met}
 use Rattle.text.proofs.Steps.{next-open, next-lt}
 use Rattle.text.proofs.Folds.{next-none, next-snoc, ends-none, ends-snoc}
-use Rattle.stretch.specs.Bytes.{word}
 use Rattle.stretch.specs.Pieces.{variantsAt, headAt}
 use Rattle.stretch.specs.Reading.{Taken, valueOf, variantAt, many, segmentAt}
 use Rattle.stretch.proofs.Frames.{variants-met}
@@ -87,7 +86,7 @@ module _ (P s : List ℕ) (at live count : ℕ) (exits new : List ℕ) (finished
     read = variant-read s (b .seen) from (whole .0) (whole .1)
 
     pub bearing-whole : (n p : ℕ) → headAt s from ≡ refused n p → ⊥
-    bearing-whole n p e = refused-ok n p _ (sym e ∙ head-found s from (word s from) refl (read .inside))
+    bearing-whole n p e = refused-ok n p _ (sym e ∙ head-found s from _ refl (read .inside))
 
     pub bearing-more : (start beyond : ℕ) (after : List ℕ) (ended : ℕ) → headAt s from ≡ ok (record { start = start; next = beyond })
         → VariantOver P live (take (beyond - start) (drop start s)) exits new after ended

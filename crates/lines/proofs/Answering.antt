@@ -13,9 +13,9 @@ use Rattle.text.proofs.Outcomes.{told-met, told-refused}
 use Rattle.text.proofs.Marks.{marks-length}
 use Rattle.stretch.specs.Bytes.{over}
 use Rattle.stretch.specs.Answers.{leftBy}
-use Rattle.search.specs.Answers.{Sums, sumsOf, marked, searching, toldSearched}
-use Rattle.search.specs.declared.walk.Searched.{Searched}
-use Rattle.search.specs.declared.walk.Searched.the-variants.{Marked, Refused}
+use Rattle.search.specs.Answers.{Sums, sumsOf, seenFrom, marked, searching, toldSearched}
+use Rattle.search.specs.declared.searching.Searched.{Searched}
+use Rattle.search.specs.declared.searching.Searched.the-variants.{Marked, Refused}
 use Rattle.stretch.specs.Pieces.{mostInStretch}
 use Rattle.input.specs.Input.{patternIn, stretchIn}
 use Rattle.lines.specs.Puts.{Put}
@@ -34,7 +34,7 @@ module _ (P s d left : List ℕ) (room : ℕ) (r : Searched)
     met = told-met (searching P s room) (sumsOf P) _ (sym told ∙ ap toldSearched e)
 
     count : length (marks P (met .0)) ≡ n
-    unfolding sumsOf marks
+    unfolding sumsOf seenFrom marks
     count = marks-length P fresh (met .0) ∙ ap (λ (x : Sums). x .segments) (met .2)
 
     further : List ℕ

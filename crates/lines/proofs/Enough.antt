@@ -23,7 +23,7 @@ use Rattle.stretch.proofs.Rows.{row-many}
 use Rattle.stretch.proofs.Decoding.{stretch-read}
 use Rattle.stretch.proofs.Stretches.{segment-steps, stretch-most}
 use Rattle.stretch.proofs.Refusals.{stretch-low}
-use Rattle.search.specs.Answers.{sumsOf, stretchInto, searching}
+use Rattle.search.specs.Answers.{sumsOf, seenFrom, into, stretchInto, searching}
 use Rattle.input.specs.Input.{patternIn, stretchIn}
 use Rattle.lines.specs.Decimal.{digits, line}
 use Rattle.lines.specs.Answer.{segmentsWord, sizeWord, endsWord, endWord, firstWord, atWord, markedFrom, endLines, firstLine}
@@ -33,7 +33,7 @@ use Rattle.lines.proofs.Marked.{either}
 
 -- what an accepted search has found of its pattern and its stretch
 pub searched-sound : (P s : List ℕ) (room : ℕ) (t : Text) → searching P s room ≡ ok t → SoundPattern P × (stretchOf s ≡ ok t)
-unfolding searching stretchInto
+unfolding searching into
 searched-sound P s room t e =
     let (_, f, g) = after-met (pattern P (ok (tt {0}))) (λ _. stretchInto s room) t (sym (pattern-after P _) ∙ e) in
     let (u, h, k) = after-met (stretchOf s) (λ x. demand (leb (length x) room) 10 0 (ok x)) t g in
@@ -102,7 +102,7 @@ stretch-five s (ok t) e = tt
 stretch-five s (refused n p) e = let low = stretch-low s n p e in (omega (arith, low), omega (arith, low))
 
 searching-five : (P s : List ℕ) (room : ℕ) → Five (searching P s room)
-unfolding searching stretchInto pattern
+unfolding searching into pattern
 searching-five P s room =
     demand-five (ltb 0 (length P)) 1 0 _ (omega arith) (omega arith) λ _.
     demand-five (leb (length P) greatestPattern) 2 0 _ (omega arith) (omega arith) λ short.
@@ -114,7 +114,7 @@ searching-five P s room =
 
 module _ (P s : List ℕ) (room : ℕ) where
   answer-long : (o : Outcome Text) → searching P s room ≡ o → Five o → length (answerLines P o) ≤ mostBytes
-  unfolding textLines refusalLine sumsOf marks
+  unfolding textLines refusalLine sumsOf seenFrom marks
   answer-long (ok t) e f =
       let (_, g) = searched-sound P s room t e in
       let few : length t ≤ mostInStretch = stretch-most s t g in

@@ -14,7 +14,7 @@ use Rattle.text.specs.Refusal.{ok, refused}
 use Rattle.text.specs.Occurrence.{EndsIn}
 use Rattle.text.proofs.Occurrences.{marks-ends}
 use Rattle.stretch.specs.Pieces.{mostInStretch}
-use Rattle.search.specs.Answers.{sumsOf}
+use Rattle.search.specs.Answers.{sumsOf, seenFrom}
 use Rattle.input.specs.Input.{patternIn, stretchIn}
 use Rattle.lines.specs.Decimal.{digit, digits, line}
 use Rattle.lines.specs.Answer.{segmentsWord, sizeWord, endsWord, noneLine, markedFrom, endLines, firstLine, textLines}
@@ -37,7 +37,7 @@ pub record Printed (P : List ℕ) (t : Text) (lines : List ℕ) : Type 0 where
 
 -- the lines of an accepted input
 pub accepted : (input : List ℕ) (t : Text) → screening input ≡ ok t → Printed (patternIn input) t (linesOf input)
-unfolding linesOf textLines naming sumsOf marks
+unfolding linesOf textLines naming sumsOf seenFrom marks
 accepted input t e =
     let P : List ℕ = patternIn input in
     let all : List ℕ = markedFrom 0 (marks P t) in

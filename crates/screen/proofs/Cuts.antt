@@ -10,7 +10,7 @@ use lib.Seq.{take-all, take-nil, take-take, getD-take, length-take-le}
 use Rattle.stretch.specs.Bytes.{greatestStretch}
 use Rattle.stretch.specs.Pieces.{mostInStretch}
 use Rattle.stretch.proofs.Stretches.{stretch-long}
-use Rattle.search.specs.Answers.{stretchInto, searching}
+use Rattle.search.specs.Answers.{into, searching}
 use Rattle.input.specs.Input.{announced, patternIn, stretchIn, mostRead}
 use Rattle.lines.specs.Puts.{Put}
 use Rattle.lines.specs.Answer.{answerLines, linesOf, mostBytes}
@@ -21,7 +21,7 @@ use Rattle.screen.specs.Screened.{Read, Screened}
 -- how a stretch is searched, if it is too long
 long :
     (P s u : List ℕ) (room : ℕ) → greatestStretch < length s → greatestStretch < length u → searching P s room ≡ searching P u room
-unfolding searching stretchInto
+unfolding searching into
 long P s u room l k = rw (stretch-long s l, stretch-long u k)
 
 -- behind the first byte

@@ -102,8 +102,8 @@ segment-rows-spec =
     loop-holds
     (λ c κs. search needs)
     (λ c. search needs)
-    returns
     (λ c. search needs)
+    returns
     sub-variant
     part-variant-start
     part-variant-end
