@@ -108,15 +108,17 @@ module _ (P masks : List ℕ) (live : ℕ) (v : Variant) (i d finished : ℕ) (y
       record { inside = omega arith; word = mod-lt (e * 2 ^ 1) (pow-pos 64); gone = gone-more; state = state-more; end = end-more }
 
 -- as the code has it
-pub carrying-more : (P masks : List ℕ) (live : ℕ) (v : Variant) (i d finished last : ℕ) → Alive P masks live → Carrying P live v i d finished
-    → i < length v → (c : ℕ) → c ≡ getD v i 0 → c < 256 → last ≡ 1 * 2 ^ (length P - 1) % 2 ^ 64
-    → Carrying P live v (i + 1) (bitAnd d (getD masks c 0) * 2 ^ 1 % 2 ^ 64) (bitOr finished (bitAnd (bitAnd d (getD masks c 0)) last / 2 ^ i))
+pub carrying-more : (P masks : List ℕ) (live : ℕ) (v : Variant) (i d finished last : ℕ) → Alive P masks live
+    → Carrying P live v i d finished → i < length v → (c : ℕ) → c ≡ getD v i 0 → c < 256 → last ≡ 1 * 2 ^ (length P - 1) % 2 ^ 64
+    → Carrying P live v (i + 1) (bitAnd d (getD masks c 0) * 2 ^ 1 % 2 ^ 64)
+    (bitOr finished (bitAnd (bitAnd d (getD masks c 0)) last / 2 ^ i))
 carrying-more P masks live v i d finished last y s l c is small top =
     let e = bitAnd d (getD masks c 0) in
     let below : length P - 1 < 64 = omega (arith, y .bases .some, y .bases .short) in
     let one : last ≡ 2 ^ (length P - 1) = top ∙ ap (λ (n : ℕ). n % 2 ^ 64) (one-mul (2 ^ (length P - 1))) ∙ mod-eq-of-lt (pow-lt below) in
     rw one
-    (carrying-on P masks live v i d finished y s l c is e (kept-lt P masks (y .vectors) d c small) (kept-bit P masks (y .vectors) d c small))
+    (carrying-on P masks live v i d finished y s l c is e (kept-lt P masks (y .vectors) d c small)
+    (kept-bit P masks (y .vectors) d c small))
 
 module _ (P masks : List ℕ) (live : ℕ) (v : Variant) (y : Alive P masks live) where
   -- a length that is left stands within a word
@@ -166,7 +168,8 @@ module _ (P masks : List ℕ) (live : ℕ) (v : Variant) (y : Alive P masks live
       → Moves P live v (bitAnd d ones) finished
   carrying-end i d finished ones s l e =
       let all : i ≡ length v = omega (arith, s .inside) in
-      rw (e ∙ low-ones (length P) (y .bases .short), and-mask) (carrying-all d finished (subst (λ (j : ℕ). Carrying P live v j d finished) all s))
+      rw (e ∙ low-ones (length P) (y .bases .short), and-mask)
+      (carrying-all d finished (subst (λ (j : ℕ). Carrying P live v j d finished) all s))
 
   pub carrying-dead : (i d finished : ℕ) → Carrying P live v i d finished → d ≡ 0 → Moves P live v 0 finished
   carrying-dead i d finished s e =

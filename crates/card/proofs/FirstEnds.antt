@@ -1,10 +1,10 @@
--- The first mark that is 1, as a loop looks for it; and the earlier of a first end and a segment.
-use Prim.Native.Nat.{ℕ, suc, _+_, _≤_, _<_, min}
+-- The first mark that is 1, as a loop looks for it.
+use Prim.Native.Nat.{ℕ, suc, _+_, _≤_, _<_}
 use native.Mathlib.Numerals.{add-one}
 use native.Mathlib.Omega.{arith}
-use mathlib.Core.Path.{_≡_, refl, sym, ap, _∙_}
+use mathlib.Core.Path.{_≡_, sym, ap, _∙_}
 use mathlib.Core.Bool.{Bool, cond}
-use mathlib.Core.List.{List, []}
+use mathlib.Core.List.{List}
 use borrow.Author.Tests.{eq-eqb, ne-eqb}
 use lib.Dec.{eqb}
 use lib.ListN.{length, drop, getD, drop-of-length-le}
@@ -22,23 +22,27 @@ looking-none marks = record { inside = omega arith; rest = sym (later-zero (firs
 
 module _ (marks : List ℕ) (k : ℕ) (s : Looking marks k) where
   module _ (l : k < length marks) where
-    this : firstEnd marks ≡ later k (cond (eqb (getD marks k 0) 1) 0 (later 1 (firstEnd (drop (suc k) marks))))
-    unfolding firstEnd
+    after : Bool → ℕ
+    after b = later k (cond b 0 (later 1 (firstEnd (drop (suc k) marks))))
+
+    this : firstEnd marks ≡ after (eqb (getD marks k 0) 1)
+    unfolding firstEnd after
     this = s .rest ∙ rw (drop-cons marks k 0 l)
 
     pub looking-found : length marks ≤ mostSegments → getD marks k 0 ≡ 1 → k ≡ firstEnd marks
-    unfolding later
+    unfolding later after
     looking-found few e =
-        let here : firstEnd marks ≡ later k 0 = this ∙ ap (λ (b : Bool). later k (cond b 0 (later 1 (firstEnd (drop (suc k) marks))))) (eq-eqb (getD marks k 0) 1 e) in
+        let here : firstEnd marks ≡ later k 0 = this ∙ ap after (eq-eqb (getD marks k 0) 1 e) in
         omega arith
 
     pub looking-more : (getD marks k 0 ≡ 1 → ⊥) → Looking marks (k + 1)
+    unfolding after
     looking-more ne =
         record {
           inside = omega arith;
           rest =
               this
-              ∙ ap (λ (b : Bool). later k (cond b 0 (later 1 (firstEnd (drop (suc k) marks))))) (ne-eqb (getD marks k 0) 1 ne)
+              ∙ ap after (ne-eqb (getD marks k 0) 1 ne)
               ∙ sym (later-add k 1 (firstEnd (drop (suc k) marks)))
               ∙ rw add-one;
         }

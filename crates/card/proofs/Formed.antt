@@ -1,24 +1,22 @@
 -- The test of a card, as the code makes it: bit by bit, row by row, and then the whole card.
-use Prim.Native.Nat.{ℕ, zero, suc, _+_, _-_, _/_, _%_, _^_, _<_, _≤_}
+use Prim.Native.Nat.{ℕ, zero, suc, _+_, _%_, _^_, _<_, _≤_}
 use native.Mathlib.Nat.{mod-lt}
 use native.Mathlib.Numerals.{add-one}
-use native.Mathlib.Decide.{decLt}
 use native.Mathlib.Omega.{arith}
 use mathlib.Core.Path.{_≡_, refl, sym, _∙_}
-use mathlib.Core.Logic.{by-cases, Iff·rfl}
+use mathlib.Core.Logic.{Iff·rfl}
 use mathlib.Core.Bool.{Bool, true, false, cond, _&&_, _||_, Bool·beq}
 use mathlib.Core.List.{List}
 use borrow.Author.Tests.{lt-ltb, le-ltb, le-leb, lt-leb, eq-eqb, ne-eqb}
 use lib.Dec.{eqb, ltb, leb, lit<}
 use lib.ListN.{length, take, drop, getD, drop-of-length-le}
 use lib.Seq.{drop-cons, length-take-le}
-use lib.Pow.{pow-pos}
 use Rattle.text.specs.Letter.{base, every}
 use Rattle.text.specs.Compare.{same}
 use Rattle.text.specs.Bits.{bit}
 use Rattle.text.specs.Refusal.{ok, refused, pattern}
 use Rattle.text.specs.Card.{none, mostSegments, dead, padded, isRow, areRows, wellFormed}
-use Rattle.text.proofs.Truth.{and-left, and-true, and-false, not-true-false}
+use Rattle.text.proofs.Truth.{and-true, and-false, not-true-false}
 use Rattle.text.proofs.Tests.{and-test, lt-test, le-test, same-test}
 use Rattle.text.proofs.Outcomes.{refused-ok}
 use Rattle.text.proofs.Patterns.{SoundPattern, sound-pattern}

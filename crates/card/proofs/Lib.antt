@@ -20,4 +20,5 @@ pub mod Calls
 pub mod TextCalls
 pub mod Groupings
 pub mod Neutral
+pub mod Told
 pub mod Theorems

@@ -55,7 +55,9 @@ at-meets x y m =
     (ne-eqb (bitAnd x y) 0
     (λ z.
     true≢false
-    (sym (bit-and x y (m .at) ∙ and-both (bit x (m .at)) (bit y (m .at)) (m .left) (m .right)) ∙ ap (λ (n : ℕ). bit n (m .at)) z ∙ bit-zero (m .at))))
+    (sym (bit-and x y (m .at) ∙ and-both (bit x (m .at)) (bit y (m .at)) (m .left) (m .right))
+    ∙ ap (λ (n : ℕ). bit n (m .at)) z
+    ∙ bit-zero (m .at))))
 
 pub meets-none : (x : ℕ) → meets x 0 ≡ false
 meets-none x = not-true-false (meets x 0) (λ e. let m = meets-at x 0 e in false≢true (sym (bit-zero (m .at)) ∙ m .right))

@@ -2,17 +2,17 @@
 use Prim.Native.Nat.{ℕ, zero, suc, _+_, _^_, _≤_, _<_}
 use native.Mathlib.Omega.{arith}
 use native.Mathlib.Decide.{decLt}
-use mathlib.Core.Path.{_≡_, refl, sym, ap, subst, _∙_}
+use mathlib.Core.Path.{_≡_, refl, sym, ap, _∙_}
 use mathlib.Core.Logic.{by-cases}
 use mathlib.Core.List.{List, [], _++_}
 use borrow.Author.Tests.{le-leb}
 use lib.Dec.{leb}
-use lib.ListN.{length, take, drop, getD, set, length-set, length-take, length-map}
+use lib.ListN.{length, take, drop, set, length-set, length-take, length-map}
 use lib.Seq.{ext-getD, getD-set-same, getD-set-other, take-append-seam}
 use Rattle.text.specs.Text.{Text}
 use Rattle.text.specs.State.{fresh, run, marksFrom}
 use Rattle.text.specs.Refusal.{Outcome, ok, refused, demand, after, pattern, greatestPattern}
-use Rattle.text.specs.Card.{Row, Card, mostSegments, dead, row, firstEnd, padded, ran, cardOf, emptyCard}
+use Rattle.text.specs.Card.{Row, dead, row, firstEnd, ran, cardOf, emptyCard}
 use Rattle.text.proofs.Outcomes.{ok-inj, after-met, after-after, told-met, told-refused}
 use Rattle.text.proofs.Patterns.{SoundPattern, pattern-sound, pattern-after}
 use Rattle.text.proofs.Marks.{marks-length}
@@ -26,10 +26,10 @@ use Rattle.stretch.proofs.Stretches.{stretch-most}
 use Rattle.search.specs.Answers.{Seen, seenFrom, into, stretchInto, searching, seeking}
 use Rattle.search.proofs.Searches.{fresh-searching}
 use Rattle.card.specs.declared.cards.Card.{Card as Held}
-use Rattle.card.specs.Cards.{Bases, Full, rowOf, rowsIn, exitsOf, firstsOf, cardOut}
+use Rattle.card.specs.Cards.{Bases, Full, rowsIn, exitsOf, firstsOf, cardOut}
 use Rattle.card.specs.Answers.{carding, accepted, made}
 use Rattle.card.specs.RowStep.{rowAt}
-use Rattle.card.specs.Rows.{Sound, Rowed, RowsOf, RowZero, IsCardOf}
+use Rattle.card.specs.Rows.{Rowed, RowsOf, RowZero, IsCardOf}
 use Rattle.card.proofs.Held.{rows-out, exits-in, firsts-in, even, rows-length, rows-row}
 
 -- the rows of the card of a text, as they are held
@@ -96,7 +96,8 @@ module _ (P : List ℕ) (t : Text) (exits firsts : List ℕ) (w : Rowed P t exit
       (λ q l. let near : q < greatestPattern = omega (arith, rows-length filled) in rows-row filled q near ∙ each q near)
 
   pub card-is : (c : Held) → c ≡ cardOut (emptyCard P) → (segments : ℕ) → length t ≡ segments
-      → record { pattern = c .pattern; m = c .m; segments = segments; exits = set exits 0 exit; firsts = set firsts 0 first } ≡ cardOut (cardOf P t)
+      → record { pattern = c .pattern; m = c .m; segments = segments; exits = set exits 0 exit; firsts = set firsts 0 first }
+      ≡ cardOut (cardOf P t)
   unfolding cardOf emptyCard
   card-is c e segments count =
       λ i.
@@ -108,8 +109,8 @@ module _ (P : List ℕ) (t : Text) (exits firsts : List ℕ) (w : Rowed P t exit
         firsts = (sym (firsts-in (set exits 0 exit) (set firsts 0 first) (even filled)) ∙ ap firstsOf rows-are) i;
       }
 
-pub card-of : (P s : List ℕ) (segments exit first : ℕ) → (z : RowZero P s segments exit first) → (exits firsts : List ℕ) → RowsOf P s exits firsts
-    → (c : Held) → c ≡ cardOut (emptyCard P)
+pub card-of : (P s : List ℕ) (segments exit first : ℕ) → (z : RowZero P s segments exit first)
+    → (exits firsts : List ℕ) → RowsOf P s exits firsts → (c : Held) → c ≡ cardOut (emptyCard P)
     → IsCardOf P s (record { pattern = c .pattern; m = c .m; segments = segments; exits = set exits 0 exit; firsts = set firsts 0 first })
 card-of P s segments exit first z exits firsts w c e t h =
     let same : z .sound .text ≡ t = ok-inj (sym (z .sound .read) ∙ h) in
@@ -146,17 +147,23 @@ module _ (P s out : List ℕ) (room : length out ≡ mostInStretch) where
   unfolding carding
   carding-is =
       pattern-after P _
-      ∙ sym (ap (λ (o : Outcome Text). after o (λ t. ok (cardOf P t))) sought ∙ after-after (pattern P (ok (tt {0}))) (λ _. stretchOf s) (λ t. ok (cardOf P t)))
+      ∙ sym
+      (ap (λ (o : Outcome Text). after o (λ t. ok (cardOf P t))) sought
+      ∙ after-after (pattern P (ok (tt {0}))) (λ _. stretchOf s) (λ t. ok (cardOf P t)))
 
-  pub of-refused : (n p : ℕ) → after (seeking P fresh s (length out)) (λ t. ok (seenFrom P fresh t)) ≡ refused n p → carding P s ≡ refused n p
+  pub of-refused : (n p : ℕ) → after (seeking P fresh s (length out)) (λ t. ok (seenFrom P fresh t)) ≡ refused n p
+      → carding P s ≡ refused n p
   of-refused n p e = carding-is ∙ rw (told-refused (seeking P fresh s (length out)) (seenFrom P fresh) n p e)
 
   pub of-accepted : (segments size ends bits : ℕ)
-      → after (seeking P fresh s (length out)) (λ t. ok (seenFrom P fresh t)) ≡ ok (record { segments = segments; size = size; ends = ends; state = bits })
+      → after (seeking P fresh s (length out)) (λ t. ok (seenFrom P fresh t))
+      ≡ ok (record { segments = segments; size = size; ends = ends; state = bits })
       → Accepted P s out segments bits
   unfolding seenFrom
   of-accepted segments size ends bits e =
-      let (t, f, seen) = told-met (seeking P fresh s (length out)) (seenFrom P fresh) (record { segments = segments; size = size; ends = ends; state = bits }) e in
+      let (t, f, seen) =
+      told-met (seeking P fresh s (length out)) (seenFrom P fresh)
+      (record { segments = segments; size = size; ends = ends; state = bits }) e in
       let (_, sound, read) = after-met (pattern P (ok (tt {0}))) (λ _. stretchOf s) t (sym sought ∙ f) in
       record {
         pattern = pattern-sound P sound;

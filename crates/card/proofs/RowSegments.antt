@@ -1,5 +1,5 @@
 -- The rows of a card over one segment, variant by variant.
-use Prim.Native.Nat.{ℕ, zero, suc, _+_, _-_, _%_, _^_, _≤_, _<_, min}
+use Prim.Native.Nat.{ℕ, zero, suc, _+_, _-_, _%_, _≤_, _<_, min}
 use native.Mathlib.Decide.{decLt}
 use native.Mathlib.Omega.{arith}
 use mathlib.Core.Path.{_≡_, refl, sym, ap, ap₂, subst, _∙_}
@@ -13,7 +13,7 @@ use lib.ListN.{length, getD, take, drop, replicate, length-replicate, getD-repli
 use Rattle.text.specs.Text.{Segment}
 use Rattle.text.specs.Bits.{bit, fromBits}
 use Rattle.text.specs.State.{next, endsAt, ends}
-use Rattle.text.specs.Refusal.{ok, refused}
+use Rattle.text.specs.Refusal.{Outcome, ok, refused}
 use Rattle.text.specs.Card.{Row, none}
 use Rattle.text.proofs.Bits.{bit-first, bit-above, bit-fromBits, fromBits-lt}
 use Rattle.text.proofs.Outcomes.{ok-inj, refused-ok, after-met}
@@ -75,9 +75,12 @@ module _ (P s : List ℕ) (at live count : ℕ) (exits new : List ℕ) (finished
     left : segmentAt s at ≡ many (variantAt s) (suc (count - (j + 1))) (b .seen) from
     left = b .rest ∙ ap (λ (n : ℕ). many (variantAt s) n (b .seen) from) (let z : count - j ≡ suc (count - (j + 1)) = omega arith in z)
 
-    whole : (y : Taken (List ℕ) ℕ) × (variantAt s (b .seen) from ≡ ok y) × (many (variantAt s) (count - (j + 1)) (b .seen ++ (y .value ∷ [])) (y .next) ≡ ok (g .read))
-    unfolding many
-    whole = after-met (variantAt s (b .seen) from) (λ y. many (variantAt s) (count - (j + 1)) (b .seen ++ (y .value ∷ [])) (y .next)) (g .read) (sym left ∙ g .is)
+    onward : Taken (List ℕ) ℕ → Outcome (Taken Segment ℕ)
+    onward y = many (variantAt s) (count - (j + 1)) (b .seen ++ (y .value ∷ [])) (y .next)
+
+    whole : (y : Taken (List ℕ) ℕ) × (variantAt s (b .seen) from ≡ ok y) × (onward y ≡ ok (g .read))
+    unfolding many onward
+    whole = after-met (variantAt s (b .seen) from) onward (g .read) (sym left ∙ g .is)
 
     read : Read s (b .seen) from (whole .0)
     read = variant-read s (b .seen) from (whole .0) (whole .1)
@@ -88,6 +91,7 @@ module _ (P s : List ℕ) (at live count : ℕ) (exits new : List ℕ) (finished
     pub bearing-more : (start beyond : ℕ) (after : List ℕ) (ended : ℕ) → headAt s from ≡ ok (record { start = start; next = beyond })
         → VariantOver P live (take (beyond - start) (drop start s)) exits new after ended
         → Bearing P s at live count exits after (bitOr finished ended) beyond (j + 1)
+    unfolding onward
     bearing-more start beyond after ended h p =
         let w = head-is s from start beyond h in
         let v = valueOf s from in
@@ -98,7 +102,7 @@ module _ (P s : List ℕ) (at live count : ℕ) (exits new : List ℕ) (finished
           rest =
               g .is
               ∙ sym
-              (subst (λ (y : Taken (List ℕ) ℕ). many (variantAt s) (count - (j + 1)) (b .seen ++ (y .value ∷ [])) (y .next) ≡ ok (g .read)) (read .is) (whole .2))
+              (subst (λ (y : Taken (List ℕ) ℕ). onward y ≡ ok (g .read)) (read .is) (whole .2))
               ∙ ap (many (variantAt s) (count - (j + 1)) (b .seen ++ (v ∷ []))) (sym (w .ends));
           full = p .full;
           each = λ q some k.
@@ -119,7 +123,8 @@ module _ (P s : List ℕ) (at live count : ℕ) (exits new : List ℕ) (finished
 lengths : ℕ → ℕ
 lengths m = fromBits (ltb 0) m
 
-next-lengths : (P : List ℕ) (x live : ℕ) (seen : Segment) → 0 < length P → Within x live → bit live 0 ≡ false → Within (next P x seen) (lengths (length P))
+next-lengths : (P : List ℕ) (x live : ℕ) (seen : Segment) → 0 < length P → Within x live → bit live 0 ≡ false
+    → Within (next P x seen) (lengths (length P))
 unfolding lengths
 next-lengths P x live seen some w e r t =
     by-cases (decLt r (length P))
@@ -139,13 +144,18 @@ module _ (P masks s : List ℕ) (at live count : ℕ) (exits new : List ℕ) (fi
   within : Within live' (lengths (length P))
   within =
       t .least (lengths (length P))
-      (λ q some l. rw (b .each q some l) (next-lengths P (getD exits q 0) live (b .seen) (y .bases .some) (covers .each q some l) (y .lengths .carried)))
+      (λ q some l.
+      rw (b .each q some l)
+      (next-lengths P (getD exits q 0) live (b .seen) (y .bases .some) (covers .each q some l) (y .lengths .carried)))
 
   row-over : (q : ℕ) → 0 < q → q < length P → rowAt exits' firsts' q ≡ rowOver P (b .seen) k (rowAt exits firsts q)
   row-over q some l =
       t .each q some l
       ∙ (λ i.
-      record { exit = b .each q some l i; first = min (getD firsts q 0) (cond (sym (b .end (getD exits q 0) (covers .each q some l)) i) k none) })
+      record {
+        exit = b .each q some l i;
+        first = min (getD firsts q 0) (cond (sym (b .end (getD exits q 0) (covers .each q some l)) i) k none);
+      })
 
   module _ (all : segmentAt s at ≡ ok (record { value = b .seen; next = from })) where
     is : (x : Taken Segment ℕ) → segmentAt s at ≡ ok x → record { value = b .seen; next = from } ≡ x

@@ -108,7 +108,9 @@ module _ (P : List ℕ) (live : ℕ) (v : Variant) (exits old : List ℕ) (reach
         each = λ q some l.
             sym
             (ap (bitOr (getD old q 0))
-            (moves .state (getD exits q 0) (covers .each q some l) ∙ ap (bitAnd (getD exits q 0 * 2 ^ length v)) e ∙ and-zero-r (getD exits q 0 * 2 ^ length v))
+            (moves .state (getD exits q 0) (covers .each q some l)
+            ∙ ap (bitAnd (getD exits q 0 * 2 ^ length v)) e
+            ∙ and-zero-r (getD exits q 0 * 2 ^ length v))
             ∙ or-zero-r (getD old q 0));
         end = moves .end;
       }
@@ -154,7 +156,8 @@ module _ (m finished k : ℕ) (next exits firsts exits' firsts' : List ℕ) (liv
         least = least;
       }
     where
-      here : min (getD firsts' q 0) (cond (meets (getD exits' q 0) finished) k none) ≡ min (getD firsts q 0) (cond (meets (getD exits q 0) finished) k none)
+      here : min (getD firsts' q 0) (cond (meets (getD exits' q 0) finished) k none)
+          ≡ min (getD firsts q 0) (cond (meets (getD exits q 0) finished) k none)
       here = rw (filled-next _ firsts firsts' q (s .ends), filled-next _ exits exits' q (s .states))
 
       all : (p : ℕ) → 0 < p → p < q + 1 → Within (getD next p 0) (bitOr live (getD next q 0))

@@ -44,9 +44,10 @@ ran-snoc P st T g few = λ i. record { exit = run-snoc P st T g i; first = first
 
     first : firstEnd (marksFrom P st (T ++ (g ∷ []))) ≡ min (firstEnd (marksFrom P st T)) (cond (ends P (run P st T) g) (length T) none)
     first =
+        let mark : ℕ = cond (ends P (run P st T) g) 1 0 in
         ap firstEnd (marks-snoc P st T g)
-        ∙ firstEnd-append (marksFrom P st T) (cond (ends P (run P st T) g) 1 0 ∷ [])
-        ∙ ap (λ (n : ℕ). min (firstEnd (marksFrom P st T)) (later n (firstEnd (cond (ends P (run P st T) g) 1 0 ∷ [])))) (marks-length P st T)
+        ∙ firstEnd-append (marksFrom P st T) (mark ∷ [])
+        ∙ ap (λ (n : ℕ). min (firstEnd (marksFrom P st T)) (later n (firstEnd (mark ∷ [])))) (marks-length P st T)
         ∙ ap (min (firstEnd (marksFrom P st T))) (last (ends P (run P st T) g) (length T) few)
 
 -- nothing comes of a state with no bit
@@ -105,7 +106,8 @@ pub record Rowing (P s exits firsts : List ℕ) (n live at k : ℕ) : Type 0 whe
   pub lengths : Lengths (length P) live
 
 -- a row's state
-rowed-exit : (P : List ℕ) (t : Text) (exits firsts : List ℕ) → Rowed P t exits firsts → (q : ℕ) → 0 < q → q < length P → getD exits q 0 ≡ run P (2 ^ q) t
+rowed-exit : (P : List ℕ) (t : Text) (exits firsts : List ℕ) → Rowed P t exits firsts
+    → (q : ℕ) → 0 < q → q < length P → getD exits q 0 ≡ run P (2 ^ q) t
 unfolding ran
 rowed-exit P t exits firsts w q pos l = ap (λ (r : Row). r .exit) (w .each q pos l)
 
@@ -148,8 +150,8 @@ module _ (P s exits firsts : List ℕ) (n live at k : ℕ) (q : Rowing P s exits
     pub rowing-readable : Readable s at
     rowing-readable = record { read = record { value = here .segment; next = here .place }; is = here .read }
 
-    pub rowing-more : n ≤ mostInStretch → (exits' firsts' : List ℕ) (live' at' : ℕ) → SegmentOver P s at k exits firsts exits' firsts' live' at'
-        → Rowing P s exits' firsts' n live' at' (k + 1)
+    pub rowing-more : n ≤ mostInStretch → (exits' firsts' : List ℕ) (live' at' : ℕ)
+        → SegmentOver P s at k exits firsts exits' firsts' live' at' → Rowing P s exits' firsts' n live' at' (k + 1)
     rowing-more few exits' firsts' live' at' o =
         record {
           seen = q .seen ++ (g ∷ []);

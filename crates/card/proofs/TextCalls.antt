@@ -1,6 +1,6 @@
 -- Calls on the cards of texts and of stretches: what they make is what the definitions say of the texts end to end, and what feeding the
 -- segments one by one tells.
-use Prim.Native.Nat.{ℕ, zero, suc, _+_, _^_, _<_, _≤_}
+use Prim.Native.Nat.{ℕ, _+_, _<_, _≤_}
 use native.Mathlib.Omega.{arith}
 use mathlib.Core.Path.{_≡_, refl, sym, ap, ap₂, subst, _∙_}
 use mathlib.Core.Logic.{_↔_}
@@ -15,7 +15,7 @@ use Rattle.text.specs.Text.{Text}
 use Rattle.text.specs.Occurrence.{EndsIn}
 use Rattle.text.specs.State.{isState, fresh, run, marksFrom}
 use Rattle.text.specs.Refusal.{Outcome, ok, refused, after, pattern, greatestPattern}
-use Rattle.text.specs.Card.{Row, Card, mostSegments, row, firstEnd, ran, cardOf, join, ask}
+use Rattle.text.specs.Card.{Row, Card, mostSegments, row, firstEnd, ran, cardOf}
 use Rattle.text.proofs.Truth.{and-left, and-right}
 use Rattle.text.proofs.Outcomes.{ok-inj, after-met}
 use Rattle.text.specs.declared.strand.Strand.the-variants.{Given}
@@ -77,7 +77,8 @@ module _ (P s : List ℕ) where
     where
       carded : (c : Card) → carding P s ≡ ok c → Carded
       carded c e =
-          let (_, f, g) = after-met (pattern P (ok (tt {0}))) (λ _. after (stretchOf s) (λ t. ok (cardOf P t))) c (sym (pattern-after P _) ∙ e) in
+          let (_, f, g) =
+          after-met (pattern P (ok (tt {0}))) (λ _. after (stretchOf s) (λ t. ok (cardOf P t))) c (sym (pattern-after P _) ∙ e) in
           let (t, h, _) = after-met (stretchOf s) (λ t. ok (cardOf P t)) c g in
           record { sound = pattern-sound P f; text = t; read = h }
 
@@ -130,7 +131,8 @@ module _ (P s t : List ℕ) (T U : Text) (a : Accepts (making P s)) (b : Accepts
       both st i ∙ ap₂ (λ (x : ℕ) (l : List ℕ). ok (rowOf x (firstEnd l))) (run-append P st T U) (marks-append P st T U)
 
   -- from the fresh state: the first segment of the two texts end to end in which an occurrence ends
-  pub asking-fresh : (r : Row) → asking (joining (making P s .card) (making P t .card) .card) fresh ≡ ok r → IsFirst (EndsIn P (T ++ U)) (r .first)
+  pub asking-fresh : (r : Row) → asking (joining (making P s .card) (making P t .card) .card) fresh ≡ ok r
+      → IsFirst (EndsIn P (T ++ U)) (r .first)
   asking-fresh r h =
       let is : row (cardOf P (T ++ U) .rows) 0 ≡ r =
       row-text P (T ++ U) (sound .some) (sound .short) 0 (sound .some) ∙ ok-inj (sym (both fresh (fresh-state P (sound .some))) ∙ h) in
@@ -160,8 +162,8 @@ pub record Fed (P : List ℕ) (st : ℕ) (ss : List (List ℕ)) (asked : Outcome
   pub accepts : feeds P Given st ss ≡ ok answers
   pub tells : asked ≡ ok (rowOf (lastOf st answers) (firstEnd (map markOf answers)))
 
-pub asking-feeds : (P s : List ℕ) (T : Text) (st : ℕ) (ss : List (List ℕ)) → Accepts (making P s) → stretchOf s ≡ ok T → segmentsText ss ≡ ok T
-    → isState (length P) st ≡ true → Fed P st ss (asking (making P s .card) st)
+pub asking-feeds : (P s : List ℕ) (T : Text) (st : ℕ) (ss : List (List ℕ)) → Accepts (making P s) → stretchOf s ≡ ok T
+    → segmentsText ss ≡ ok T → isState (length P) st ≡ true → Fed P st ss (asking (making P s .card) st)
 asking-feeds P s T st ss a e lone i =
     let y = strand-sound Given P (of-carded P s a .sound) in
     record {
@@ -178,10 +180,11 @@ unfolding writable encode wordBytes segmentsText all bytesOf
 segments-lone s T bytes e =
     let w : writable T ≡ true = stretch-writable s bytes T e in
     let good : all writableSegment T ≡ true = and-left (all writableSegment T) (leb (length (encode T)) greatestStretch) w in
-    let size = leb-true (length (encode T)) greatestStretch (and-right (all writableSegment T) (leb (length (encode T)) greatestStretch) w) in
-    each T good (omega (arith, size))
+    let small = and-right (all writableSegment T) (leb (length (encode T)) greatestStretch) w in
+    each T good (omega (arith, leb-true (length (encode T)) greatestStretch small))
   where
-    each : (U : Text) → all writableSegment U ≡ true → length (bytesOf encodeSegment U) ≤ greatestStretch → segmentsText (map encodeSegment U) ≡ ok U
+    each : (U : Text) → all writableSegment U ≡ true → length (bytesOf encodeSegment U) ≤ greatestStretch
+        → segmentsText (map encodeSegment U) ≡ ok U
     each [] w l = refl
     each (g ∷ U) w l =
         let both = length-append (encodeSegment g) (bytesOf encodeSegment U) in

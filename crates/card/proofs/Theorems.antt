@@ -69,8 +69,8 @@ pub asking-fresh : (P s t : List ℕ) (T U : Text) → Accepts (making P s) → 
 asking-fresh = TextCalls.asking-fresh
 
 -- asking what `Card::of` made tells what feeding the same segments one by one tells: the last state, and the first feed that ends
-pub asking-feeds : (P s : List ℕ) (T : Text) (st : ℕ) (ss : List (List ℕ)) → Accepts (making P s) → stretchOf s ≡ ok T → segmentsText ss ≡ ok T
-    → isState (length P) st ≡ true → Fed P st ss (asking (making P s .card) st)
+pub asking-feeds : (P s : List ℕ) (T : Text) (st : ℕ) (ss : List (List ℕ)) → Accepts (making P s) → stretchOf s ≡ ok T
+    → segmentsText ss ≡ ok T → isState (length P) st ≡ true → Fed P st ss (asking (making P s .card) st)
 asking-feeds = TextCalls.asking-feeds
 
 -- and the segments of a stretch are the same segments, each as its bytes

@@ -16,7 +16,6 @@ ghost use mathlib.Core.Path.{_≡_};
 ghost use mathlib.Core.List.{[]};
 ghost use lib.ListN.{length};
 ghost use Rattle.stretch.specs.Pieces.{mostInStretch};
-ghost use Rattle.stretch.specs.Reading.{stretchOf};
 ghost use Rattle.search.specs.Masks.{Masks};
 ghost use Rattle.card.specs.Cards.{Bases};
 ghost use Rattle.card.specs.Answers.{carding, made};

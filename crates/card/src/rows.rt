@@ -113,22 +113,19 @@ pub fn segment_rows(
     let mut from = at + 1;
     let mut j = 0;
     while j < all {
-        match head(stretch, from) {
-            Part::Refused(_) => {
-                // In a sound segment no variant is cut off.
-                return Behind { live, next: from };
-            }
-            Part::At {
-                start,
-                next: behind,
-            } => {
-                let variant = &stretch[start..behind];
-                let ended = variant_rows(pattern, masks, live, variant, &*exits, &mut next);
-                finished = finished | ended;
-                from = behind;
-                j += 1;
-            }
-        }
+        let Part::At {
+            start,
+            next: behind,
+        } = head(stretch, from)
+        else {
+            // In a sound segment no variant is cut off.
+            return Behind { live, next: from };
+        };
+        let variant = &stretch[start..behind];
+        let ended = variant_rows(pattern, masks, live, variant, &*exits, &mut next);
+        finished = finished | ended;
+        from = behind;
+        j += 1;
     }
     let alive = settle(pattern.len(), finished, k, &next, &mut *exits, &mut *firsts);
     Behind {

@@ -1,64 +1,106 @@
 // A text in two parts: their cards joined, and what cards make of the states before their parts.
 use crate::cards;
-use crate::groups::JOINS;
+use crate::naive::Found;
+use crate::parts::letters_before;
+use crate::parts::variants_before;
 use card::Card;
 use card::Made;
 use search::State;
-use std::num::wrapping_add_usize;
-use std::num::wrapping_sub_usize;
-use straight::part;
-use straight::run;
-use straight::segment_at;
-use straight::word_at;
+use std::num::wrapping_sub_u32;
+use stretch::Written;
+use stretch::write;
 use tally::Answer;
 use tally::Tally;
 use tally::asked;
+use tally::lengths_part;
+use tally::part;
 
-// What the card of a text makes of a state is what is found.
-fn ask(tally: Tally, number: u64, p: &[u8], bytes: &[u8], bits: u64) -> Tally {
-    let found = run(p, bytes, bits);
-    let wanted = Answer::told(found.bits as usize, found.first, 0);
-    let made = Card::of(p, bytes);
-    let got = asked(made.card.ask(State { bits }));
-    tally.compare(JOINS, number, got, wanted)
+// The card of a part of a text, which is written for it.
+fn card_of(p: &[u8], letters: &[u8], lengths: &[u16], counts: &[u8]) -> Made {
+    let mut out = [0u8; 2048];
+    match write(letters, lengths, counts, &mut out) {
+        Written::Bytes(bytes) => Card::of(p, part(&out, 0, bytes)),
+        Written::Refused(_) => Card::empty(b""),
+    }
 }
 
-// The card of the join of two texts.
-fn joined(p: &[u8], left: &[u8], right: &[u8]) -> Made {
-    let first = Card::of(p, left);
-    let second = Card::of(p, right);
-    first.card.join(second.card)
+// The card of the first `cut` segments.
+fn front(p: &[u8], letters: &[u8], lengths: &[u16], counts: &[u8], cut: usize) -> Made {
+    let variants = variants_before(counts, cut);
+    let at = letters_before(lengths, variants);
+    card_of(
+        p,
+        part(letters, 0, at),
+        lengths_part(lengths, 0, variants),
+        part(counts, 0, cut),
+    )
 }
 
-// The whole text and its two parts, asked with the states before them.
-fn asks(tally: Tally, number: u64, p: &[u8], bytes: &[u8], left: &[u8], right: &[u8]) -> Tally {
-    let t = ask(tally, number, p, bytes, 1);
-    let first = ask(t, number, p, left, 1);
-    let middle = run(p, left, 1);
-    ask(first, number, p, right, middle.bits)
+// The card of the segments behind them.
+fn back(p: &[u8], letters: &[u8], lengths: &[u16], counts: &[u8], cut: usize) -> Made {
+    let variants = variants_before(counts, cut);
+    let at = letters_before(lengths, variants);
+    card_of(
+        p,
+        part(letters, at, letters.len()),
+        lengths_part(lengths, variants, lengths.len()),
+        part(counts, cut, counts.len()),
+    )
 }
 
-// A text in two parts.
-fn parts(tally: Tally, number: u64, p: &[u8], bytes: &[u8], left: &[u8], right: &[u8]) -> Tally {
-    let t = asks(tally, number, p, bytes, left, right);
-    cards::compare(t, JOINS, number, p, bytes, joined(p, left, right))
+// What a card makes of a state.
+fn ask(made: Made, bits: u64) -> Answer {
+    let card = made.card;
+    asked(card.ask(State { bits }))
 }
 
-// A text whose first part is this one, and whose other part follows behind so many segments.
-fn back(tally: Tally, number: u64, p: &[u8], bytes: &[u8], left: &[u8], cut: usize) -> Tally {
-    let segments = wrapping_sub_usize(word_at(bytes, 0), cut);
-    let at = segment_at(bytes, cut);
-    let rest = part(bytes, at, wrapping_sub_usize(bytes.len(), at));
-    let mut right = [0u8; 2048];
-    let n = drawn::stretch(&mut right, segments, rest);
-    parts(tally, number, p, bytes, left, part(&right, 0, n))
+// The state behind so many segments and the first end from one on, counted from that one.
+fn wanted(found: Found, from: usize, to: usize) -> Answer {
+    let start = (from % 65536) as u32;
+    let end = (to % 65536) as u32;
+    let first = found.first_from(from);
+    let told = if first < end {
+        wrapping_sub_u32(first, start)
+    } else {
+        Card::NONE
+    };
+    Answer::told(found.state_behind(to) as usize, told as usize, 0)
 }
 
-// A text, cut behind some of its segments.
-pub fn compare(tally: Tally, number: u64, p: &[u8], bytes: &[u8]) -> Tally {
-    let cut = drawn::below(number, 800, wrapping_add_usize(word_at(bytes, 0), 1));
-    let at = segment_at(bytes, cut);
-    let mut left = [0u8; 2048];
-    let n = drawn::stretch(&mut left, cut, part(bytes, 2, wrapping_sub_usize(at, 2)));
-    back(tally, number, p, bytes, part(&left, 0, n), cut)
+// The join is to be the card of the whole, and each of the three cards is to make of the state before it the state behind it.
+pub fn compare(
+    before: Tally,
+    number: u64,
+    p: &[u8],
+    letters: &[u8],
+    lengths: &[u16],
+    counts: &[u8],
+    cut: usize,
+    whole: Made,
+    found: Found,
+) -> Tally {
+    let left = front(p, letters, lengths, counts, cut);
+    let right = back(p, letters, lengths, counts, cut);
+    let n = counts.len();
+    let joined = left.card.join(right.card);
+    let mut t = cards::same(before, number, p, joined, whole);
+    t = t.compare(
+        b"card asked, text",
+        number,
+        ask(whole, 1),
+        wanted(found, 0, n),
+    );
+    t = t.compare(
+        b"left card asked, text",
+        number,
+        ask(left, 1),
+        wanted(found, 0, cut),
+    );
+    let middle = found.state_behind(cut);
+    t.compare(
+        b"right card asked, text",
+        number,
+        ask(right, middle),
+        wanted(found, cut, n),
+    )
 }

@@ -1,56 +1,60 @@
 // Both searches, each compared with what is wanted.
-use crate::groups::SEARCHES;
+use crate::naive::Found;
+use search::Searched;
 use search::by_bits;
 use search::by_borders;
-use straight::Ran;
-use straight::part;
-use straight::put_part;
-use straight::word_at;
 use tally::Answer;
+use tally::BEFORE;
 use tally::Tally;
-use tally::held;
-use tally::searched;
+use tally::WRONG_BYTES;
+use tally::holds;
+use tally::part;
 
-// The search by bit-vectors, where it leaves these marks.
-fn bits(p: &[u8], bytes: &[u8], left: &[u8]) -> Answer {
-    let mut marks = [7u8; 40];
-    let answer = searched(by_bits(p, bytes, &mut marks));
-    held(answer, &marks, left)
-}
-
-// The search by border tables.
-fn borders(p: &[u8], bytes: &[u8], left: &[u8]) -> Answer {
-    let mut marks = [7u8; 40];
-    let answer = searched(by_borders(p, bytes, &mut marks));
-    held(answer, &marks, left)
+// The answer of a search, where the marks hold what is wanted.
+fn answered(answer: Searched, marks: &[u8], wanted: &[u8]) -> Answer {
+    if !holds(marks, wanted) {
+        return Answer::refused(WRONG_BYTES, 0);
+    }
+    tally::searched(answer)
 }
 
 // Each is to answer so and to leave these marks, and what stood behind them.
 pub fn compare(
-    tally: Tally,
+    before: Tally,
     number: u64,
-    p: &[u8],
+    pattern: &[u8],
     bytes: &[u8],
-    marks: &[u8],
-    wanted: Answer,
+    wanted: &[u8],
+    answer: Answer,
 ) -> Tally {
-    let mut left = [7u8; 40];
-    put_part(&mut left, 0, marks);
-    let t = tally.compare(SEARCHES, number, bits(p, bytes, &left), wanted);
-    t.compare(SEARCHES, number, borders(p, bytes, &left), wanted)
+    let mut marks = [BEFORE; 24];
+    let bits = by_bits(pattern, bytes, &mut marks);
+    let got = answered(bits, &marks, wanted);
+    let t = before.compare(b"search by bit-vectors, text", number, got, answer);
+    let mut others = [BEFORE; 24];
+    let borders = by_borders(pattern, bytes, &mut others);
+    let other = answered(borders, &others, wanted);
+    t.compare(b"search by border tables, text", number, other, answer)
 }
 
-// Each is to mark what is found in a text of that size.
+// Each is to mark what is found in a text of so many letters and segments.
 pub fn compare_found(
-    tally: Tally,
+    before: Tally,
     number: u64,
-    p: &[u8],
+    pattern: &[u8],
     bytes: &[u8],
     size: usize,
-    found: Ran,
+    segments: usize,
+    found: Found,
 ) -> Tally {
     let marks = found.marks;
-    let segments = word_at(bytes, 0);
-    let wanted = Answer::told(segments, size, found.ends);
-    compare(tally, number, p, bytes, part(&marks, 0, segments), wanted)
+    let answer = Answer::told(segments, size, found.ends());
+    compare(
+        before,
+        number,
+        pattern,
+        bytes,
+        part(&marks, 0, segments),
+        answer,
+    )
 }

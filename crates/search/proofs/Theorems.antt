@@ -22,11 +22,11 @@ use Rattle.text.proofs.Occurrences.{marks-ends, state-carried}
 use Rattle.stretch.specs.Bytes.{over}
 use Rattle.stretch.specs.Pieces.{mostInStretch}
 use Rattle.stretch.specs.Answers.{leftBy}
-use Rattle.search.specs.Answers.{Next, Sums, sumsOf, searching, toldSearched}
+use Rattle.search.specs.Answers.{Next, sumsOf, searching, toldSearched}
 use Rattle.search.specs.Chain.{segmentsText, feeds, markOf, stretchesText, Trail, seeks}
 use Rattle.search.specs.declared.searching.Searched.{Searched}
-use Rattle.search.specs.declared.searching.Searched.the-variants.{Marked, Refused}
 use Rattle.search.proofs.Entries.{fresh-state}
+use Rattle.search.proofs.Told.{searched-once}
 use Rattle.search.proofs.Chains.{steps, feeds-steps, steps-marks, steps-states, seeks-text}
 
 -- the byte that an accepted search leaves for segment j is 1 exactly when an occurrence ends there
@@ -39,20 +39,6 @@ search-marks P strand s out t j some e l =
     let more : 0 < length Q = rw (strand-length strand P) some in
     rw e (rw (List·getD-append (marks Q t) (drop (0 + length (marks Q t)) out) 0 j inside) (marks-ends Q t j more))
 
--- two answers that are told alike are the same answer
-pub told-once : (a b : Searched) → toldSearched a ≡ toldSearched b → a ≡ b
-told-once (Marked n z m) (Marked n′ z′ m′) e =
-    let p : n ≡ n′ = ap (λ (x : Sums). x .segments) (ok-inj e) in
-    let q : z ≡ z′ = ap (λ (x : Sums). x .size) (ok-inj e) in
-    let r : m ≡ m′ = ap (λ (x : Sums). x .ends) (ok-inj e) in
-    cc
-told-once (Marked n z m) (Refused r) e = cc
-told-once (Refused r) (Marked n z m) e = cc
-told-once (Refused r) (Refused r′) e =
-    let n : r .number ≡ r′ .number = cc in
-    let p : r .place ≡ r′ .place = cc in
-    ap₂ (λ (a b : ℕ). Refused (record { number = a; place = b })) n p
-
 -- what both searches promise of their answer and of the buffer that they leave
 abbrev pub Promised : List ℕ → Strand → List ℕ → List ℕ → Searched → List ℕ → Type 0
 Promised P strand s out answer left =
@@ -62,7 +48,7 @@ Promised P strand s out answer left =
 -- so they give the same answer and the same marks on every input
 pub searches-agree : (P : List ℕ) (strand : Strand) (s out : List ℕ) (a b : Searched) (left left′ : List ℕ) → Promised P strand s out a left
     → Promised P strand s out b left′ → (a ≡ b) × (left ≡ left′)
-searches-agree P strand s out a b left left′ p q = (told-once a b (p .0 ∙ sym (q .0)), p .1 ∙ sym (q .1))
+searches-agree P strand s out a b left left′ p q = (searched-once a b (p .0 ∙ sym (q .0)), p .1 ∙ sym (q .1))
 
 -- what feeding lone segments one by one from the fresh state gives, for a text T of any length
 pub record Feeds (P : List ℕ) (strand : Strand) (ss : List (List ℕ)) (T : Text) : Type 0 where

@@ -1,4 +1,5 @@
 -- Laws of the definitions in specs/, and the theorems about the calls.
+pub mod Told
 pub mod Theorems
 -- numbers and parts in the bytes
 pub mod Stands

@@ -22,7 +22,9 @@ returns : tie.Need-returns Inv-loop μ-loop
 returns c = let a = c .before .before in carrying-dead _ _ _ _ (a .before .before .before .pre) _ _ _ (a .loop .inv) (c .if1 .taken)
 
 -- the letter that is read is a byte
-byte : (c : tie.After-shared-slice-known3 Inv-loop μ-loop) → getD (c .before .before .before .before .before .before .args .variant .now) (c .before .before .before .loop .i) 0 < 256
+byte : (c : tie.After-shared-slice-known3 Inv-loop μ-loop)
+    → let a = c .before .before .before in
+    getD (a .before .before .before .args .variant .now) (a .loop .i) 0 < 256
 byte c = omega (arith, c .shared-slice-known3 .given (c .before .before .before .loop .i))
 
 cast-c : tie.Need-cast-c Inv-loop μ-loop
@@ -47,7 +49,9 @@ loop-again c =
     carrying-more _ _ _ _ _ _ _ _ (a .before .before .before .pre) (a .loop .inv) (d .loop-test .taken) _ refl (byte (c .before)) refl
 
 returns-2 : tie.Need-returns-2 Inv-loop μ-loop
-returns-2 c = let a = c .before .before in carrying-end _ _ _ _ (a .before .before .before .pre) _ _ _ _ (a .loop .inv) (c .before .loop-test .left) (c .low .ensures)
+returns-2 c =
+    let a = c .before .before in
+    carrying-end _ _ _ _ (a .before .before .before .pre) _ _ _ _ (a .loop .inv) (c .before .loop-test .left) (c .low .ensures)
 
 pub carry-spec : {M : Type 1} → statement M
 carry-spec =

@@ -15,7 +15,8 @@ found : (c : tie.After-segments)
     Accepted (a .pattern .now) (a .stretch .now) (a .marks .now) (c .segments .given .0 .0) (c .segments .given .0 .1 .1 .1 .0 .bits)
 found c =
     let t = c .before .before .before .before in
-    of-accepted _ _ (t .before .before .before .before .before .args .marks .now) (t .before .before .before .before .before .pre) _ _ _ _ (sym (t .through .ensures .0) ∙ ap toldSought (c .segments .given .1))
+    let a = t .before .before .before .before .before in
+    of-accepted _ _ (a .args .marks .now) (a .pre) _ _ _ _ (sym (t .through .ensures .0) ∙ ap toldSought (c .segments .given .1))
 
 slice-reshare-prefix-first-end : tie.Need-slice-reshare-prefix-first-end
 slice-reshare-prefix-first-end c =
@@ -37,14 +38,15 @@ card-of-requires c κs =
     let s = c .before .before .before in
     let t = s .before .before .before .before in
     let a = t .before .before .before .before .before in
-    of-zero (a .args .pattern .now) (a .args .stretch .now) (a .args .marks .now) (a .pre) _ _ (found s) _ (t .through .ensures .1) _ (c .first-end .ensures)
+    of-zero (a .args .pattern .now) (a .args .stretch .now) (a .args .marks .now) (a .pre) _ _ (found s) _
+    (t .through .ensures .1) _ (c .first-end .ensures)
 
 returns : tie.Need-returns
 returns c =
     let t = c .before .before .before .before .before .before in
     let a = t .before .before .before .before .before in
-    c .refused .ensures
-    ∙ ap made (sym (of-refused _ _ (a .args .marks .now) (a .pre) _ _ (sym (t .through .ensures .0) ∙ ap toldSought (c .before .before .wrong .given .1))))
+    let wrong = sym (t .through .ensures .0) ∙ ap toldSought (c .before .before .wrong .given .1) in
+    c .refused .ensures ∙ ap made (sym (of-refused _ _ (a .args .marks .now) (a .pre) _ _ wrong))
 
 returns-2 : tie.Need-returns-2
 returns-2 c =

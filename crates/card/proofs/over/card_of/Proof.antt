@@ -19,7 +19,8 @@ rows-over-requires c κs =
 
 cast-t22 : tie.Need-cast-t22
 cast-t22 c =
-    let few = sound-few _ _ (c .before .before .before .before .before .before .before .before .before .before .before .before .before .pre .sound) in
+    let n = c .before .before .before .before .before .before .before .before .before .before in
+    let few = sound-few _ _ (n .before .before .before .pre .sound) in
     omega arith
 
 returns : tie.Need-returns

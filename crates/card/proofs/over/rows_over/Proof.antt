@@ -12,7 +12,8 @@ use Rattle.card.proofs.over.rows_over.Statement.{statement}
 use Rattle.card.proofs.over.rows_over.Tie as tie
 
 abbrev Inv-loop : tie.InvT-loop
-Inv-loop pattern masks stretch segments exits₀ firsts₀ live₀ at₀ k₀ exits firsts live at k = Rowing pattern stretch exits firsts segments live at k
+Inv-loop pattern masks stretch segments exits₀ firsts₀ live₀ at₀ k₀ exits firsts live at k =
+    Rowing pattern stretch exits firsts segments live at k
 
 abbrev μ-loop : tie.MeasureT-loop
 μ-loop pattern masks stretch segments exits₀ firsts₀ live₀ at₀ k₀ exits firsts live at k = segments - k
@@ -28,10 +29,12 @@ loop-holds c =
     rowing-none _ _ _ _ _ (p .0) (p .2) (p .3) _ (c .low .ensures)
 
 -- the lists keep their lengths
-even-states : (a : tie.At-loop Inv-loop μ-loop) → length (a .loop .exits) ≡ length (a .before .before .before .before .before .before .args .exits .now)
+even-states : (a : tie.At-loop Inv-loop μ-loop)
+    → length (a .loop .exits) ≡ length (a .before .before .before .before .before .before .args .exits .now)
 even-states a = a .loop .inv .rows .full .states ∙ sym (a .before .before .before .before .before .before .pre .3 .full .states)
 
-even-ends : (a : tie.At-loop Inv-loop μ-loop) → length (a .loop .firsts) ≡ length (a .before .before .before .before .before .before .args .firsts .now)
+even-ends : (a : tie.At-loop Inv-loop μ-loop)
+    → length (a .loop .firsts) ≡ length (a .before .before .before .before .before .before .args .firsts .now)
 even-ends a = a .loop .inv .rows .full .ends ∙ sym (a .before .before .before .before .before .before .pre .3 .full .ends)
 
 same-length : tie.Need-same-length Inv-loop μ-loop
@@ -55,7 +58,8 @@ segment-rows-requires c κs =
     let a = c .before .before .before .before in
     let p = a .before .before .before .before .before .before .pre in
     let q = a .loop .inv in
-    (record { bases = p .0; vectors = p .1; lengths = q .lengths }, q .covers, q .rows .full, rowing-readable _ _ _ _ _ _ _ _ q (c .before .before .before .loop-test .taken))
+    let there = rowing-readable _ _ _ _ _ _ _ _ q (c .before .before .before .loop-test .taken) in
+    (record { bases = p .0; vectors = p .1; lengths = q .lengths }, q .covers, q .rows .full, there)
 
 loop-again : tie.Need-loop-again Inv-loop μ-loop
 loop-again c =

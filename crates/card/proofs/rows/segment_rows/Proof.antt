@@ -37,7 +37,8 @@ returns c =
 
 -- where the letters stand
 found : (c : tie.After-start Inv-loop μ-loop)
-    → headAt (c .before .before .before .before .before .before .before .before .before .before .args .stretch .now) (c .before .before .before .before .loop .from)
+    → let a = c .before .before .before .before in
+    headAt (a .before .before .before .before .before .before .args .stretch .now) (a .loop .from)
     ≡ ok (record { start = c .start .given .0 .0; next = c .start .given .0 .1 .0 })
 found c = sym (c .before .before .head .ensures) ∙ ap toldPart (c .start .given .1)
 
@@ -61,7 +62,8 @@ loop-again c =
     let d = c .before .before .before .before .before .before in
     let a = d .before .before .before .before in
     let p = a .before .before .before .before .before .before .pre in
-    bearing-more _ _ _ _ _ _ _ _ _ _ (a .loop .inv) (p .3) (d .before .before .before .loop-test .taken) _ _ _ _ (found d) (c .before .variant-rows .ensures)
+    bearing-more _ _ _ _ _ _ _ _ _ _ (a .loop .inv) (p .3) (d .before .before .before .loop-test .taken) _ _ _ _
+    (found d) (c .before .variant-rows .ensures)
 
 settle-requires : tie.Need-settle-requires Inv-loop μ-loop
 settle-requires c κs =
@@ -72,12 +74,14 @@ settle-requires c κs =
 same-length : tie.Need-same-length Inv-loop μ-loop
 same-length c =
     let d = c .before .before .before .before in
-    d .settle .ensures .full .states ∙ sym (d .before .before .before .before .before .before .before .before .before .before .before .pre .2 .states)
+    let a = d .before .before .before .before .before in
+    d .settle .ensures .full .states ∙ sym (a .before .before .before .before .before .before .pre .2 .states)
 
 same-length-2 : tie.Need-same-length-2 Inv-loop μ-loop
 same-length-2 c =
     let d = c .before .before .before .before in
-    d .settle .ensures .full .ends ∙ sym (d .before .before .before .before .before .before .before .before .before .before .before .pre .2 .ends)
+    let a = d .before .before .before .before .before in
+    d .settle .ensures .full .ends ∙ sym (a .before .before .before .before .before .before .pre .2 .ends)
 
 returns-2 : tie.Need-returns-2 Inv-loop μ-loop
 returns-2 c =
@@ -98,8 +102,8 @@ segment-rows-spec =
     loop-holds
     (λ c κs. search needs)
     (λ c. search needs)
-    returns
     (λ c. search needs)
+    returns
     sub-variant
     part-variant-start
     part-variant-end

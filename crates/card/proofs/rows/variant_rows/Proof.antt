@@ -6,9 +6,11 @@ use Rattle.card.proofs.rows.variant_rows.Tie as tie
 
 spread-requires : tie.Need-spread-requires
 spread-requires c κs =
-    let p = c .before .before .before .before .before .before .before .before .pre in
     let d = c .before in
-    (p .0 .bases .short, passed-short _ _ _ _ (c .before .before .before .before .before .before .before .before .args .next .now) _ _ (p .1) (d .before .before .carry .ensures) (d .if1 .taken), p .2, p .3)
+    let a = d .before .before .before .before .before .before .before in
+    let p = a .pre in
+    let few = passed-short _ _ _ _ (a .args .next .now) _ _ (p .1) (d .before .before .carry .ensures) (d .if1 .taken) in
+    (p .0 .bases .short, few, p .2, p .3)
 
 returns : tie.Need-returns
 returns c =

@@ -2,7 +2,6 @@
 use mathlib.Core.Path.{_≡_}
 use mathlib.Core.Bool.{true}
 use Rattle.text.specs.Card.{wellFormed}
-use Rattle.text.proofs.Cards.Formed.{well}
 use Rattle.card.specs.Cards.{cardIn}
 use Rattle.card.proofs.Tests.{passed, failed}
 use Rattle.card.proofs.Answered.{ask-malformed, ask-wrong, ask-follow}
