@@ -43,7 +43,12 @@ pub extern "C" fn cerantuh_feed(pattern: &[u8], state: u64, segment: &[u8], bloc
 
 // The feed on the opposite strand.
 #[no_mangle]
-pub extern "C" fn cerantuh_feed_opposite(pattern: &[u8], state: u64, segment: &[u8], block: &mut [u8]) -> u64
+pub extern "C" fn cerantuh_feed_opposite(
+    pattern: &[u8],
+    state: u64,
+    segment: &[u8],
+    block: &mut [u8],
+) -> u64
     ensures { λ r. ⌜ r ≡ feedAnswer (now (pattern .entry)) Opposite state (now (segment .entry)) (now (block .entry)) ⌝ }
     ensures { λ r. ⌜ now (block .exit) ≡ feedBlock (now (pattern .entry)) Opposite state (now (segment .entry)) (now (block .entry)) ⌝ }
 {

@@ -104,7 +104,14 @@ pub extern "C" fn cerantuh_search_bits(
     ensures { λ r. ⌜ now (block .exit) ≡ searchBlock (sumsOf (now (pattern .entry)))
         (now (pattern .entry)) (now (stretch .entry)) (now (marks .entry)) (now (block .entry)) ⌝ }
 {
-    form(Search::Bits, pattern, Strand::Given, stretch, &mut *marks, &mut *block)
+    form(
+        Search::Bits,
+        pattern,
+        Strand::Given,
+        stretch,
+        &mut *marks,
+        &mut *block,
+    )
 }
 
 // The search by border tables: the same promise.
@@ -121,7 +128,14 @@ pub extern "C" fn cerantuh_search_borders(
     ensures { λ r. ⌜ now (block .exit) ≡ searchBlock (sumsOf (now (pattern .entry)))
         (now (pattern .entry)) (now (stretch .entry)) (now (marks .entry)) (now (block .entry)) ⌝ }
 {
-    form(Search::Borders, pattern, Strand::Given, stretch, &mut *marks, &mut *block)
+    form(
+        Search::Borders,
+        pattern,
+        Strand::Given,
+        stretch,
+        &mut *marks,
+        &mut *block,
+    )
 }
 
 // The search by bit-vectors on the opposite strand.
@@ -138,7 +152,14 @@ pub extern "C" fn cerantuh_search_bits_opposite(
     ensures { λ r. ⌜ now (block .exit) ≡ searchBlock (sumsOf (opposite (now (pattern .entry))))
         (now (pattern .entry)) (now (stretch .entry)) (now (marks .entry)) (now (block .entry)) ⌝ }
 {
-    form(Search::Bits, pattern, Strand::Opposite, stretch, &mut *marks, &mut *block)
+    form(
+        Search::Bits,
+        pattern,
+        Strand::Opposite,
+        stretch,
+        &mut *marks,
+        &mut *block,
+    )
 }
 
 // The search by border tables on the opposite strand: the same promise.
@@ -155,5 +176,12 @@ pub extern "C" fn cerantuh_search_borders_opposite(
     ensures { λ r. ⌜ now (block .exit) ≡ searchBlock (sumsOf (opposite (now (pattern .entry))))
         (now (pattern .entry)) (now (stretch .entry)) (now (marks .entry)) (now (block .entry)) ⌝ }
 {
-    form(Search::Borders, pattern, Strand::Opposite, stretch, &mut *marks, &mut *block)
+    form(
+        Search::Borders,
+        pattern,
+        Strand::Opposite,
+        stretch,
+        &mut *marks,
+        &mut *block,
+    )
 }

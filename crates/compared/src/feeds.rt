@@ -7,6 +7,7 @@ use std::num::wrapping_add_usize;
 use tally::Tally;
 use tally::fed;
 use tally::part;
+use text::strand::Strand;
 
 // Where a segment stands in the bytes of its text: behind the segment count, and the counts, lengths and letters before it.
 fn place(lengths: &[u16], counts: &[u8], segment: usize) -> usize {
@@ -32,7 +33,7 @@ fn compare_one(
     let state = State {
         bits: found.state_behind(segment),
     };
-    let got = fed(state.feed(pattern, part(bytes, start, end)));
+    let got = fed(state.feed(pattern, Strand::Given, part(bytes, start, end)));
     before.compare(b"feed, text", number, got, found.step(segment))
 }
 

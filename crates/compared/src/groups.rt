@@ -8,6 +8,7 @@ use card::Card;
 use tally::Answer;
 use tally::Tally;
 use tally::row;
+use text::strand::Strand;
 
 pub struct Groups {
     pub writes: Tally,
@@ -77,7 +78,7 @@ impl Groups {
         cut: usize,
         found: Found,
     ) -> Groups {
-        let whole = Card::of(p, bytes);
+        let whole = Card::of(p, Strand::Given, bytes);
         let searched = searches::compare_found(
             self.searches,
             number,
@@ -115,7 +116,7 @@ impl Groups {
     // A stretch or pattern that is refused: by both searches, and by the card, which is all zeros.
     pub fn refused(self, number: u64, p: &[u8], bytes: &[u8], answer: Answer) -> Groups {
         let searched = searches::compare(self.searches, number, p, bytes, b"", answer);
-        let made = Card::of(p, bytes);
+        let made = Card::of(p, Strand::Given, bytes);
         let first = self.cards
             .compare(b"refused card, text", number, row(made, 0), answer);
         let carded = first.compare(b"refused card, text", number, row(made, 63), answer);

@@ -14,13 +14,14 @@ use tally::Tally;
 use tally::asked;
 use tally::lengths_part;
 use tally::part;
+use text::strand::Strand;
 
 // The card of a part of a text, which is written for it.
 fn card_of(p: &[u8], letters: &[u8], lengths: &[u16], counts: &[u8]) -> Made {
     let mut out = [0u8; 2048];
     match write(letters, lengths, counts, &mut out) {
-        Written::Bytes(bytes) => Card::of(p, part(&out, 0, bytes)),
-        Written::Refused(_) => Card::empty(b""),
+        Written::Bytes(bytes) => Card::of(p, Strand::Given, part(&out, 0, bytes)),
+        Written::Refused(_) => Card::empty(b"", Strand::Given),
     }
 }
 

@@ -9,6 +9,7 @@ use tally::Tally;
 use tally::WRONG_BYTES;
 use tally::holds;
 use tally::part;
+use text::strand::Strand;
 
 // The answer of a search, where the marks hold what is wanted.
 fn answered(answer: Searched, marks: &[u8], wanted: &[u8]) -> Answer {
@@ -28,11 +29,11 @@ pub fn compare(
     answer: Answer,
 ) -> Tally {
     let mut marks = [BEFORE; 24];
-    let bits = by_bits(pattern, bytes, &mut marks);
+    let bits = by_bits(pattern, Strand::Given, bytes, &mut marks);
     let got = answered(bits, &marks, wanted);
     let t = before.compare(b"search by bit-vectors, text", number, got, answer);
     let mut others = [BEFORE; 24];
-    let borders = by_borders(pattern, bytes, &mut others);
+    let borders = by_borders(pattern, Strand::Given, bytes, &mut others);
     let other = answered(borders, &others, wanted);
     t.compare(b"search by border tables, text", number, other, answer)
 }

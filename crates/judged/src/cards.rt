@@ -6,6 +6,7 @@ use search::State;
 use tally::Answer;
 use tally::Tally;
 use tally::row;
+use text::strand::Strand;
 
 // A card whose row q is to be so, of so many segments.
 fn rowed(tally: Tally, answer: Made, q: usize, exit: usize, first: u32, segments: usize) -> Tally {
@@ -46,6 +47,7 @@ fn tells(tally: Tally, card: Card, bits: u64, next: usize, first: u32) -> Tally 
 fn front() -> Made {
     Card::of(
         b"GATTA",
+        Strand::Given,
         b"\x02\x00\x02\x03\x00CGA\x01\x00G\x02\x00\x00\x01\x00T",
     )
 }
@@ -54,6 +56,7 @@ fn front() -> Made {
 fn back() -> Made {
     Card::of(
         b"GATTA",
+        Strand::Given,
         b"\x03\x00\x02\x04\x00TTAC\x02\x00AT\x02\x02\x00TA\x00\x00\x02\x01\x00A\x06\x00GATTAG",
     )
 }
@@ -76,7 +79,7 @@ fn rows(tally: Tally) -> Tally {
 fn whole(tally: Tally, d: &[u8]) -> Tally {
     let left = front();
     let right = back();
-    let all = Card::of(b"GATTA", d);
+    let all = Card::of(b"GATTA", Strand::Given, d);
     let joined = left.card.join(right.card);
     let mut t = tally;
     let mut q = 0;
@@ -103,7 +106,7 @@ fn asks(tally: Tally) -> Tally {
 // The empty card, whose join with another is that one.
 fn empty(tally: Tally) -> Tally {
     let right = back();
-    let nothing = Card::empty(b"GATTA");
+    let nothing = Card::empty(b"GATTA", Strand::Given);
     let mut t = rowed(tally, nothing, 0, 1, Card::NONE, 0);
     t = rowed(t, nothing, 4, 16, Card::NONE, 0);
     t = rowed(t, nothing, 5, 0, Card::NONE, 0);
@@ -114,12 +117,17 @@ fn empty(tally: Tally) -> Tally {
 
 // The refusals of a pattern and of a stretch.
 fn refusals(tally: Tally) -> Tally {
-    let mut t = refused(tally, Card::empty(b""), 1, 0);
-    t = refused(t, Card::empty(&[b'A'; 65]), 2, 0);
-    t = refused(t, Card::empty(b"GANTA"), 3, 2);
-    t = refused(t, Card::of(b"", b""), 1, 0);
-    t = refused(t, Card::of(b"A", b"\x00"), 5, 0);
-    refused(t, Card::of(b"A", b"\x01\x00\x02\x00\x00\x00\x00"), 8, 5)
+    let mut t = refused(tally, Card::empty(b"", Strand::Given), 1, 0);
+    t = refused(t, Card::empty(&[b'A'; 65], Strand::Given), 2, 0);
+    t = refused(t, Card::empty(b"GANTA", Strand::Given), 3, 2);
+    t = refused(t, Card::of(b"", Strand::Given, b""), 1, 0);
+    t = refused(t, Card::of(b"A", Strand::Given, b"\x00"), 5, 0);
+    refused(
+        t,
+        Card::of(b"A", Strand::Given, b"\x01\x00\x02\x00\x00\x00\x00"),
+        8,
+        5,
+    )
 }
 
 // `d` is the bytes of D.

@@ -2,11 +2,12 @@
 use search::State;
 use tally::Answer;
 use tally::Tally;
+use text::strand::Strand;
 
 // The answer of a feed: the bits of the next state and whether an occurrence ends, or the refusal.
 fn fed(pattern: &[u8], bits: u64, segment: &[u8]) -> Answer {
     let state = State { bits };
-    tally::fed(state.feed(pattern, segment))
+    tally::fed(state.feed(pattern, Strand::Given, segment))
 }
 
 // A segment that is to lead from one state to another.

@@ -5,6 +5,7 @@ use crate::cards::refused;
 use card::Card;
 use tally::Answer;
 use tally::Tally;
+use text::strand::Strand;
 
 // The card with another byte of its pattern.
 fn with_base(card: Card, i: usize, base: u8) -> Card {
@@ -67,7 +68,7 @@ fn malformed(tally: Tally, sound: Card, card: Card) -> Tally {
 
 // The card of zeros; a pattern byte that is no base, and one behind the pattern that is not 0; too many segments.
 fn fields(tally: Tally, card: Card) -> Tally {
-    let zeros = Card::of(b"", b"");
+    let zeros = Card::of(b"", Strand::Given, b"");
     let mut t = malformed(tally, card, zeros.card);
     t = malformed(t, card, with_counts(card, 0, 3));
     t = malformed(t, card, with_counts(card, 65, 3));
@@ -89,8 +90,8 @@ fn rows(tally: Tally, card: Card) -> Tally {
 
 // Two patterns, of one length and where one begins with the other; and more segments than a card may have, by one, and as many.
 fn apart(tally: Tally, card: Card) -> Tally {
-    let other = Card::empty(b"GATTC");
-    let longer = Card::empty(b"GATTAA");
+    let other = Card::empty(b"GATTC", Strand::Given);
+    let longer = Card::empty(b"GATTAA", Strand::Given);
     let most = with_counts(card, 5, 4294967291);
     let over = with_counts(card, 5, 4294967292);
     let mut t = refused(tally, card.join(other.card), 12, 0);

@@ -5,6 +5,7 @@ use tally::BEFORE;
 use tally::Tally;
 use tally::WRONG_BYTES;
 use tally::holds;
+use text::strand::Strand;
 
 // The answer of a search: segment count, size and number of ones, or the refusal. `wanted` is what is to stand in the marks.
 fn answered(answer: Searched, marks: &[u8], wanted: &[u8]) -> Answer {
@@ -17,10 +18,10 @@ fn answered(answer: Searched, marks: &[u8], wanted: &[u8]) -> Answer {
 // Both searches, each of which is to answer and to mark the same.
 fn both(tally: Tally, pattern: &[u8], bytes: &[u8], wanted: &[u8], answer: Answer) -> Tally {
     let mut marks = [BEFORE; 8];
-    let bits = search::by_bits(pattern, bytes, &mut marks);
+    let bits = search::by_bits(pattern, Strand::Given, bytes, &mut marks);
     let t = tally.judge(answered(bits, &marks, wanted), answer);
     let mut others = [BEFORE; 8];
-    let borders = search::by_borders(pattern, bytes, &mut others);
+    let borders = search::by_borders(pattern, Strand::Given, bytes, &mut others);
     t.judge(answered(borders, &others, wanted), answer)
 }
 

@@ -3,6 +3,7 @@ use crate::cards::joins;
 use crate::searches::marked;
 use card::Card;
 use tally::Tally;
+use text::strand::Strand;
 
 // Marking a segment where only the empty variant follows a finished occurrence: AC in {AC}{e}, and in {A}{C}{e,G}.
 fn behind_the_end(tally: Tally) -> Tally {
@@ -61,8 +62,8 @@ fn long_variants(tally: Tally) -> Tally {
 
 // Adding the left segment count to "no end": GATTA in {G} joined with {G}, and with no segments.
 fn no_end(tally: Tally) -> Tally {
-    let g = Card::of(b"GATTA", b"\x01\x00\x01\x01\x00G");
-    let nothing = Card::empty(b"GATTA");
+    let g = Card::of(b"GATTA", Strand::Given, b"\x01\x00\x01\x01\x00G");
+    let nothing = Card::empty(b"GATTA", Strand::Given);
     let one = g.card;
     let none = nothing.card;
     let t = joins(tally, one, one, 0, 3, Card::NONE, 2);

@@ -8,6 +8,7 @@ use search::Searched;
 use search::by_bits;
 use text::Refusal;
 use text::refusal;
+use text::strand::Strand;
 ghost use Rattle.lines.specs.Puts.{Put};
 ghost use Rattle.lines.specs.Answer.{markedFrom, endLines, firstLine, textLines, refusalLine, linesOf};
 
@@ -71,7 +72,7 @@ pub fn screened(input: &[u8], out: &mut [u8]) -> usize
     let mut marks = [0u8; refusal::MOST_IN_STRETCH];
     let pattern = pattern_in(input);
     let stretch = stretch_in(input);
-    match by_bits(pattern, stretch, &mut marks) {
+    match by_bits(pattern, Strand::Given, stretch, &mut marks) {
         Searched::Refused(wrong) => put_refusal(wrong, &mut *out, 0),
         Searched::Marked {
             segments,
