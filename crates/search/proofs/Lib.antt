@@ -5,6 +5,7 @@ pub mod Carrieds
 pub mod Passes
 pub mod Entries
 pub mod ReadOns
+pub mod Markings
 pub mod Searches
 pub mod Methods
 pub mod Feeds
