@@ -1,6 +1,7 @@
 // States, and the search of a pattern in a stretch by two methods.
 mod bits;
 mod borders;
+mod either;
 mod entry;
 mod marking;
 mod method;

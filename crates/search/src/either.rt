@@ -1,0 +1,2 @@
+// The search on both strands at once, by bit-vectors.
+mod words;
