@@ -7,6 +7,7 @@ pub mod Entries
 pub mod ReadOns
 pub mod Markings
 pub mod Searches
+pub mod Pairs
 pub mod Eithers
 pub mod Methods
 pub mod Feeds

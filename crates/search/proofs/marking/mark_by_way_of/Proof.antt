@@ -1,6 +1,8 @@
 -- `search::marking::mark_by_way_of` meets its contract: what `run_stretch` tells of the stretch, and what is handed over of the marks it found.
 use borrow.Author.Needs.{needs}
+use Prim.Native.Nat.{ℕ}
 use mathlib.Core.Path.{_≡_, sym, ap, _∙_}
+use mathlib.Core.List.{List}
 use Rattle.text.specs.Refusal.{ok, after}
 use Rattle.text.proofs.Marks.{marks-length}
 use Rattle.stretch.specs.Reading.{stretchOf}
@@ -9,6 +11,10 @@ use Rattle.search.proofs.Markings.{into-not, into-short, into-marked, f
 use Rattle.search.proofs.Searches.{seen-segments}
 use Rattle.search.proofs.marking.mark_by_way_of.Statement.{statement}
 use Rattle.search.proofs.marking.mark_by_way_of.Tie as tie
+
+-- the caller's buffer
+abbrev out : tie.After-segments → List ℕ
+out a = a .before .before .before .before .before .before .before .before .before .before .before .before .args .marks .now
 
 -- what the run told
 told : (a : tie.After-segments)
@@ -21,14 +27,14 @@ handed-requires : tie.Need-handed-requires
 handed-requires c κs =
     let a = c .before .before .before in
     let d = a .before .before .before .before in
-    few-found _ _ (a .before .before .before .before .before .before .before .before .before .before .before .before .args .marks .now) _ _ _ (told a) (seen-segments _ _ _) _ (d .run-stretch .ensures .1) (marks-length _ _)
+    few-found _ _ (out a) _ _ _ (told a) (seen-segments _ _ _) _ (d .run-stretch .ensures .1) (marks-length _ _)
 
 returns : tie.Need-returns
 returns c =
     let h = c .before .before .before in
     let a = h .before .before .before .before in
     let d = a .before .before .before .before in
-    into-short _ _ (a .before .before .before .before .before .before .before .before .before .before .before .before .args .marks .now) _ _ _ (told a) (seen-segments _ _ _) _ (d .run-stretch .ensures .1) _ (h .handed .ensures .1) _ (h .handed .ensures .0) (c .if1 .taken)
+    into-short _ _ (out a) _ _ _ (told a) (seen-segments _ _ _) _ (d .run-stretch .ensures .1) _ (h .handed .ensures .1) _ (h .handed .ensures .0) (c .if1 .taken)
 
 returns-2 : tie.Need-returns-2
 returns-2 c =
@@ -40,7 +46,7 @@ returns-3 c =
     let h = c .before .before .before in
     let a = h .before .before .before .before in
     let d = a .before .before .before .before in
-    into-marked _ _ (a .before .before .before .before .before .before .before .before .before .before .before .before .args .marks .now) _ _ _ (told a) (seen-segments _ _ _) _ (d .run-stretch .ensures .1) _ (h .handed .ensures .1) _ (h .handed .ensures .0) (c .if1 .left)
+    into-marked _ _ (out a) _ _ _ (told a) (seen-segments _ _ _) _ (d .run-stretch .ensures .1) _ (h .handed .ensures .1) _ (h .handed .ensures .0) (c .if1 .left)
 
 pub mark-by-way-of-spec : {M : Type 1} → statement M
 mark-by-way-of-spec =

@@ -2,6 +2,7 @@
 // table, side by side, so that a machine with words of 128 bits takes both at once.
 ghost use Prim.Native.Nat.{_≤_};
 ghost use mathlib.Core.Path.{_≡_};
+ghost use lib.Bits.{bitOr};
 ghost use lib.ListN.{length};
 ghost use Rattle.search.specs.Masks.{Masks};
 ghost use Rattle.search.specs.Words.{ScannedBy};
@@ -11,6 +12,24 @@ ghost use Rattle.search.specs.Either.{evens, odds};
 pub struct Pair {
     pub given: u64,
     pub opposite: u64,
+}
+
+impl Pair {
+    // Nothing is carried on either strand.
+    pub const FRESH: Pair = Pair {
+        given: 1,
+        opposite: 1,
+    };
+
+    // Both words united with those of another pair.
+    pub fn or(self, more: Pair) -> Pair
+        ensures { λ r. ⌜ (r .given ≡ bitOr (self .given) (more .given)) × (r .opposite ≡ bitOr (self .opposite) (more .opposite)) ⌝ }
+    {
+        Pair {
+            given: self.given | more.given,
+            opposite: self.opposite | more.opposite,
+        }
+    }
 }
 
 // What one pass over a variant's letters finds on each strand: the words behind them, the unions of the words on the way, and whether

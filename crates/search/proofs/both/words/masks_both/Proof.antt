@@ -1,4 +1,4 @@
--- `search::either::words::masks_both` meets its contract. The loop's invariant, `Filling` on each strand: the first k bases are entered. The
+-- `search::both::words::masks_both` meets its contract. The loop's invariant, `Filling` on each strand: the first k bases are entered. The
 -- measure is the number of bases left.
 use Prim.Native.Nat.{ℕ, _-_, _<_, _≤_}
 use borrow.Author.Needs.{needs}
@@ -8,9 +8,9 @@ use mathlib.Core.List.{List}
 use lib.ListN.{length, getD}
 use Rattle.search.specs.Either.{evens, odds}
 use Rattle.search.proofs.BitScans.{Filling, filling-all}
-use Rattle.search.proofs.Eithers.{both-none, both-more}
-use Rattle.search.proofs.either.words.masks_both.Statement.{statement}
-use Rattle.search.proofs.either.words.masks_both.Tie as tie
+use Rattle.search.proofs.Pairs.{both-none, both-more}
+use Rattle.search.proofs.both.words.masks_both.Statement.{statement}
+use Rattle.search.proofs.both.words.masks_both.Tie as tie
 
 abbrev Inv-loop : tie.InvT-loop
 Inv-loop given opposite table₀ k₀ table k = Filling given (evens table) k × Filling opposite (odds table) k

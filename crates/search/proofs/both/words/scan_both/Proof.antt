@@ -1,4 +1,4 @@
--- `search::either::words::scan_both` meets its contract. The loop's invariant, `Scanning` on each strand: its word has the bits of the state
+-- `search::both::words::scan_both` meets its contract. The loop's invariant, `Scanning` on each strand: its word has the bits of the state
 -- that the letters read so far lead to. The measure is the number of letters left.
 use Prim.Native.Nat.{ℕ, _-_, _<_, _≤_}
 use borrow.Author.Needs.{needs}
@@ -9,9 +9,9 @@ use lib.ListN.{length, getD}
 use Rattle.search.specs.Masks.{Ready}
 use Rattle.search.specs.Either.{evens, odds}
 use Rattle.search.proofs.BitScans.{Scanning, scanning-none, scanning-all, scanning-wrong}
-use Rattle.search.proofs.Eithers.{evens-at, odds-at, scanning-entry}
-use Rattle.search.proofs.either.words.scan_both.Statement.{statement}
-use Rattle.search.proofs.either.words.scan_both.Tie as tie
+use Rattle.search.proofs.Pairs.{evens-at, odds-at, scanning-entry}
+use Rattle.search.proofs.both.words.scan_both.Statement.{statement}
+use Rattle.search.proofs.both.words.scan_both.Tie as tie
 
 abbrev Inv-loop : tie.InvT-loop
 Inv-loop table classes variant d₀ e₀ hits₀ met₀ bad₀ i₀ d e hits met bad i =

@@ -1,2 +1,0 @@
-// The search on both strands at once, by bit-vectors.
-mod words;
