@@ -6,7 +6,8 @@ use Rattle.text.specs.Refusal.{toldPattern}
 use Rattle.text.proofs.Patterns.{SoundPattern, pattern-sound}
 use Rattle.search.proofs.Entries.{fresh-state}
 use Rattle.search.proofs.ReadOns.{read-is, read-length, read-room, read-sized, read-state}
-use Rattle.search.proofs.Searches.{pattern-not, pattern-marked}
+use Rattle.search.proofs.Markings.{pattern-not}
+use Rattle.search.proofs.Searches.{pattern-marked}
 use Rattle.search.proofs.searching.by_borders.Statement.{statement}
 use Rattle.search.proofs.searching.by_borders.Tie as tie
 
@@ -34,7 +35,7 @@ mark-requires c κs =
     )
 
 returns : tie.Need-returns
-returns c = pattern-not _ _ _ _ _ _ (sym (c .before .before .before .check .ensures) ∙ ap toldPattern (c .before .refused .given .1))
+returns c = pattern-not _ _ _ _ _ _ _ (sym (c .before .before .before .check .ensures) ∙ ap toldPattern (c .before .refused .given .1))
 
 returns-2 : tie.Need-returns-2
 returns-2 c =
