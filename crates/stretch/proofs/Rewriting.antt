@@ -3,7 +3,7 @@ use Prim.Native.Nat.{ℕ, zero, suc, _+_, _<_, _≤_}
 use native.Mathlib.Omega.{arith}
 use native.Mathlib.Decide.{decLt}
 use mathlib.Core.Logic.{by-cases, ⊎-elim}
-use mathlib.Core.Path.{_≡_, refl}
+use mathlib.Core.Path.{_≡_, refl, _∙_}
 use mathlib.Core.Bool.{Bool, true, _||_}
 use mathlib.Core.List.{List, [], _∷_, _++_, flatten}
 use borrow.Author.Tests.{leb-true, eqb-true}
@@ -16,6 +16,7 @@ use Rattle.stretch.specs.Bytes.{greatestStretch}
 use Rattle.stretch.specs.Encoding.{encode, all, writableSegment, writable}
 use Rattle.stretch.specs.Cuts.{sum}
 use Rattle.stretch.specs.Writing.{needed, lettersOf, lengthsOf, countsOf}
+use Rattle.stretch.proofs.Rows.{all-append}
 use Rattle.stretch.proofs.Encoding.{writable-segment}
 use Rattle.stretch.proofs.RoundTrips.{apart}
 
@@ -45,17 +46,12 @@ every-flatten f [] e = refl
 every-flatten f (v ∷ g) e =
     every-append f v (flatten g) (and-left (every f v) (all (every f) g) e) (every-flatten f g (and-right (every f v) (all (every f) g) e))
 
-all-append : (f : List ℕ → Bool) (g h : Segment) → all f g ≡ true → all f h ≡ true → all f (g ++ h) ≡ true
-unfolding all
-all-append f [] h e k = k
-all-append f (v ∷ g) h e k =
-    and-both (f v) (all f (g ++ h)) (and-left (f v) (all f g) e) (all-append f g h (and-right (f v) (all f g) e) k)
-
 writable-letters : (t : Text) → all writableSegment t ≡ true → all (every letter) (flatten t) ≡ true
 unfolding all flatten
 writable-letters [] w = refl
 writable-letters (g ∷ t) w =
     all-append (every letter) g (flatten t)
+    ∙ and-both (all (every letter) g) (all (every letter) (flatten t))
     (writable-segment g (and-left (writableSegment g) (all writableSegment t) w) .fresh .letters)
     (writable-letters t (and-right (writableSegment g) (all writableSegment t) w))
 

@@ -4,7 +4,7 @@ use Prim.Native.Nat.{ℕ, zero, suc, _+_}
 use native.Mathlib.Nat.{add-assoc}
 use native.Mathlib.Omega.{arith}
 use mathlib.Core.Path.{_≡_, refl, sym, ap, _∙_}
-use mathlib.Core.Bool.{Bool, true}
+use mathlib.Core.Bool.{Bool, true, _&&_, and-assoc}
 use mathlib.Core.List.{List, [], _∷_, _++_, append-nil, append-assoc}
 use lib.ListN.{length, length-append}
 use Rattle.text.specs.Refusal.{Outcome, ok}
@@ -13,6 +13,12 @@ use Rattle.text.proofs.Outcomes.{ok-inj, after-met}
 use Rattle.stretch.specs.Reading.{Taken, many}
 use Rattle.stretch.specs.Encoding.{bytesOf, all}
 use Rattle.stretch.proofs.Stands.{Bytes, Stands, stands-both, stands-front, stands-back}
+
+-- what all of two lists have, all of both have
+pub all-append : {A : Type 0} (f : A → Bool) (l k : List A) → all f (l ++ k) ≡ (all f l && all f k)
+unfolding all
+all-append f [] k = refl
+all-append f (a ∷ l) k = rw (all-append f l k) (sym (and-assoc (f a) (all f l) (all f k)))
 
 -- the members of l are read by f one after another, the first behind those seen, and `next` is the place behind the last
 unfoldable pub Row : {A B : Type 0} → (List A → B → Outcome (Taken A B)) → List A → B → List A → B → Type 0

@@ -1,20 +1,20 @@
--- `stretch::pieces::head` meets its contract: each test compares the end with the place behind the letters, or with the least
--- that it can be.
+-- `stretch::pieces::head` meets its contract: each test compares the end with the place behind the letters, or with the least that it
+-- can be.
 use borrow.Author.Needs.{needs}
 use native.Mathlib.Omega.{arith}
-use mathlib.Core.Path.{sym, _∙_}
+use mathlib.Core.Path.{sym}
 use Rattle.stretch.proofs.Heads.{head-cut, head-found}
 use Rattle.stretch.proofs.pieces.head.Statement.{statement}
 use Rattle.stretch.proofs.pieces.head.Tie as tie
 
 returns : tie.Need-returns
-returns c = c .cut-off .ensures ∙ sym (head-cut _ _ (omega arith))
+returns c = sym (head-cut _ _ (omega arith))
 
 returns-2 : tie.Need-returns-2
-returns-2 c = c .cut-off2 .ensures ∙ sym (head-cut _ _ (omega arith))
+returns-2 c = sym (head-cut _ _ (omega arith))
 
 returns-3 : tie.Need-returns-3
-returns-3 c = c .cut-off3 .ensures ∙ sym (head-cut _ _ (omega (arith, c .before .before .pair .ensures .0)))
+returns-3 c = sym (head-cut _ _ (omega (arith, c .before .pair .ensures .0)))
 
 returns-4 : tie.Need-returns-4
 returns-4 c = sym (head-found _ _ _ (c .before .pair .ensures .0) (omega (arith, c .before .pair .ensures)))
@@ -23,12 +23,9 @@ pub head-spec : {M : Type 1} → statement M
 head-spec =
     tie.close
     (tie.spec
-    (λ c κs. search needs)
     returns
     (λ c. search needs)
-    (λ c κs. search needs)
     returns-2
-    (λ c κs. search needs)
     (λ c κs. search needs)
     returns-3
     (λ c. search needs)
