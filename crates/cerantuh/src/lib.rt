@@ -9,3 +9,4 @@ pub use searching::cerantuh_search_bits;
 pub use searching::cerantuh_search_bits_opposite;
 pub use searching::cerantuh_search_borders;
 pub use searching::cerantuh_search_borders_opposite;
+pub use searching::cerantuh_search_either;

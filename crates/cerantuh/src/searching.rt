@@ -4,6 +4,7 @@ use crate::block::put;
 use search::Searched;
 use search::by_bits;
 use search::by_borders;
+use search::either;
 use stretch::Checked;
 use text::pattern::PatternIs;
 use text::pattern::check;
@@ -15,6 +16,7 @@ ghost use lib.ListN.{length};
 ghost use Rattle.stretch.specs.Answers.{leftBy};
 ghost use Rattle.text.specs.Strand.{onStrand, opposite};
 ghost use Rattle.search.specs.Answers.{sumsOf, marked, toldSearched};
+ghost use Rattle.search.specs.Either.{eitherMarks, eitherSums};
 ghost use Rattle.cerantuh.specs.Forms.{coded, sumsBlock, searchingInto, searchAnswer, searchMarks, searchBlock};
 
 // The bytes of a search's results.
@@ -184,4 +186,25 @@ pub extern "C" fn cerantuh_search_borders_opposite(
         &mut *marks,
         &mut *block,
     )
+}
+
+// The search of both strands at once.
+#[no_mangle]
+pub extern "C" fn cerantuh_search_either(
+    pattern: &[u8],
+    stretch: &[u8],
+    marks: &mut [u8],
+    block: &mut [u8],
+) -> u64
+    ensures { λ r. ⌜ r ≡ searchAnswer (now (pattern .entry)) (now (stretch .entry)) (now (marks .entry)) (now (block .entry)) ⌝ }
+    ensures { λ r. ⌜ now (marks .exit) ≡ searchMarks (eitherMarks (now (pattern .entry)))
+        (now (pattern .entry)) (now (stretch .entry)) (now (marks .entry)) (now (block .entry)) ⌝ }
+    ensures { λ r. ⌜ now (block .exit) ≡ searchBlock (eitherSums (now (pattern .entry)))
+        (now (pattern .entry)) (now (stretch .entry)) (now (marks .entry)) (now (block .entry)) ⌝ }
+{
+    if block.len() < SEARCH_BLOCK {
+        return roomless(pattern, stretch);
+    }
+    let searched = either(pattern, stretch, &mut *marks);
+    told(searched, &mut *block)
 }

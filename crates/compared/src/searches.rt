@@ -82,10 +82,16 @@ pub fn compare(
 }
 
 // The search on both strands is to mark what is found on either.
-pub fn compare_either(tally: Tally, p: &[u8], bytes: &[u8], verdict: Verdict, found: Ran) -> Tally {
-    let marks = found.marks;
+pub fn compare_either(
+    tally: Tally,
+    p: &[u8],
+    bytes: &[u8],
+    verdict: Verdict,
+    marks: &[u8],
+    ends: usize,
+) -> Tally {
     let mut left = [7u8; 40];
-    put_part(&mut left, 0, part(&marks, 0, verdict.segments));
+    put_part(&mut left, 0, marks);
     let answer = united(p, bytes, &left);
-    tally.compare(EITHER, answer, wanted(verdict, found.ends))
+    tally.compare(EITHER, answer, wanted(verdict, ends))
 }

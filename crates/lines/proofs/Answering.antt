@@ -35,7 +35,7 @@ module _ (S : Strands) (P s d left : List ℕ) (room : ℕ) (r : Searched)
     met = told-met (searching P s room) (sumsOn S P) _ (sym told ∙ ap toldSearched e)
 
     count : length (marksOn S P (met .0)) ≡ n
-    count = on-length P (met .0) S ∙ ap (λ (x : Sums). x .segments) (sym (on-sums P (met .0) S) ∙ met .2)
+    count = on-length P (met .0) S ∙ ap (λ (x : Sums). x .segments) (on-sums P (met .0) S ∙ met .2)
 
     further : List ℕ
     further = drop (0 + length (marksOn S P (met .0))) d

@@ -1,7 +1,7 @@
 -- The marked segments that the lines name: which they are, in which order, and how many.
 use Prim.Native.Nat.{ℕ, zero, suc, _+_, _<_}
 use native.Mathlib.Omega.{arith}
-use mathlib.Core.Path.{_≡_, refl, ap}
+use mathlib.Core.Path.{_≡_, refl}
 use mathlib.Core.Logic.{_⊎_, inl, inr, ⊎-elim}
 use mathlib.Core.Bool.{Bool, true, false, cond}
 use mathlib.Core.List.{List, [], _∷_}
@@ -56,6 +56,8 @@ named-rising j (x ∷ xs) =
 pub named-count : (j : ℕ) (marks : List ℕ) → Row marks → total (λ x. x) marks ≡ length (markedFrom j marks)
 unfolding markedFrom total
 named-count j [] r = refl
-named-count j (zero ∷ xs) r = named-count (suc j) xs (r .1)
-named-count j (suc zero ∷ xs) r = ap suc (named-count (suc j) xs (r .1))
+named-count j (zero ∷ xs) r =
+    let z : 0 + total (λ x. x) xs ≡ length (markedFrom (suc j) xs) = omega (arith, named-count (suc j) xs (r .1)) in z
+named-count j (suc zero ∷ xs) r =
+    let z : 1 + total (λ x. x) xs ≡ suc (length (markedFrom (suc j) xs)) = omega (arith, named-count (suc j) xs (r .1)) in z
 named-count j (suc (suc x) ∷ xs) r = absurd (let z : ⊥ = omega (arith, r .0) in z)

@@ -12,12 +12,18 @@ use Rattle.text.specs.Strand.{opposite, onStrand}
 use Rattle.text.proofs.Marks.{marks-length}
 use Rattle.text.proofs.Strands.{opposite-length, strand-length}
 use Rattle.text.proofs.Occurrences.{marks-ends}
-use Rattle.search.specs.Answers.{Sums, sumsOf, seenFrom}
+use Rattle.text.specs.Compare.{same}
+use Rattle.text.specs.Refusal.{ok, after}
+use Rattle.text.specs.declared.strand.Strand.the-variants.{Given, Opposite}
+use Rattle.stretch.specs.Answers.{leftBy}
+use Rattle.search.specs.Answers.{Sums, sumsOf, seenFrom, searching, toldSearched}
+use Rattle.search.specs.declared.searching.Searched.{Searched}
 use Rattle.search.specs.Either.{united, eitherMarks, eitherSums}
 use Rattle.search.proofs.Eithers.{either-length}
-use Rattle.lines.specs.Screening.{marksOn, sumsOn, EndsOn}
+use Rattle.lines.specs.Screening.{marksOn, sumsOn, EndsOn, givenWord, oppositeWord, eitherWord, namedBy}
 use Rattle.lines.specs.declared.strands.Strands.{Strands}
 use Rattle.lines.specs.declared.strands.Strands.the-variants.{One, Either}
+use Rattle.lines.specs.declared.strands.Named.the-variants.{Are, Unknown}
 
 -- each mark is 0 or 1
 abbrev pub Row : List ℕ → Type 0
@@ -96,3 +102,33 @@ module _ (P : List ℕ) (t : Text) where
             one-united (marks P t) (marks (opposite P) t) j own other same
             (⊎-elim (λ a. inl (marks-ends P t j some .1 a)) (λ b. inr (marks-ends (opposite P) t j turned .1 b)) h),
       )
+
+-- the strands that a word names, test by test
+module _ (w : List ℕ) where
+  pub named-given : same w givenWord ≡ true → Are (One Given) ≡ namedBy w
+  unfolding namedBy
+  named-given a = rw a refl
+
+  module _ (a : same w givenWord ≡ false) where
+    pub named-opposite : same w oppositeWord ≡ true → Are (One Opposite) ≡ namedBy w
+    unfolding namedBy
+    named-opposite b = rw (a, b) refl
+
+    module _ (b : same w oppositeWord ≡ false) where
+      pub named-either : same w eitherWord ≡ true → Are Either ≡ namedBy w
+      unfolding namedBy
+      named-either e = rw (a, b, e) refl
+
+      pub named-unknown : same w eitherWord ≡ false → Unknown ≡ namedBy w
+      unfolding namedBy
+      named-unknown e = rw (a, b, e) refl
+
+-- what a search on these strands answers, and what it leaves
+abbrev pub Answers : Strands → (P s d left : List ℕ) → ℕ → Searched → Type 0
+Answers S P s d left room r =
+    (toldSearched r ≡ after (searching P s room) (λ t. ok (sumsOn S P t)))
+    × (left ≡ leftBy (marksOn S P) (searching P s room) d)
+
+pub known-on :
+    {S K : Strands} (e : S ≡ K) (P s d left : List ℕ) (room : ℕ) (r : Searched) → Answers K P s d left room r → Answers S P s d left room r
+known-on e P s d left room r h = rw e h

@@ -24,7 +24,7 @@ pub enum Named {
 }
 
 // The strands that a word names: `given`, `opposite` or `either`.
-pub fn named(word: &[u8]) -> Named
+pub fn by_word(word: &[u8]) -> Named
     ensures { λ r. ⌜ r ≡ namedBy (now (word .entry)) ⌝ }
 {
     if same(word, b"given") {

@@ -3,7 +3,7 @@
 // buffer, and nothing for a word that names none.
 use lines::strands::Named;
 use lines::strands::Strands;
-use lines::strands::named;
+use lines::strands::by_word;
 use text::strand::Strand;
 ghost use Prim.Native.Nat.{_≤_};
 ghost use lib.ListN.{length};
@@ -28,7 +28,7 @@ fn strands_asked() -> Named {
     }
     let mut word = [0u8; 9];
     let n = os::arg(1, &mut word);
-    named(&word[..n])
+    by_word(&word[..n])
 }
 
 fn main() {

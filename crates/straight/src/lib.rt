@@ -29,3 +29,4 @@ pub use reader::pattern;
 pub use reader::repeats;
 pub use reader::stretch;
 pub use strands::turned;
+pub use strands::unite;

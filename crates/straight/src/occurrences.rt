@@ -148,25 +148,6 @@ impl Ran {
             marks,
         }
     }
-
-    // The marks of both, and their number; of the rest, what the first has.
-    pub fn or(self, other: Ran) -> Ran {
-        let mut marks = self.marks;
-        let more = other.marks;
-        let mut ends = 0;
-        let mut j = 0;
-        while j < MARKS {
-            marks[j] = marks[j] | more[j];
-            ends = wrapping_add_usize(ends, (marks[j] % 2) as usize);
-            j += 1;
-        }
-        Ran {
-            bits: self.bits,
-            first: self.first,
-            ends,
-            marks,
-        }
-    }
 }
 
 // The segments of a text of which that is said, from a set of lengths on; nothing where it is refused.
