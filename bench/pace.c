@@ -45,7 +45,7 @@ static int agree(size_t m)
 {
     static struct expected expected;
     int agree = 1;
-    reference_search(pattern, m, made.bytes, made.len, sizeof marks, sizeof block, &expected);
+    reference_search(GIVEN, pattern, m, made.bytes, made.len, sizeof marks, sizeof block, &expected);
     for (size_t i = 0; i < METHODS; i++) {
         if (!methods[i].checks && (expected.answer != 0 || !methods[i].searches)) {
             continue;

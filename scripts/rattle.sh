@@ -1,4 +1,4 @@
-# What the toolchain makes of the crates, and how to run it here. Sourced from the top folder.
+# What the toolchain makes of the crates, how to run it here, and packages. Sourced from the top folder.
 
 # The toolchain's folder with its compiler, the loader that programs run with and, on Arm, an emulator.
 toolchain() {
@@ -10,10 +10,114 @@ is_new() {
     [ -f "$1" ] && [ -z "$(find crates crates.txt -type f -newer "$1")" ]
 }
 
-# Runs a program of target/bin as rt does: programs are for x86-64, and Arm needs the emulator.
+# What programs run with: a copy for this kind of machine, since a program that is built is to run without the toolchain too.
+# Programs are for x86-64, and Arm needs the emulator.
+runtime=target/run/$(uname -m)
+keep_runtime() {
+    tools=$(toolchain) && rm -rf "$runtime" "$runtime.new" && mkdir -p "$runtime.new" || return 1
+    cp "$tools/lib/ld-linux-x86-64.so.2" "$tools/lib/libc.so.6" "$runtime.new" || return 1
+    [ ! -x "$tools/bin/qemu-x86_64" ] || cp "$tools/bin/qemu-x86_64" "$runtime.new" || return 1
+    mv "$runtime.new" "$runtime"
+}
+
+# Runs a program of target/bin as rt does, with the words behind its name.
 run_program() {
-    tools=$(toolchain) || return 1
-    emulator=$tools/bin/qemu-x86_64
+    emulator=$runtime/qemu-x86_64
     [ -x "$emulator" ] || emulator=''
-    $emulator "$tools/lib/ld-linux-x86-64.so.2" --library-path "$tools/lib" "target/bin/$1"
+    program=$1
+    shift
+    $emulator "$runtime/ld-linux-x86-64.so.2" --library-path "$runtime" "target/bin/$program" "$@"
+}
+
+# Ends what rt has started, all of it, and then the script. rt starts provers that a Ctrl-C does not reach, so it has a group of its own.
+end_prover() {
+    trap '' HUP INT TERM
+    [ -z "$prover" ] || kill -- "-$prover" 2>/dev/null || kill "$prover" 2>/dev/null
+    wait
+    rm -f "$made.new"
+    exit 2
+}
+
+# Shows those lines of a log in which rt speaks, as they come, until it has ended.
+show_prover() {
+    part=''
+    while :; do
+        ended=1
+        kill -0 "$prover" 2>/dev/null && ended=0
+        while IFS= read -r line || { part=$part$line && false; }; do
+            case $part$line in 'rt: '*) printf '%s\n' "$part$line" >&2 ;; esac
+            part=''
+        done
+        [ $ended = 0 ] || break
+        sleep 1
+    done <"$1"
+}
+
+# Proves and builds a program by rt, whose whole output goes to a log.
+check_program() {
+    : >"$2"
+    prover=''
+    trap end_prover HUP INT TERM
+    # shellcheck disable=SC2046
+    $(command -v setsid) rt check "$1" >"$2" 2>&1 </dev/null &
+    prover=$!
+    show_prover "$2"
+    wait "$prover"
+    checked=$?
+    trap 'exit 2' HUP INT TERM
+    [ $checked = 0 ] && [ -x "target/bin/$1" ]
+}
+
+# Waits for another call that builds, and keeps later ones waiting until this one, and all that it has started, has ended.
+alone() {
+    command exec 9>target/building || return 1
+    ! command -v flock >/dev/null || flock -n 9 || {
+        echo 'Another call is proving and building; this one waits for it.' >&2
+        flock 9
+    }
+}
+
+# Whether a program is proved and built, and what it runs with is there.
+is_built() {
+    is_new "target/$1.done" && [ -x "target/bin/$1" ] && [ -d "$runtime" ]
+}
+
+# Proves and builds a program. What an earlier run has left half built is built again, from nothing if need be.
+build_program() {
+    made=target/$1.done log=target/$1.log
+    echo "The program $1 is being proved and built: some minutes on the first call, nothing on later ones." >&2
+    if ! : >"$made.new" || ! keep_runtime; then
+        echo "${0##*/}: the toolchain's files that programs run with could not be copied to $runtime" >&2
+        return 1
+    fi
+    [ -x "target/bin/$1" ] || rm -f "target/stamp/$1"
+    check_program "$1" "$log" || {
+        echo 'It was not built; once more, from nothing.' >&2
+        rm -rf target/stamp target/rlib target/obj target/bin
+        check_program "$1" "$log"
+    } || {
+        echo "${0##*/}: the program $1 could not be proved and built; $log says why" >&2
+        return 1
+    }
+    mv "$made.new" "$made"
+}
+
+# Proves and builds a program, unless that is done.
+prove_program() {
+    is_built "$1" && return
+    if ! command -v rt >/dev/null; then
+        echo "${0##*/}: the program $1 is to be proved and built; that needs the Rattle toolchain, whose command rt is not found" >&2
+        return 1
+    fi
+    mkdir -p target && alone && { is_built "$1" || build_program "$1"; }
+    built=$?
+    exec 9>&-
+    return $built
+}
+
+# Installs packages, where apt-get and the right to use it are there, and says so before.
+install_packages() {
+    [ "$(id -u)" = 0 ] && command -v apt-get >/dev/null || return 1
+    echo "installing by apt-get, since it is missing here: $*"
+    { apt-get -q update && DEBIAN_FRONTEND=noninteractive apt-get -q install -y "$@"; } >/dev/null 2>&1
 }

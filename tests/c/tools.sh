@@ -19,26 +19,36 @@ look_for_tools() {
     esac
 }
 
-install_tools() {
-    [ "$(id -u)" = 0 ] && command -v apt-get >/dev/null || return 1
+# The packages that have them.
+packages() {
     case $(uname -m) in
-    x86_64) wanted='gcc libc6-dev' ;;
-    *) wanted='gcc-x86-64-linux-gnu libc6-dev-amd64-cross qemu-user' ;;
+    x86_64) echo gcc libc6-dev ;;
+    *) echo gcc-x86-64-linux-gnu libc6-dev-amd64-cross qemu-user ;;
     esac
-    # shellcheck disable=SC2086
-    { apt-get -q update && DEBIAN_FRONTEND=noninteractive apt-get -q install -y $wanted; } >/dev/null 2>&1
 }
 
-# Whether they are there and a program that is compiled so runs.
+# Whether they are there and a program that is compiled so runs; if not, $missing says what is not.
 tools_work() {
-    look_for_tools && mkdir -p target/c && echo 'int main(void) { return 0; }' >target/c/nothing.c &&
-        $compiler target/c/nothing.c -o target/c/nothing >/dev/null 2>&1 && $emulator target/c/nothing >/dev/null 2>&1
+    look_for_tools
+    missing='a C compiler for x86-64'
+    [ -n "$compiler" ] || return 1
+    missing='an emulator for x86-64, qemu-x86_64'
+    [ -n "$emulator" ] || [ "$(uname -m)" = x86_64 ] || return 1
+    missing='a C library for x86-64, or an emulator that runs what the compiler makes'
+    # another script may be asking the same at this moment
+    nothing=target/c/nothing.$$
+    mkdir -p target/c && echo 'int main(void) { return 0; }' >"$nothing.c" &&
+        $compiler "$nothing.c" -o "$nothing" >/dev/null 2>&1 && $emulator "$nothing" >/dev/null 2>&1
+    works=$?
+    rm -f "$nothing.c" "$nothing"
+    return $works
 }
 
-# Ends the script that sourced this, with one line, where C for x86-64 cannot be compiled or run.
+# Ends the script that sourced this, with a line that says what is missing, where C for x86-64 cannot be compiled or run.
 find_tools() {
-    tools_work || { install_tools && tools_work; } || {
-        echo "skipped: $1, since this machine has no C compiler for x86-64 that works, or no emulator to run what it makes"
+    # shellcheck disable=SC2046
+    tools_work || { install_packages $(packages) && tools_work; } || {
+        echo "skipped: $1, since this machine lacks $missing (packages: $(packages))"
         echo '0 passed, 0 failed'
         exit 0
     }

@@ -1,5 +1,5 @@
 -- What the calls on cards answer, from the tests that lead there.
-use Prim.Native.Nat.{ℕ, _-_, _%_, _^_, _<_, _≤_, _+_}
+use Prim.Native.Nat.{ℕ, _-_, _^_, _<_, _≤_, _+_}
 use native.Mathlib.Omega.{arith}
 use mathlib.Core.Path.{_≡_, ap, _∙_}
 use mathlib.Core.List.{List}
@@ -12,21 +12,10 @@ use Rattle.text.specs.Compare.{same}
 use Rattle.text.specs.Refusal.{ok, refused, pattern}
 use Rattle.text.specs.Card.{Row, Card, mostSegments, follow, wellFormed, samePattern, emptyCard, empty, joined, join, ask}
 use Rattle.text.proofs.Truth.{and-right}
-use Rattle.text.proofs.Bits.{bit-first}
 use Rattle.text.proofs.Patterns.{SoundPattern, pattern-refused, sound-pattern}
-use Rattle.text.proofs.Cards.{WellFormed, well}
+use Rattle.text.proofs.Cards.Formed.{WellFormed, well}
 use Rattle.card.proofs.Joins.{exit-small}
 use Rattle.card.proofs.Follows.{follow-short}
-
--- a state: bit 0 is set, and no bit from m up
-module _ (m st : ℕ) where
-  pub state-even : st % 2 ≡ 0 → false ≡ isState m st
-  unfolding isState
-  state-even e = rw (bit-first, e)
-
-  pub state-odd : (st % 2 ≡ 0 → ⊥) → ltb st (2 ^ m) ≡ isState m st
-  unfolding isState
-  state-odd ne = let one : st % 2 ≡ 1 = omega (arith, ne) in rw (bit-first, one)
 
 -- two cards of one pattern
 module _ (a b : Card) where

@@ -1,43 +1,29 @@
 -- The test of a card, as the code makes it: bit by bit, row by row, and then the whole card.
-use Prim.Native.Nat.{ℕ, zero, suc, _+_, _-_, _/_, _%_, _^_, _<_, _≤_}
+use Prim.Native.Nat.{ℕ, zero, suc, _+_, _%_, _^_, _<_, _≤_}
 use native.Mathlib.Nat.{mod-lt}
 use native.Mathlib.Numerals.{add-one}
-use native.Mathlib.Decide.{decLt}
 use native.Mathlib.Omega.{arith}
 use mathlib.Core.Path.{_≡_, refl, sym, _∙_}
-use mathlib.Core.Logic.{by-cases, Iff·rfl}
+use mathlib.Core.Logic.{Iff·rfl}
 use mathlib.Core.Bool.{Bool, true, false, cond, _&&_, _||_, Bool·beq}
 use mathlib.Core.List.{List}
 use borrow.Author.Tests.{lt-ltb, le-ltb, le-leb, lt-leb, eq-eqb, ne-eqb}
 use lib.Dec.{eqb, ltb, leb, lit<}
 use lib.ListN.{length, take, drop, getD, drop-of-length-le}
 use lib.Seq.{drop-cons, length-take-le}
-use lib.Pow.{pow-pos}
 use Rattle.text.specs.Letter.{base, every}
 use Rattle.text.specs.Compare.{same}
 use Rattle.text.specs.Bits.{bit}
 use Rattle.text.specs.Refusal.{ok, refused, pattern}
 use Rattle.text.specs.Card.{none, mostSegments, dead, padded, isRow, areRows, wellFormed}
-use Rattle.text.proofs.Truth.{and-left, and-true, and-false, not-true-false}
+use Rattle.text.proofs.Truth.{and-true, and-false, not-true-false}
 use Rattle.text.proofs.Tests.{and-test, lt-test, le-test, same-test}
 use Rattle.text.proofs.Outcomes.{refused-ok}
 use Rattle.text.proofs.Patterns.{SoundPattern, sound-pattern}
 use Rattle.text.proofs.Bits.{bit-first}
-use Rattle.search.proofs.Vectors.{low-ones}
 use Rattle.card.specs.declared.cards.Card.{Card as Held}
-use Rattle.card.specs.Cards.{cardIn, rowOf, rowsIn, Full, Bases, isPadded}
+use Rattle.card.specs.Cards.{cardIn, rowOf, rowsIn, Full, isPadded}
 use Rattle.card.proofs.Held.{rows-length, rows-row}
-
--- no bit from m up
-pub within-low : (m st : ℕ) → Bases m → leb st (0xffff_ffff_ffff_ffff / 2 ^ (64 - m)) ≡ ltb st (2 ^ m)
-within-low m st b =
-    rw (low-ones m (b .short))
-    (by-cases (decLt st (2 ^ m))
-    (λ (l : st < 2 ^ m). let k : st ≤ 2 ^ m - 1 = omega arith in le-leb st (2 ^ m - 1) k ∙ sym (lt-ltb st (2 ^ m) l))
-    (λ (l : ¬ (st < 2 ^ m)).
-    let k : 2 ^ m - 1 < st = omega (arith, pow-pos m) in
-    let far : 2 ^ m ≤ st = omega arith in
-    lt-leb st (2 ^ m - 1) k ∙ sym (le-ltb st (2 ^ m) far)))
 
 -- bit 0 as row q has it: set in row 0, clear in all other rows
 abbrev pub freshOf : ℕ → ℕ
@@ -142,12 +128,6 @@ module _ (bytes : List ℕ) (m : ℕ) (full : length bytes ≡ 64) (short : m �
   padded-right s =
       let some : 0 < m = omega (arith, s .some, head-long) in
       rw (lt-ltb 0 m some, le-leb m 64 short, s .bases) (sym (and-true _))
-
-pub padded-bases : (bytes : List ℕ) (m : ℕ) → isPadded bytes m ≡ true → Bases m
-unfolding isPadded
-padded-bases bytes m e =
-    let size = and-test (lt-test 0 m) (le-test m 64) .0 (and-left _ _ (and-left _ _ e)) in
-    record { some = size .0; short = size .1 }
 
 module _ (c : Held) where
   formed-is : wellFormed (cardIn c)

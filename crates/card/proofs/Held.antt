@@ -46,7 +46,7 @@ firsts-in [] (f ∷ fs) l = absurd (let z : ⊥ = omega arith in z)
 firsts-in (e ∷ es) [] l = absurd (let z : ⊥ = omega arith in z)
 firsts-in (e ∷ es) (f ∷ fs) l = ap (λ (fs : List ℕ). f ∷ fs) (firsts-in es fs (omega arith))
 
-rows-out : (rows : List Row) → rowsIn (exitsOf rows) (firstsOf rows) ≡ rows
+pub rows-out : (rows : List Row) → rowsIn (exitsOf rows) (firstsOf rows) ≡ rows
 unfolding rowsIn
 rows-out [] = refl
 rows-out (r ∷ rows) = ap (λ (rest : List Row). r ∷ rest) (rows-out rows)

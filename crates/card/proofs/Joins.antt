@@ -11,7 +11,8 @@ use lib.Pow.{pow-pos}
 use Rattle.text.specs.Refusal.{ok}
 use Rattle.text.specs.Card.{Row, Card, row, later, follow, onward, through, joined, join}
 use Rattle.text.proofs.Rows.{map-rows, row-map, through-dead}
-use Rattle.text.proofs.Cards.{WellFormed, Joinable, join-met}
+use Rattle.text.proofs.Cards.Formed.{WellFormed}
+use Rattle.text.proofs.Cards.Joined.{Joinable, join-met}
 use Rattle.card.specs.declared.cards.Card.{Card as Held}
 use Rattle.card.specs.Cards.{rowOf, rowsIn, exitsOf, firstsOf, cardIn, cardOut, Full}
 use Rattle.card.proofs.Held.{rows-set, exits-in, firsts-in, even, rows-length, rows-row}

@@ -1,3 +1,5 @@
 -- Cards as the calls have them.
 pub mod Cards
 pub mod Answers
+pub mod RowStep
+pub mod Rows

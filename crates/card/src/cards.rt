@@ -6,21 +6,21 @@ use crate::answers::refused;
 use crate::follow::follow;
 use crate::made::joined;
 use crate::made::nothing;
-use crate::made::padded;
-use crate::test::is_state;
+use crate::over::by_way_of;
 use crate::test::same_pattern;
 use crate::test::well_formed;
 use search::State;
-use search::rows;
 use text::Refusal;
 use text::pattern::PatternIs;
 use text::pattern::check;
 use text::refusal;
+use text::state::is_state;
+use text::strand::Strand;
+use text::strand::read_on;
 ghost use mathlib.Core.Path.{_≡_};
-ghost use Rattle.text.specs.Card.{empty, join, ask};
-ghost use Rattle.search.specs.Rows.{carding};
+ghost use Rattle.text.specs.Card.{join, ask};
 ghost use Rattle.card.specs.Cards.{cardIn};
-ghost use Rattle.card.specs.Answers.{made, toldAsked};
+ghost use Rattle.card.specs.Answers.{emptyOn, cardingOn, made, toldAsked};
 
 // What comes of each carried length: row q says what comes of a lone q carried in, row 0 of nothing carried in.
 pub struct Card {
@@ -33,43 +33,42 @@ pub struct Card {
 
 impl Card {
     // The most bases of a pattern.
-    pub const GREATEST_PATTERN: usize = 64;
+    pub const GREATEST_PATTERN: usize = refusal::GREATEST_PATTERN;
     // The most bytes of a stretch.
-    pub const GREATEST_STRETCH: usize = 32768;
+    pub const GREATEST_STRETCH: usize = refusal::GREATEST_STRETCH;
     // The most segments of a card.
     pub const MOST_SEGMENTS: u32 = 4294967294;
     // The first end where none is.
     pub const NONE: u32 = 4294967295;
 
-    // The card of no segments: refusals 1, 2, 3.
-    pub fn empty(pattern: &[u8]) -> Made
-        ensures { λ r. ⌜ r ≡ made (empty (now (pattern .entry))) ⌝ }
+    // The card of no segments, of the pattern as the strand reads it: refusals 1, 2, 3 of the pattern as given.
+    pub fn empty(pattern: &[u8], strand: Strand) -> Made
+        ensures { λ r. ⌜ r ≡ made (emptyOn (now (pattern .entry)) strand) ⌝ }
     {
         match check(pattern) {
             PatternIs::Refused(wrong) => refused(wrong.number, wrong.place),
-            PatternIs::Sound => accepted(nothing(pattern)),
+            PatternIs::Sound => {
+                let m = pattern.len();
+                let bytes = read_on(strand, pattern);
+                accepted(nothing(&bytes[..m]))
+            }
         }
     }
 
-    // The card of a stretch, which is walked once: refusals 1, 2, 3, then those of the stretch.
-    pub fn of(pattern: &[u8], stretch: &[u8]) -> Made
-        ensures { λ r. ⌜ r ≡ made (carding (now (pattern .entry)) (now (stretch .entry))) ⌝ }
+    // The card of a stretch, of the pattern as the strand reads it: refusals 1, 2, 3 of the pattern as given, then those of the
+    // stretch. It holds the pattern that the strand reads.
+    pub fn of(pattern: &[u8], strand: Strand, stretch: &[u8]) -> Made
+        ensures { λ r. ⌜ r ≡ made (cardingOn (now (pattern .entry)) strand (now (stretch .entry))) ⌝ }
     {
-        let found = rows(pattern, stretch);
-        let wrong = found.refusal;
-        if wrong.number != 0 {
-            return refused(wrong.number, wrong.place);
+        match check(pattern) {
+            PatternIs::Refused(wrong) => refused(wrong.number, wrong.place),
+            PatternIs::Sound => {
+                let m = pattern.len();
+                let bytes = read_on(strand, pattern);
+                let mut marks = [0u8; refusal::MOST_IN_STRETCH];
+                by_way_of(&bytes[..m], stretch, &mut marks)
+            }
         }
-        let bytes = padded(pattern);
-        let exits = found.exits;
-        let firsts = found.firsts;
-        accepted(Card {
-            pattern: bytes,
-            m: pattern.len() as u8,
-            segments: found.segments,
-            exits,
-            firsts,
-        })
     }
 
     // The card of two neighbours: refusals 11 of the left, 11 of the right, 12, 13.

@@ -4,33 +4,12 @@ use crate::made::padded;
 use text::compare::same;
 use text::pattern::PatternIs;
 use text::pattern::check;
+use text::state::within;
 ghost use mathlib.Core.Path.{_≡_};
-ghost use Prim.Native.Nat.{_≤_, _<_, _^_};
-ghost use lib.Dec.{ltb};
+ghost use Prim.Native.Nat.{_≤_};
 ghost use lib.ListN.{length};
-ghost use Rattle.text.specs.State.{isState};
 ghost use Rattle.text.specs.Card.{isRow, areRows, wellFormed, samePattern};
-ghost use Rattle.card.specs.Cards.{cardIn, rowOf, rowsIn, isPadded, Full, Bases};
-
-// Whether a number has no bit from m up.
-fn within(m: usize, bits: u64) -> bool
-    requires { ⌜ Bases m ⌝ }
-    ensures { λ r. ⌜ r ≡ ltb bits (2 ^ m) ⌝ }
-{
-    let low = 0xffff_ffff_ffff_ffff >> (64 - m);
-    bits <= low
-}
-
-// Whether a number is a state for m bases: bit 0 is set, and no bit from m up.
-pub fn is_state(m: usize, bits: u64) -> bool
-    requires { ⌜ Bases m ⌝ }
-    ensures { λ r. ⌜ r ≡ isState m bits ⌝ }
-{
-    if bits % 2 == 0 {
-        return false;
-    }
-    within(m, bits)
-}
+ghost use Rattle.card.specs.Cards.{cardIn, rowOf, rowsIn, isPadded, Full};
 
 // Whether the first m of 64 bytes are a pattern, and the others 0.
 fn is_padded(bytes: &[u8], m: usize) -> bool
@@ -49,7 +28,6 @@ fn is_padded(bytes: &[u8], m: usize) -> bool
 
 // Whether row q of a card of m bases and so many segments is as document 01 says.
 fn is_row(m: usize, segments: u32, q: usize, exit: u64, first: u32) -> bool
-    requires { ⌜ Bases m ⌝ }
     ensures { λ r. ⌜ r ≡ isRow m segments q (rowOf exit first) ⌝ }
 {
     if m <= q {
@@ -73,7 +51,7 @@ fn is_row(m: usize, segments: u32, q: usize, exit: u64, first: u32) -> bool
 
 // Whether all 64 rows are.
 fn are_rows(m: usize, segments: u32, exits: &[u64], firsts: &[u32]) -> bool
-    requires { ⌜ Bases m × Full (now exits) (now firsts) ⌝ }
+    requires { ⌜ Full (now exits) (now firsts) ⌝ }
     ensures { λ r. ⌜ r ≡ areRows m segments 0 (rowsIn (now (exits .entry)) (now (firsts .entry))) ⌝ }
 {
     let mut q = 0;

@@ -1,55 +1,48 @@
-// The feed, segment by segment, compared with the marks and the states of the third search.
-use crate::naive::Found;
-use crate::parts::letters_before;
-use crate::parts::variants_before;
+// The feed, segment by segment, each from the state that the one before it leads to.
+use crate::groups::FEEDS;
 use search::State;
 use std::num::wrapping_add_usize;
+use std::num::wrapping_sub_usize;
+use straight::Step;
+use straight::Verdict;
+use straight::part;
+use straight::segment_at;
+use straight::through;
+use tally::Answer;
 use tally::Tally;
 use tally::fed;
-use tally::part;
+use text::strand::Strand;
 
-// Where a segment stands in the bytes of its text: behind the segment count, and the counts, lengths and letters before it.
-fn place(lengths: &[u16], counts: &[u8], segment: usize) -> usize {
-    let variants = variants_before(counts, segment);
-    let letters = letters_before(lengths, variants);
-    let fields = wrapping_add_usize(wrapping_add_usize(segment, variants), variants);
-    wrapping_add_usize(wrapping_add_usize(2, fields), letters)
+// A lone segment is to lead from a state to the one that was found.
+fn one(tally: Tally, p: &[u8], strand: Strand, segment: &[u8], bits: u64, step: Step) -> Tally {
+    let state = State { bits };
+    let wanted = Answer::told(step.bits as usize, step.ends as usize, 0);
+    tally.compare(FEEDS, fed(state.feed(p, strand, segment)), wanted)
 }
 
-// A lone segment is to lead from the state that was found before it to the one behind it, and to have the mark that was found.
-fn compare_one(
-    before: Tally,
-    number: u64,
-    pattern: &[u8],
-    bytes: &[u8],
-    lengths: &[u16],
-    counts: &[u8],
-    found: Found,
-    segment: usize,
-) -> Tally {
-    let start = place(lengths, counts, segment);
-    let end = place(lengths, counts, wrapping_add_usize(segment, 1));
-    let state = State {
-        bits: found.state_behind(segment),
-    };
-    let got = fed(state.feed(pattern, part(bytes, start, end)));
-    before.compare(b"feed, text", number, got, found.step(segment))
+// The bytes of the segment of that number.
+fn segment(bytes: &[u8], number: usize) -> &[u8] {
+    let at = segment_at(bytes, number);
+    let end = segment_at(bytes, wrapping_add_usize(number, 1));
+    part(bytes, at, wrapping_sub_usize(end, at))
 }
 
-// Each segment of a text.
+// Each segment of a text. The strand reads `given` as P.
 pub fn compare(
-    before: Tally,
-    number: u64,
-    pattern: &[u8],
+    tally: Tally,
+    p: &[u8],
+    given: &[u8],
+    strand: Strand,
     bytes: &[u8],
-    lengths: &[u16],
-    counts: &[u8],
-    found: Found,
+    verdict: Verdict,
 ) -> Tally {
-    let mut t = before;
+    let mut t = tally;
+    let mut bits = 1;
     let mut j = 0;
-    while j < counts.len() {
-        t = compare_one(t, number, pattern, bytes, lengths, counts, found, j);
+    while j < verdict.segments {
+        let step = through(p, bytes, segment_at(bytes, j), bits);
+        t = one(t, given, strand, segment(bytes, j), bits, step);
+        bits = step.bits;
         j += 1;
     }
     t

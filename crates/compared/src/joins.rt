@@ -1,106 +1,65 @@
 // A text in two parts: their cards joined, and what cards make of the states before their parts.
 use crate::cards;
-use crate::naive::Found;
-use crate::parts::letters_before;
-use crate::parts::variants_before;
+use crate::groups::JOINS;
 use card::Card;
 use card::Made;
 use search::State;
-use std::num::wrapping_sub_u32;
-use stretch::Written;
-use stretch::write;
+use std::num::wrapping_add_usize;
+use std::num::wrapping_sub_usize;
+use straight::Verdict;
+use straight::part;
+use straight::run;
+use straight::segment_at;
 use tally::Answer;
 use tally::Tally;
 use tally::asked;
-use tally::lengths_part;
-use tally::part;
+use text::strand::Strand;
 
-// The card of a part of a text, which is written for it.
-fn card_of(p: &[u8], letters: &[u8], lengths: &[u16], counts: &[u8]) -> Made {
-    let mut out = [0u8; 2048];
-    match write(letters, lengths, counts, &mut out) {
-        Written::Bytes(bytes) => Card::of(p, part(&out, 0, bytes)),
-        Written::Refused(_) => Card::empty(b""),
-    }
+// What the card of a text makes of a state is what is found.
+fn ask(tally: Tally, p: &[u8], bytes: &[u8], bits: u64) -> Tally {
+    let found = run(p, bytes, straight::stretch(bytes), bits);
+    let wanted = Answer::told(found.bits as usize, found.first, 0);
+    let made = Card::of(p, Strand::Given, bytes);
+    tally.compare(JOINS, asked(made.card.ask(State { bits })), wanted)
 }
 
-// The card of the first `cut` segments.
-fn front(p: &[u8], letters: &[u8], lengths: &[u16], counts: &[u8], cut: usize) -> Made {
-    let variants = variants_before(counts, cut);
-    let at = letters_before(lengths, variants);
-    card_of(
-        p,
-        part(letters, 0, at),
-        lengths_part(lengths, 0, variants),
-        part(counts, 0, cut),
-    )
+// The card of the join of two texts.
+fn joined(p: &[u8], left: &[u8], right: &[u8]) -> Made {
+    let first = Card::of(p, Strand::Given, left);
+    let second = Card::of(p, Strand::Given, right);
+    first.card.join(second.card)
 }
 
-// The card of the segments behind them.
-fn back(p: &[u8], letters: &[u8], lengths: &[u16], counts: &[u8], cut: usize) -> Made {
-    let variants = variants_before(counts, cut);
-    let at = letters_before(lengths, variants);
-    card_of(
-        p,
-        part(letters, at, letters.len()),
-        lengths_part(lengths, variants, lengths.len()),
-        part(counts, cut, counts.len()),
-    )
-}
-
-// What a card makes of a state.
-fn ask(made: Made, bits: u64) -> Answer {
-    let card = made.card;
-    asked(card.ask(State { bits }))
-}
-
-// The state behind so many segments and the first end from one on, counted from that one.
-fn wanted(found: Found, from: usize, to: usize) -> Answer {
-    let start = (from % 65536) as u32;
-    let end = (to % 65536) as u32;
-    let first = found.first_from(from);
-    let told = if first < end {
-        wrapping_sub_u32(first, start)
-    } else {
-        Card::NONE
-    };
-    Answer::told(found.state_behind(to) as usize, told as usize, 0)
-}
-
-// The join is to be the card of the whole, and each of the three cards is to make of the state before it the state behind it.
-pub fn compare(
-    before: Tally,
-    number: u64,
+// The parts of a text, asked with the states before them, and joined.
+fn parts(
+    tally: Tally,
     p: &[u8],
-    letters: &[u8],
-    lengths: &[u16],
-    counts: &[u8],
-    cut: usize,
-    whole: Made,
-    found: Found,
+    bytes: &[u8],
+    verdict: Verdict,
+    left: &[u8],
+    right: &[u8],
 ) -> Tally {
-    let left = front(p, letters, lengths, counts, cut);
-    let right = back(p, letters, lengths, counts, cut);
-    let n = counts.len();
-    let joined = left.card.join(right.card);
-    let mut t = cards::same(before, number, p, joined, whole);
-    t = t.compare(
-        b"card asked, text",
-        number,
-        ask(whole, 1),
-        wanted(found, 0, n),
-    );
-    t = t.compare(
-        b"left card asked, text",
-        number,
-        ask(left, 1),
-        wanted(found, 0, cut),
-    );
-    let middle = found.state_behind(cut);
-    t.compare(
-        b"right card asked, text",
-        number,
-        ask(right, middle),
-        wanted(found, cut, n),
-    )
+    let first = ask(tally, p, left, 1);
+    let middle = run(p, left, straight::stretch(left), 1);
+    let t = ask(first, p, right, middle.bits);
+    cards::compare(t, JOINS, p, bytes, verdict, joined(p, left, right))
+}
+
+// A text whose first part is this one, and whose other part follows behind so many segments.
+fn back(tally: Tally, p: &[u8], bytes: &[u8], verdict: Verdict, left: &[u8], cut: usize) -> Tally {
+    let at = segment_at(bytes, cut);
+    let rest = part(bytes, at, wrapping_sub_usize(bytes.len(), at));
+    let mut right = [0u8; 2048];
+    let n = drawn::stretch(&mut right, wrapping_sub_usize(verdict.segments, cut), rest);
+    parts(tally, p, bytes, verdict, left, part(&right, 0, n))
+}
+
+// A text, asked whole, and cut behind some of its segments.
+pub fn compare(tally: Tally, p: &[u8], bytes: &[u8], verdict: Verdict) -> Tally {
+    let t = ask(tally, p, bytes, 1);
+    let cut = drawn::below(t.at, 800, wrapping_add_usize(verdict.segments, 1));
+    let at = segment_at(bytes, cut);
+    let mut left = [0u8; 2048];
+    let n = drawn::stretch(&mut left, cut, part(bytes, 2, wrapping_sub_usize(at, 2)));
+    back(t, p, bytes, verdict, part(&left, 0, n), cut)
 }

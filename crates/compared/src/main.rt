@@ -1,38 +1,75 @@
-// Compares the library's calls with a third search, an own reader and an own writer, all straight from the definitions, on
-// random texts and on damaged stretches. Prints what was compared and how often, and the first difference of each group.
-mod agree;
+// Compares the library's calls with a reader and a search straight from the definitions, on random texts and on damaged
+// stretches. Prints what was compared and how often, and the first difference.
 mod cards;
-mod damage;
-mod encode;
 mod feeds;
 mod groups;
 mod joins;
-mod lengths;
-mod naive;
-mod parts;
-mod patterns;
-mod random;
-mod runs;
+mod reads;
 mod searches;
-mod seen;
-mod segments;
-mod texts;
-mod verdicts;
+mod stretches;
 mod writes;
 
-use runs::Run;
+use straight::part;
+use tally::Tally;
 
 // How many texts are made.
-const TEXTS: u64 = 4000;
+const TEXTS: u64 = 5000;
 
-fn main() {
-    let mut run = Run::start();
+// Where the random numbers start.
+const SEED: u64 = 0x2545_f491_4f6c_dd1d;
+
+// The text of a tally's number, with a pattern for it.
+fn text(tally: Tally) -> Tally {
+    let seed = drawn::seed(SEED, tally.at as usize);
+    let mut bytes = [0u8; 2048];
+    let n = drawn::text(&mut bytes, seed);
+    searched(tally, part(&bytes, 0, n), seed)
+}
+
+// The text and a pattern, compared as they are, and then damaged.
+fn searched(tally: Tally, text: &[u8], seed: u64) -> Tally {
+    let mut bases = [0u8; 64];
+    let m = drawn::pattern(&mut bases, text, seed);
+    let pattern = part(&bases, 0, m);
+    let whole = stretches::compare(tally, groups::WHOLE, pattern, text);
+    spoilt(whole, pattern, text, seed)
+}
+
+// The text damaged, with a pattern that may be spoilt.
+fn spoilt(tally: Tally, pattern: &[u8], text: &[u8], seed: u64) -> Tally {
+    let mut bases = [0u8; 65];
+    let m = drawn::spoil(&mut bases, pattern, seed);
+    damaged(tally, part(&bases, 0, m), text, seed)
+}
+
+// The text damaged, and a pattern.
+fn damaged(tally: Tally, pattern: &[u8], text: &[u8], seed: u64) -> Tally {
+    let mut bytes = [0u8; 2048];
+    let n = drawn::damage(&mut bytes, text, seed);
+    stretches::compare(tally, groups::DAMAGED, pattern, part(&bytes, 0, n))
+}
+
+// All texts.
+fn texts() -> Tally {
+    let mut tally = Tally::NONE;
     let mut number = 0;
     while number < TEXTS {
-        run = run.next(number);
+        tally = text(tally.next(number));
         number += 1;
     }
-    run.whole.print(b"random texts");
-    run.damaged.print(b"damaged stretches");
-    run.groups.print();
+    tally
+}
+
+fn main() {
+    tally::print(
+        texts(),
+        b"random texts accepted\n\n\n\n\n\n\n\nrandom texts refused with 8\n\n\n\n\n\n\n\n\n\nsegments of random texts\n\
+          marked ones of them\n\n\n\n\n\n\n\n\n\n\n\n\ndamaged stretches accepted\ndamaged stretches refused with 1\n\
+          damaged stretches refused with 2\ndamaged stretches refused with 3\n\ndamaged stretches refused with 5\n\
+          damaged stretches refused with 6\ndamaged stretches refused with 7\ndamaged stretches refused with 8\n\
+          damaged stretches refused with 9\n\n\n\n\n\n\n\n\nsegments of damaged stretches\nmarked ones of them\n\n\n\n\nwrites\n\
+          checks\nreads, at every variant\nsearches, by bit-vectors and by border tables\nfeeds, segment by segment\n\
+          cards, row by row\njoins of two parts, and what cards tell of states\nsearches on both strands\n",
+        b" comparisons, ",
+    );
 }

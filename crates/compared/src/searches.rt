@@ -1,60 +1,91 @@
-// Both searches, each compared with what is wanted.
-use crate::naive::Found;
-use search::Searched;
+// The searches, each compared with what is found.
+use crate::groups::EITHER;
+use crate::groups::SEARCHES;
 use search::by_bits;
 use search::by_borders;
+use search::either;
+use straight::Ran;
+use straight::Verdict;
+use straight::part;
+use straight::put_part;
 use tally::Answer;
-use tally::BEFORE;
 use tally::Tally;
-use tally::WRONG_BYTES;
-use tally::holds;
-use tally::part;
+use tally::held;
+use tally::searched;
+use text::strand::Strand;
 
-// The answer of a search, where the marks hold what is wanted.
-fn answered(answer: Searched, marks: &[u8], wanted: &[u8]) -> Answer {
-    if !holds(marks, wanted) {
-        return Answer::refused(WRONG_BYTES, 0);
-    }
-    tally::searched(answer)
+// The search by bit-vectors, where it leaves these marks.
+fn bits(p: &[u8], strand: Strand, bytes: &[u8], left: &[u8]) -> Answer {
+    let mut marks = [7u8; 40];
+    let answer = searched(by_bits(p, strand, bytes, &mut marks));
+    held(answer, &marks, left)
+}
+
+// The search by border tables.
+fn borders(p: &[u8], strand: Strand, bytes: &[u8], left: &[u8]) -> Answer {
+    let mut marks = [7u8; 40];
+    let answer = searched(by_borders(p, strand, bytes, &mut marks));
+    held(answer, &marks, left)
+}
+
+// The search on both strands.
+fn united(p: &[u8], bytes: &[u8], left: &[u8]) -> Answer {
+    let mut marks = [7u8; 40];
+    let answer = searched(either(p, bytes, &mut marks));
+    held(answer, &marks, left)
 }
 
 // Each is to answer so and to leave these marks, and what stood behind them.
-pub fn compare(
-    before: Tally,
-    number: u64,
-    pattern: &[u8],
+fn both(
+    tally: Tally,
+    p: &[u8],
+    strand: Strand,
     bytes: &[u8],
-    wanted: &[u8],
-    answer: Answer,
+    marks: &[u8],
+    wanted: Answer,
 ) -> Tally {
-    let mut marks = [BEFORE; 24];
-    let bits = by_bits(pattern, bytes, &mut marks);
-    let got = answered(bits, &marks, wanted);
-    let t = before.compare(b"search by bit-vectors, text", number, got, answer);
-    let mut others = [BEFORE; 24];
-    let borders = by_borders(pattern, bytes, &mut others);
-    let other = answered(borders, &others, wanted);
-    t.compare(b"search by border tables, text", number, other, answer)
+    let mut left = [7u8; 40];
+    put_part(&mut left, 0, marks);
+    let t = tally.compare(SEARCHES, bits(p, strand, bytes, &left), wanted);
+    t.compare(SEARCHES, borders(p, strand, bytes, &left), wanted)
 }
 
-// Each is to mark what is found in a text of so many letters and segments.
-pub fn compare_found(
-    before: Tally,
-    number: u64,
-    pattern: &[u8],
+// What a search is to answer where so many segments are marked.
+fn wanted(verdict: Verdict, ends: usize) -> Answer {
+    Answer {
+        number: verdict.number,
+        place: verdict.place,
+        first: verdict.segments,
+        second: verdict.size,
+        third: ends,
+    }
+}
+
+// Each is to mark what is found in a text.
+pub fn compare(
+    tally: Tally,
+    p: &[u8],
+    strand: Strand,
     bytes: &[u8],
-    size: usize,
-    segments: usize,
-    found: Found,
+    verdict: Verdict,
+    found: Ran,
 ) -> Tally {
     let marks = found.marks;
-    let answer = Answer::told(segments, size, found.ends());
-    compare(
-        before,
-        number,
-        pattern,
+    both(
+        tally,
+        p,
+        strand,
         bytes,
-        part(&marks, 0, segments),
-        answer,
+        part(&marks, 0, verdict.segments),
+        wanted(verdict, found.ends),
     )
+}
+
+// The search on both strands is to mark what is found on either.
+pub fn compare_either(tally: Tally, p: &[u8], bytes: &[u8], verdict: Verdict, found: Ran) -> Tally {
+    let marks = found.marks;
+    let mut left = [7u8; 40];
+    put_part(&mut left, 0, part(&marks, 0, verdict.segments));
+    let answer = united(p, bytes, &left);
+    tally.compare(EITHER, answer, wanted(verdict, found.ends))
 }

@@ -1,60 +1,61 @@
-// The writer, compared with the own bytes of a text.
-use crate::agree::equal;
-use crate::encode::encode;
-use crate::texts::first_repeat;
+// The writer: what a text was taken apart into, written again.
+use crate::groups::WRITES;
+use straight::Verdict;
+use straight::part;
+use straight::put_part;
+use straight::variants_before;
+use straight::word_at;
 use stretch::write;
 use tally::Answer;
-use tally::BEFORE;
 use tally::Tally;
-use tally::WRONG_BYTES;
-use tally::holds;
+use tally::held;
 use tally::written;
 
-// The tally, and what is to be said of the write.
-pub struct Wrote {
-    pub tally: Tally,
-    pub answer: Answer,
+// What a write answers, where it leaves these bytes in front of its buffer.
+fn rewritten(letters: &[u8], lengths: &[u16], counts: &[u8], wanted: &[u8]) -> Answer {
+    let mut out = [7u8; 2048];
+    let answer = written(write(letters, lengths, counts, &mut out));
+    let mut left = [7u8; 2048];
+    put_part(&mut left, 0, wanted);
+    held(answer, &out, &left)
 }
 
-// Puts the own bytes, and tells how many, unless a variant is repeated: refusal 8.
-fn wanted(own: &mut [u8], letters: &[u8], lengths: &[u16], counts: &[u8]) -> Answer {
-    let repeat = first_repeat(letters, lengths, counts);
-    if repeat < lengths.len() {
-        return Answer::refused(8, repeat);
+// The first so many lengths.
+fn lengths_part(lengths: &[u16], n: usize) -> &[u16] {
+    if lengths.len() < n {
+        return &lengths[..0];
     }
-    let bytes = encode(&mut *own, letters, lengths, counts);
-    Answer::told(bytes, 0, 0)
+    &lengths[0..n]
 }
 
-// The write is to leave the same bytes as the own one, which are put into a buffer that holds the byte of before.
-pub fn compare(
-    before: Tally,
-    number: u64,
-    letters: &[u8],
-    lengths: &[u16],
-    counts: &[u8],
-    own: &mut [u8],
-) -> Wrote {
-    let answer = wanted(&mut *own, letters, lengths, counts);
-    let mut out = [BEFORE; 2048];
-    let told = written(write(letters, lengths, counts, &mut out));
-    let got = if equal(&out, own) {
-        told
-    } else {
-        Answer::refused(WRONG_BYTES, 0)
+// The parts of a text, written again.
+fn again(bytes: &[u8], segments: usize, wanted: &[u8]) -> Answer {
+    let variants = variants_before(bytes, segments);
+    let mut letters = [0u8; 2048];
+    let n = straight::letters(&mut letters, bytes, segments, variants);
+    let mut lengths = [0u16; 64];
+    straight::lengths(&mut lengths, bytes, segments);
+    let mut counts = [0u8; 32];
+    straight::counts(&mut counts, bytes);
+    let long = lengths_part(&lengths, variants);
+    rewritten(
+        part(&letters, 0, n),
+        long,
+        part(&counts, 0, segments),
+        wanted,
+    )
+}
+
+// A text that is accepted, and written as it was; or refused for a variant that is repeated, at its number.
+pub fn compare(tally: Tally, bytes: &[u8], verdict: Verdict) -> Tally {
+    let wanted = verdict.kept(bytes);
+    let got = again(bytes, word_at(bytes, 0), wanted);
+    let answer = Answer {
+        number: verdict.number,
+        place: verdict.before,
+        first: wanted.len(),
+        second: 0,
+        third: 0,
     };
-    Wrote {
-        tally: before.compare(b"write, text", number, got, answer),
-        answer,
-    }
-}
-
-// The answer of writing what was read from these bytes.
-pub fn rewritten(bytes: &[u8], letters: &[u8], lengths: &[u16], counts: &[u8]) -> Answer {
-    let mut out = [BEFORE; 2048];
-    let told = written(write(letters, lengths, counts, &mut out));
-    if !holds(&out, bytes) {
-        return Answer::refused(WRONG_BYTES, 0);
-    }
-    told
+    tally.compare(WRITES, got, answer)
 }

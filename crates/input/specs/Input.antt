@@ -2,6 +2,12 @@
 use Prim.Native.Nat.{ℕ, _+_}
 use mathlib.Core.List.{List}
 use lib.ListN.{take, drop, getD}
+use Rattle.stretch.specs.Bytes.{greatestStretch}
+
+-- the bytes of an input that count: the pattern's length, the longest pattern that a byte can announce, and a stretch of one byte over
+-- the limit
+abbrev pub mostRead : ℕ
+mostRead = 257 + greatestStretch
 
 -- the pattern's length, 0 where there is no input
 unfoldable pub announced : List ℕ → ℕ

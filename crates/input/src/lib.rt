@@ -1,8 +1,13 @@
 // The parts of the program's input. Where it ends inside the pattern, the bytes there are the pattern, and the stretch is empty.
-use stretch::bytes::wide;
+use stretch::number::wide;
+use text::refusal;
 ghost use mathlib.Core.Path.{_≡_};
 ghost use Prim.Native.Nat.{_<_};
 ghost use Rattle.input.specs.Input.{announced, patternIn, stretchIn};
+
+// The bytes of an input that count: the pattern's length, the longest pattern that a byte can announce, and a stretch of one byte over
+// the limit.
+pub const MOST_READ: usize = 257 + refusal::GREATEST_STRETCH;
 
 // The pattern's length, as its byte says it; 0 where there is no input.
 fn announced(input: &[u8]) -> usize

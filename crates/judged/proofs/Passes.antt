@@ -9,7 +9,8 @@ use Rattle.text.specs.State.{brings, sends, carries, nextBit, next, endsAt, end
 use Rattle.text.specs.Card.{later, firstEnd, tabulate, padded, ran, rowsOf, cardOf, isRow, areRows, wellFormed, earliest, union, follow}
 use Rattle.text.specs.Card.{onward, joined, samePattern, join}
 use Rattle.stretch.specs.Bytes.{word, wordBytes}
-use Rattle.stretch.specs.Reading.{among, variantAt, many, segmentAt, stretchOf}
+use Rattle.stretch.specs.Pieces.{fitsAt, openAt, variantsAt, headAt, closedAt}
+use Rattle.stretch.specs.Reading.{among, valueOf, formed, variantAt, many, segmentAt, stretchOf}
 use Rattle.stretch.specs.Encoding.{bytesOf, encodeVariant, encodeSegment, encode, all}
 use Rattle.judged.specs.Examples.{table}
 
@@ -17,6 +18,6 @@ use Rattle.judged.specs.Examples.{table}
 pub examples : all (λ b. b) table ≡ true
 unfolding all table same prefix suffix inside bit fromBits anyBelow anyOf base letter every firstNot total counted weight size brings
     sends carries nextBit next endsAt ends run marksFrom marks later firstEnd tabulate padded ran rowsOf cardOf isRow areRows
-    wellFormed earliest union follow onward joined samePattern join word wordBytes among variantAt many segmentAt stretchOf bytesOf
-    encodeVariant encodeSegment encode
+    wellFormed earliest union follow onward joined samePattern join word wordBytes fitsAt openAt variantsAt headAt closedAt among valueOf
+    formed variantAt many segmentAt stretchOf bytesOf encodeVariant encodeSegment encode
 examples = refl

@@ -1,129 +1,141 @@
-// Cards: those of document 01's example D, their join, what they answer when asked, the empty card, and what is refused.
-use crate::malformed;
+// The calls on cards, as the lines give them. There is a left card and a right one; `make` puts a new one on the right.
+use crate::bytes;
+use crate::words::number;
+use crate::words::pattern;
+use crate::words::strand;
+use crate::words::word;
 use card::Card;
 use card::Made;
 use search::State;
+use straight::number_at;
+use straight::part;
 use tally::Answer;
 use tally::Tally;
+use tally::asked;
+use tally::held;
 use tally::row;
 
-// A card whose row q is to be so, of so many segments.
-fn rowed(tally: Tally, answer: Made, q: usize, exit: usize, first: u32, segments: usize) -> Tally {
-    tally.judge(row(answer, q), Answer::told(exit, first as usize, segments))
+// PATTERN STRETCH: the card of a stretch, or of no segments where it is a dash.
+pub fn of(line: &[u8]) -> Made {
+    let mut out = [0u8; 256];
+    let text = word(line, 2);
+    let n = bytes::stretch(&mut out, text, 2);
+    if text.len() == 0 {
+        return Card::empty(pattern(line), strand(line));
+    }
+    Card::of(pattern(line), strand(line), part(&out, 0, n))
 }
 
-// A join whose row q is to be so, of so many segments.
-pub fn joins(
-    tally: Tally,
-    left: Card,
-    right: Card,
-    q: usize,
-    exit: usize,
-    first: u32,
-    segments: usize,
-) -> Tally {
-    rowed(tally, left.join(right), q, exit, first, segments)
+// A card's m, where its pattern is all zeros.
+fn nameless(made: Made) -> Answer {
+    let card = made.card;
+    let pattern = card.pattern;
+    held(Answer::told(card.m as usize, 0, 0), &pattern, &[0; 64])
 }
 
-// A call that is to be refused, with the card of zeros beside it.
-pub fn refused(tally: Tally, answer: Made, number: u64, place: usize) -> Tally {
-    let t = tally.judge(row(answer, 0), Answer::refused(number, place));
-    t.judge(row(answer, 63), Answer::refused(number, place))
-}
-
-// The answer of asking: the bits of the state and the first end, or the refusal.
-pub fn asked(card: Card, bits: u64) -> Answer {
-    let state = State { bits };
-    tally::asked(card.ask(state))
-}
-
-// A card that is to make that of a state.
-fn tells(tally: Tally, card: Card, bits: u64, next: usize, first: u32) -> Tally {
-    tally.judge(asked(card, bits), Answer::told(next, first as usize, 0))
-}
-
-// D's first two segments, {CGA,G}{e,T}.
-fn front() -> Made {
-    Card::of(
-        b"GATTA",
-        b"\x02\x00\x02\x03\x00CGA\x01\x00G\x02\x00\x00\x01\x00T",
-    )
-}
-
-// D's last three segments, {TTAC,AT}{TA,e}{A,GATTAG}.
-fn back() -> Made {
-    Card::of(
-        b"GATTA",
-        b"\x03\x00\x02\x04\x00TTAC\x02\x00AT\x02\x02\x00TA\x00\x00\x02\x01\x00A\x06\x00GATTAG",
-    )
-}
-
-// Their rows, and those of their join.
-fn rows(tally: Tally) -> Tally {
-    let left = front();
-    let right = back();
-    let mut t = rowed(tally, left, 0, 15, Card::NONE, 2);
-    t = rowed(t, right, 0, 3, 2, 3);
-    t = rowed(t, right, 1, 0, 1, 3);
-    t = rowed(t, right, 2, 0, 0, 3);
-    t = rowed(t, right, 3, 0, Card::NONE, 3);
-    t = rowed(t, right, 4, 0, 0, 3);
-    t = rowed(t, right, 5, 0, Card::NONE, 3);
-    joins(t, left.card, right.card, 0, 3, 2, 5)
-}
-
-// The join is the card of the whole of D: row by row the same.
-fn whole(tally: Tally, d: &[u8]) -> Tally {
-    let left = front();
-    let right = back();
-    let all = Card::of(b"GATTA", d);
-    let joined = left.card.join(right.card);
-    let mut t = tally;
+// A card that is to be refused, and all zeros.
+fn refused(tally: Tally, group: usize, made: Made, wanted: Answer) -> Tally {
+    let mut t = tally.compare(group, nameless(made), Answer::told(0, 0, 0));
     let mut q = 0;
-    while q < 64 {
-        t = t.judge(row(joined, q), row(all, q));
+    while q < Card::GREATEST_PATTERN {
+        t = t.compare(group, row(made, q), wanted);
         q += 1;
     }
     t
 }
 
-// What D's last three segments make of states.
-fn asks(tally: Tally) -> Tally {
-    let right = back();
-    let card = right.card;
-    let mut t = tells(tally, card, 1, 3, 2);
-    t = tells(t, card, 9, 3, 2);
-    t = tells(t, card, 3, 3, 1);
-    t = tells(t, card, 15, 3, 0);
-    t = t.judge(asked(card, 0), Answer::refused(17, 0));
-    t = t.judge(asked(card, 2), Answer::refused(17, 0));
-    t.judge(asked(card, 33), Answer::refused(17, 0))
+// A card whose row q is to be so, or that is to be refused.
+pub fn compare(tally: Tally, group: usize, made: Made, q: usize, wanted: Answer) -> Tally {
+    if wanted.number != 0 {
+        return refused(tally, group, made, wanted);
+    }
+    tally.compare(group, row(made, q), wanted)
 }
 
-// The empty card, whose join with another is that one.
-fn empty(tally: Tally) -> Tally {
-    let right = back();
-    let nothing = Card::empty(b"GATTA");
-    let mut t = rowed(tally, nothing, 0, 1, Card::NONE, 0);
-    t = rowed(t, nothing, 4, 16, Card::NONE, 0);
-    t = rowed(t, nothing, 5, 0, Card::NONE, 0);
-    t = joins(t, nothing.card, right.card, 1, 0, 1, 3);
-    t = joins(t, right.card, nothing.card, 1, 0, 1, 3);
-    tells(t, nothing.card, 21, 21, Card::NONE)
+// equal PATTERN STRETCH: the join of both cards is to have the rows of that card.
+pub fn equal(tally: Tally, group: usize, left: Card, right: Card, line: &[u8]) -> Tally {
+    let joined = left.join(right);
+    let whole = of(line);
+    let mut t = tally;
+    let mut q = 0;
+    while q < Card::GREATEST_PATTERN {
+        t = t.compare(group, row(joined, q), row(whole, q));
+        q += 1;
+    }
+    t
 }
 
-// The refusals of a pattern and of a stretch.
-fn refusals(tally: Tally) -> Tally {
-    let mut t = refused(tally, Card::empty(b""), 1, 0);
-    t = refused(t, Card::empty(&[b'A'; 65]), 2, 0);
-    t = refused(t, Card::empty(b"GANTA"), 3, 2);
-    t = refused(t, Card::of(b"", b""), 1, 0);
-    t = refused(t, Card::of(b"A", b"\x00"), 5, 0);
-    refused(t, Card::of(b"A", b"\x01\x00\x02\x00\x00\x00\x00"), 8, 5)
+// What a card makes of a state.
+pub fn ask(card: Card, bits: u64) -> Answer {
+    let state = State { bits };
+    asked(card.ask(state))
 }
 
-// `d` is the bytes of D.
-pub fn run(tally: Tally, d: &[u8]) -> Tally {
-    let right = back();
-    malformed::run(refusals(empty(asks(whole(rows(tally), d)))), right.card)
+// broken: the right card is malformed. It is refused on the right of a join, on the left, on both sides, and asked; the left one
+// is refused first, and a state that is none is not asked for.
+pub fn broken(tally: Tally, group: usize, sound: Card, card: Card) -> Tally {
+    let wanted = Answer::refused(11, 0);
+    let right = refused(tally, group, sound.join(card), Answer::refused(11, 1));
+    let left = refused(right, group, card.join(sound), wanted);
+    let both = refused(left, group, card.join(card), wanted);
+    let state = both.compare(group, ask(card, 1), wanted);
+    state.compare(group, ask(card, 0), wanted)
+}
+
+// The card with another byte of its pattern.
+fn with_base(card: Card, i: usize, base: u8) -> Card {
+    let mut pattern = card.pattern;
+    let exits = card.exits;
+    let firsts = card.firsts;
+    pattern[i % 64] = base;
+    Card {
+        pattern,
+        m: card.m,
+        segments: card.segments,
+        exits,
+        firsts,
+    }
+}
+
+// The card with another pattern length and another segment count.
+fn with_counts(card: Card, m: u8, segments: u32) -> Card {
+    let pattern = card.pattern;
+    let exits = card.exits;
+    let firsts = card.firsts;
+    Card {
+        pattern,
+        m,
+        segments,
+        exits,
+        firsts,
+    }
+}
+
+// The card with another row.
+fn with_row(card: Card, q: usize, exit: u64, first: u32) -> Card {
+    let pattern = card.pattern;
+    let mut exits = card.exits;
+    let mut firsts = card.firsts;
+    exits[q % 64] = exit;
+    firsts[q % 64] = first;
+    Card {
+        pattern,
+        m: card.m,
+        segments: card.segments,
+        exits,
+        firsts,
+    }
+}
+
+// put m segments COUNT, put base i BASE, put row q exit first: the right card with other fields.
+pub fn put(card: Card, line: &[u8]) -> Card {
+    let field = number_at(line, 4);
+    let a = number(line, 2);
+    let b = number(line, 3);
+    let c = (number(line, 4) % 4294967296) as u32;
+    match field {
+        109 => with_counts(card, (a % 256) as u8, (b % 4294967296) as u32),
+        98 => with_base(card, a, (number_at(word(line, 3), 0) % 256) as u8),
+        _ => with_row(card, a, b as u64, c),
+    }
 }

@@ -1,3 +1,2 @@
 -- Laws of the definitions in specs/.
-pub mod Found
 pub mod Cuts

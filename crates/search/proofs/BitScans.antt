@@ -17,14 +17,14 @@ use lib.Pow.{pow-pos, pow-lt, ones-split, ones-lt}
 use lib.Seq.{take-suc, take-all, getD-take, getD-set-same, getD-set-other}
 use Rattle.text.specs.Letter.{letter, every}
 use Rattle.text.specs.Text.{Variant}
-use Rattle.text.specs.Bits.{bit, fromBits, anyOf}
-use Rattle.text.specs.State.{next, endsAt, ends}
+use Rattle.text.specs.Bits.{bit, fromBits}
+use Rattle.text.specs.State.{next, endsAt}
 use Rattle.text.proofs.Truth.{or-false, or-right, and-true, and-false}
 use Rattle.text.proofs.Letters.{every-snoc}
 use Rattle.text.proofs.Bits.{bit-ext, bit-above, bit-zero, bit-or, bit-and, bit-fromBits, fromBits-lt, bit-single, bit-shl, bit-shl-below, bit-mod, bit-mod-above, bit-shr-test}
 use Rattle.text.proofs.Snoc.{_▸_}
 use Rattle.text.proofs.Steps.{next-open}
-use Rattle.text.proofs.Scan.{empty-state, empty-ends, scan-state, scan-ends}
+use Rattle.text.proofs.Scan.{one-ends, empty-state, empty-ends, scan-state, scan-ends}
 use Rattle.search.specs.Masks.{maskOf, bases, Masks, Ready}
 use Rattle.search.specs.Words.{Words}
 
@@ -159,11 +159,6 @@ classed bad false = ne-eqb (bitOr bad 1) 0 (λ e. true≢false (sym odd ∙ ap (
     odd : bit (bitOr bad 1) 0 ≡ true
     odd = bit-or bad 1 0 ∙ or-right (bit bad 0) (bit 1 0) (bit-single 0 0)
 
--- an occurrence ends in a lone variant
-pub ends-lone : (P : List ℕ) (st : ℕ) (v : Variant) → ends P st (v ∷ []) ≡ endsAt P st v
-unfolding ends anyOf
-ends-lone P st v = or-false (endsAt P st v)
-
 -- i letters of the variant v have been read
 pub record Scanning (P : List ℕ) (st : ℕ) (v : Variant) (i d hits bad : ℕ) : Type 0 where
   pub inside : i ≤ length v
@@ -259,7 +254,7 @@ module _ (P : List ℕ) (st : ℕ) (v : Variant) (i d hits bad : ℕ) (s : Scann
       record {
         state = λ r h. s .state r h ∙ ap (λ (t : List ℕ). bit (next P st (t ∷ [])) r) all;
         fits = s .fits;
-        end = s .ended ∙ ap (endsAt P st) all ∙ sym (ends-lone P st v);
+        end = s .ended ∙ ap (endsAt P st) all ∙ sym (one-ends P st v);
       }
 
   pub scanning-wrong : not (eqb bad 0) ≡ not (every letter v)

@@ -26,7 +26,7 @@ module _ (P : List ℕ) (c : ℕ) where
     where
       most : (r : ℕ) → r ≤ length P → Suffix (take r P) (take 0 P ++ (c ∷ [])) → r ≤ 0
       most zero h x = omega arith
-      most (suc zero) h x = absurd (f (last-base P [] c 0 l x .last))
+      most (suc zero) h x = absurd (f (last-base P [] c 0 l x .1))
       most (suc (suc r)) h x = omega (arith, next-length P 0 c (suc (suc r)) (le-of-lt l) h x)
 
   -- base k does not fit: whatever ends behind the border of k ends behind k
@@ -39,7 +39,7 @@ module _ (P : List ℕ) (c : ℕ) where
       upto : (r : ℕ) → r ≤ length P → Suffix (take r P) (take k P ++ (c ∷ [])) → r ≤ suc (k - 1)
       upto zero h e = omega arith
       upto (suc r) h e =
-          let other : r ≡ k → ⊥ = λ (q : r ≡ k). f (ap (λ (i : ℕ). getD P i 0) (sym q) ∙ last-base P (take k P) c r h e .last) in
+          let other : r ≡ k → ⊥ = λ (q : r ≡ k). f (ap (λ (i : ℕ). getD P i 0) (sym q) ∙ last-base P (take k P) c r h e .1) in
           omega (arith, next-length P k c (suc r) (le-of-lt l) h e)
 
 -- a fallback from k has come down to q: whatever ends behind q ends behind k

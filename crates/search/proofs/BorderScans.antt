@@ -4,7 +4,7 @@ use native.Mathlib.Nat.{le-refl, le-of-lt}
 use native.Mathlib.Numerals.{add-one}
 use native.Mathlib.Omega.{arith}
 use mathlib.Core.Path.{_≡_, refl, ap}
-use mathlib.Core.Logic.{⊎-elim}
+use mathlib.Core.Logic.{⊎-elim, inl}
 use mathlib.Core.Bool.{Bool, true, false, false≢true}
 use mathlib.Core.List.{List, [], _∷_, _++_}
 use lib.ListN.{length, take, getD, length-append}
@@ -12,7 +12,8 @@ use lib.Seq.{take-suc, take-all, take-length}
 use Rattle.text.specs.Occurrence.{Suffix, Inside}
 use Rattle.search.specs.Border.{Longest, Next, Borders, Matched, Sized}
 use Rattle.search.specs.BorderStep.{Scans}
-use Rattle.search.proofs.BorderStrings.{suffix-none, suffix-inside, inside-more, inside-snoc}
+use Rattle.text.proofs.Snoc.{inside-less, inside-more}
+use Rattle.search.proofs.BorderStrings.{suffix-none, suffix-inside}
 use Rattle.search.proofs.BorderLengths.{ends-length, grow, longest-below}
 use Rattle.search.proofs.BorderTables.{filled-below}
 
@@ -53,8 +54,8 @@ module _ {P s : List ℕ} {k : ℕ} {whole : Bool} (c : ℕ) {x : ℕ} (sized : 
   scans-part other = record {
     ends = longest;
     inside = (
-      λ t. inside-more (c ∷ []) (g .inside .0 t),
-      λ h. ⊎-elim (g .inside .1) (λ (y : Suffix P (s ++ (c ∷ []))). absurd (other (is-whole y))) (inside-snoc P s c h),
+      λ t. inside-more s c P (inl (g .inside .0 t)),
+      λ h. ⊎-elim (g .inside .1) (λ (y : Suffix P (s ++ (c ∷ []))). absurd (other (is-whole y))) (inside-less s c P h),
     );
   }
     where

@@ -20,8 +20,8 @@ use Rattle.text.proofs.Outcomes.{demand-met, after-met, ok-inj}
 use Rattle.text.proofs.Steps.{next-open, next-lt}
 use Rattle.text.proofs.Marks.{run-append, marks-append}
 use Rattle.stretch.specs.Bytes.{greatestStretch}
-use Rattle.stretch.specs.Pieces.{fitsAt}
-use Rattle.stretch.specs.Reading.{mostInStretch, segmentOf, loneSegment, stretchOf}
+use Rattle.stretch.specs.Pieces.{fitsAt, mostInStretch}
+use Rattle.stretch.specs.Reading.{segmentOf, loneSegment, stretchOf}
 use Rattle.stretch.proofs.Stretches.{stretch-most, stretch-short}
 use Rattle.search.specs.Answers.{Next, into, feeding, seeking, seenFrom}
 use Rattle.search.specs.Chain.{segmentsText, feeds, markOf, stretchesText, Trail, seeks}

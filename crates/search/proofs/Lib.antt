@@ -22,4 +22,5 @@ pub mod BorderCarried
 pub mod BorderWalks
 pub mod BorderSteps
 pub mod Chains
+pub mod Told
 pub mod Theorems

@@ -17,5 +17,5 @@ ready-borders method P table classes st e t state =
     record {
       sized = record { some = t .founded .some; short = t .founded .short };
       holds = subst (λ (m : Method). TableOf m P table) e (t .founded .holds);
-      small = state .small;
+      state = state;
     }

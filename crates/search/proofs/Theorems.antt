@@ -21,14 +21,14 @@ use Rattle.text.proofs.Outcomes.{ok-inj}
 use Rattle.text.proofs.Marks.{marks-length}
 use Rattle.text.proofs.Occurrences.{marks-ends, state-carried}
 use Rattle.stretch.specs.Bytes.{over}
-use Rattle.stretch.specs.Reading.{mostInStretch}
+use Rattle.stretch.specs.Pieces.{mostInStretch}
 use Rattle.stretch.specs.Answers.{leftBy}
-use Rattle.search.specs.Answers.{Next, Sums, sumsOf, searching, toldSearched}
+use Rattle.search.specs.Answers.{Next, sumsOf, searching, toldSearched}
 use Rattle.search.specs.Either.{eitherMarks, eitherSums}
 use Rattle.search.specs.Chain.{segmentsText, feeds, markOf, stretchesText, Trail, seeks}
 use Rattle.search.specs.declared.searching.Searched.{Searched}
-use Rattle.search.specs.declared.searching.Searched.the-variants.{Marked, Refused}
 use Rattle.search.proofs.Entries.{fresh-state}
+use Rattle.search.proofs.Told.{searched-once}
 use Rattle.search.proofs.Eithers.{one, either-length, either-ones, either-at}
 use Rattle.search.proofs.Chains.{steps, feeds-steps, steps-marks, steps-states, seeks-text}
 
@@ -48,20 +48,6 @@ search-marks P strand s out t j some e l =
     let more : 0 < length Q = rw (strand-length strand P) some in
     rw (left-at (marks Q) (searching P s (length out)) out t j e inside) (marks-ends Q t j more)
 
--- two answers that are told alike are the same answer
-pub told-once : (a b : Searched) → toldSearched a ≡ toldSearched b → a ≡ b
-told-once (Marked n z m) (Marked n′ z′ m′) e =
-    let p : n ≡ n′ = ap (λ (x : Sums). x .segments) (ok-inj e) in
-    let q : z ≡ z′ = ap (λ (x : Sums). x .size) (ok-inj e) in
-    let r : m ≡ m′ = ap (λ (x : Sums). x .ends) (ok-inj e) in
-    cc
-told-once (Marked n z m) (Refused r) e = cc
-told-once (Refused r) (Marked n z m) e = cc
-told-once (Refused r) (Refused r′) e =
-    let n : r .number ≡ r′ .number = cc in
-    let p : r .place ≡ r′ .place = cc in
-    ap₂ (λ (a b : ℕ). Refused (record { number = a; place = b })) n p
-
 -- what both searches promise of their answer and of the buffer that they leave
 abbrev pub Promised : List ℕ → Strand → List ℕ → List ℕ → Searched → List ℕ → Type 0
 Promised P strand s out answer left =
@@ -71,7 +57,7 @@ Promised P strand s out answer left =
 -- so they give the same answer and the same marks on every input
 pub searches-agree : (P : List ℕ) (strand : Strand) (s out : List ℕ) (a b : Searched) (left left′ : List ℕ) → Promised P strand s out a left
     → Promised P strand s out b left′ → (a ≡ b) × (left ≡ left′)
-searches-agree P strand s out a b left left′ p q = (told-once a b (p .0 ∙ sym (q .0)), p .1 ∙ sym (q .1))
+searches-agree P strand s out a b left left′ p q = (searched-once a b (p .0 ∙ sym (q .0)), p .1 ∙ sym (q .1))
 
 -- what the search on both strands promises of its answer and of the buffer that it leaves
 abbrev pub PromisedEither : List ℕ → List ℕ → List ℕ → Searched → List ℕ → Type 0
@@ -86,7 +72,7 @@ either-refuses P strand s out a c left both p q n k e =
     let one : toldSearched a ≡ refused n k = rw e at (p .0) in
     let two : toldSearched c ≡ refused n k = rw e at (q .0) in
     let same : both ≡ out = rw e at (q .1) in
-    (told-once c a (two ∙ sym one), same)
+    (searched-once c a (two ∙ sym one), same)
 
 -- else the marks that it leaves are the union of those that the search leaves on the strand as given and on the opposite one
 pub either-unites : (P s out : List ℕ) (a b c : Searched) (given turned both : List ℕ) → Promised P Given s out a given

@@ -19,8 +19,10 @@ use Rattle.text.specs.Refusal.{ok, refused}
 use Rattle.text.proofs.Bits.{bit-ext, bit-zero, bit-or, bit-mod, bit-single}
 use Rattle.text.proofs.Letters.{first-le, first-every, first-not-every}
 use Rattle.text.proofs.Steps.{next-lt}
+use Rattle.text.proofs.Scan.{one-ends}
 use Rattle.text.proofs.Folds.{next-none, next-snoc, ends-none, ends-snoc}
-use Rattle.stretch.specs.Reading.{lettersAt, valueOf, variantAt, valuesFrom, many}
+use Rattle.stretch.specs.Pieces.{lettersAt}
+use Rattle.stretch.specs.Reading.{valueOf, variantAt, valuesFrom, many}
 use Rattle.stretch.proofs.Heads.{Whole, whole-part, value-part, value-length}
 use Rattle.stretch.proofs.Units.{variant-read}
 use Rattle.stretch.proofs.Segments.{InSegment, in-none, in-next, in-not}
@@ -28,7 +30,7 @@ use Rattle.search.specs.Step.{Steps}
 use Rattle.search.specs.Words.{Words, LettersBy, SweptAt}
 use Rattle.search.specs.declared.segment.Swept.{Swept}
 use Rattle.search.specs.declared.segment.Swept.the-variants.{To, Refused}
-use Rattle.search.proofs.BitScans.{low-ones, top-bit, ends-lone}
+use Rattle.search.proofs.BitScans.{low-ones, top-bit}
 use Rattle.search.proofs.Passes.{Taking}
 
 words-none : (P : List ℕ) (st : ℕ) → 0 < length P → st % 2 ≡ 1 → Words P st [] 1 0
@@ -50,7 +52,7 @@ words-more P st g v a h b j w u =
           ∙ sym (ap (λ (n : ℕ). bit n r) (next-snoc P st g v) ∙ bit-or (next P st g) (next P st (v ∷ [])) r);
       fits = or-lt (length P) h j (w .fits) (u .fits);
       end =
-          bit-or h j (length P - 1) ∙ ap₂ _||_ (w .end) (u .end ∙ ends-lone P st v) ∙ sym (ends-snoc P st g v);
+          bit-or h j (length P - 1) ∙ ap₂ _||_ (w .end) (u .end ∙ one-ends P st v) ∙ sym (ends-snoc P st g v);
     }
 
 -- bits from m up are cleared
@@ -85,7 +87,7 @@ module _ (P : List ℕ) (st : ℕ) (v : Variant) (bits : ℕ) where
       record {
         state = λ r l. ap (λ (n : ℕ). bit n r) (t .state);
         fits = pow-pos (length P);
-        end = bit-zero (length P - 1) ∙ sym miss ∙ t .end ∙ sym (ends-lone P st v);
+        end = bit-zero (length P - 1) ∙ sym miss ∙ t .end ∙ sym (one-ends P st v);
       }
 
   pub words-hit : 0 < length P → length P ≤ 64 → {end : Bool} → Steps P st v bits end → end ≡ true → Words P st (v ∷ []) bits (1 * 2 ^ (length P - 1) % 2 ^ 64)
@@ -98,7 +100,7 @@ module _ (P : List ℕ) (st : ℕ) (v : Variant) (bits : ℕ) where
       (record {
         state = λ r l. ap (λ (n : ℕ). bit n r) (t .state);
         fits = pow-lt near;
-        end = bit-single (length P - 1) (length P - 1) ∙ eq-eqb (length P - 1) (length P - 1) refl ∙ sym hit ∙ t .end ∙ sym (ends-lone P st v);
+        end = bit-single (length P - 1) (length P - 1) ∙ eq-eqb (length P - 1) (length P - 1) refl ∙ sym hit ∙ t .end ∙ sym (one-ends P st v);
       })
 
 -- letters that were looked at before their step

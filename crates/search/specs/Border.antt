@@ -1,8 +1,9 @@
 -- Borders: how far the first bases of a pattern end a string, and what a table of borders holds.
-use Prim.Native.Nat.{ℕ, _-_, _^_, _≤_, _<_}
+use Prim.Native.Nat.{ℕ, _-_, _≤_, _<_}
 use mathlib.Core.List.{List, [], _∷_, _++_}
 use lib.ListN.{length, take, getD}
 use Rattle.text.specs.Occurrence.{Suffix}
+use Rattle.search.specs.Masks.{StateOf}
 
 -- of the lengths up to n, k is the greatest at which the first bases of P end s
 pub record Longest (P s : List ℕ) (n k : ℕ) : Type 0 where
@@ -37,8 +38,8 @@ pub record Sized (P : List ℕ) : Type 0 where
   pub some : 0 < length P
   pub short : length P ≤ 64
 
--- what a step by borders rests on: a pattern of 1 to 64 bases with its table, and a state below 2 ^ m
+-- what a step by borders rests on: a pattern of 1 to 64 bases with its table, and one of its states
 pub record Bordered (P table : List ℕ) (st : ℕ) : Type 0 where
   pub sized : Sized P
   pub holds : Borders P table
-  pub small : st < 2 ^ length P
+  pub state : StateOf P st

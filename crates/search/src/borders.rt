@@ -3,9 +3,7 @@
 // for the chain of borders at its end and for each carried length.
 use crate::borders::begun::begun;
 use crate::borders::carried::carried;
-ghost use Prim.Native.Nat.{_<_, _^_};
-ghost use lib.ListN.{length};
-ghost use Rattle.search.specs.Border.{Borders, Sized};
+ghost use Rattle.search.specs.Border.{Bordered};
 ghost use Rattle.search.specs.Step.{Steps};
 
 mod begun;
@@ -20,17 +18,12 @@ pub struct Stepped {
     pub ends: bool,
 }
 
-// The state that `bits` leads to by one variant, and whether an occurrence ends in it. Where bit 0 is clear nothing begins.
+// The state that `bits` leads to by one variant, and whether an occurrence ends in it.
 pub fn step_borders(pattern: &[u8], table: &[u64; 256], bits: u64, variant: &[u8]) -> Stepped
-    requires { ⌜ Sized (now pattern) ⌝ }
-    requires { ⌜ Borders (now pattern) (now table) ⌝ }
-    requires { ⌜ bits < 2 ^ length (now pattern) ⌝ }
+    requires { ⌜ Bordered (now pattern) (now table) bits ⌝ }
     ensures { λ r. ⌜ Steps (now (pattern .entry)) bits (now (variant .entry)) (r .bits) (r .ends) ⌝ }
 {
     let sent = carried(pattern, bits, variant);
-    if bits % 2 == 0 {
-        return sent;
-    }
     let fresh = begun(pattern, table, variant);
     Stepped {
         bits: sent.bits | fresh.bits,

@@ -78,7 +78,7 @@ fn variant_by(
 
 impl State {
     // The state behind the segment at `at`: refusals 5 to 8. It is the union of what the segment's variants lead to.
-    pub fn over(
+    pub(crate) fn over(
         self,
         method: Method,
         pattern: &[u8],

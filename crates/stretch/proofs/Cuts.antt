@@ -5,10 +5,11 @@ use native.Mathlib.Omega.{arith}
 use mathlib.Core.Path.{_≡_, refl, ap, _∙_}
 use mathlib.Core.List.{List, [], _∷_, _++_}
 use lib.ListN.{length, take, drop, getD, length-take, length-drop}
-use lib.Seq.{drop-cons, drop-drop, take-add}
+use lib.Seq.{drop-cons, drop-drop}
 use Rattle.text.specs.Text.{total}
 use Rattle.text.proofs.Sizes.{total-append}
 use Rattle.stretch.specs.Bytes.{part}
+use Rattle.stretch.proofs.Stands.{part-add}
 use Rattle.stretch.specs.Cuts.{cut, sum, sumFrom, pieces, Within, Behind}
 
 -- some numbers and then the rest
@@ -21,10 +22,6 @@ pub length-cut : {A : Type 0} (ns : List ℕ) (l : List A) → length (cut ns l)
 unfolding cut
 length-cut [] l = refl
 length-cut (n ∷ ns) l = ap suc (length-cut ns (drop n l))
-
--- the numbers from number k on: i of them, and then n more
-part-add : (ns : List ℕ) (k i n : ℕ) → part ns k (i + n) ≡ part ns k i ++ part ns (k + i) n
-part-add ns k i n = rw (take-add, drop-drop)
 
 part-first : (ns : List ℕ) (k n : ℕ) → k < length ns → part ns k (suc n) ≡ getD ns k 0 ∷ part ns (k + 1) n
 part-first ns k n l = rw (add-one, drop-cons ns k 0)

@@ -47,6 +47,7 @@ module _ (seen : Segment) (v : Variant) (l : Segment) (f : Fresh seen (v ∷ l))
 -- a segment that can be written has variants, and they can stand there
 pub record Writable (g : Segment) : Type 0 where
   pub some : 0 < length g
+  pub few : length g ≤ 255
   pub fresh : Fresh [] g
 
 pub writable-segment : (g : Segment) → writableSegment g ≡ true → Writable g
@@ -59,6 +60,7 @@ writable-segment g w =
     let two : (some && few) ≡ true = and-left (some && few) letters three in
     record {
       some = ltb-true 0 (length g) (and-left some few two);
+      few = leb-true (length g) 255 (and-right some few two);
       fresh = record {
         letters = and-right (some && few) letters three;
         once = and-right (some && few && letters) (distinct [] g) w;

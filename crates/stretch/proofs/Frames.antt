@@ -2,7 +2,7 @@
 -- stretch and of a lone segment is by these.
 use Prim.Native.Nat.{ℕ, _+_, _≤_, _<_}
 use native.Mathlib.Omega.{arith}
-use mathlib.Core.Path.{_≡_, refl, sym, ap, _∙_}
+use mathlib.Core.Path.{_≡_, sym, ap, _∙_}
 use mathlib.Core.List.{List, []}
 use mathlib.Core.Bool.{Bool, true, false}
 use borrow.Author.Tests.{ltb-true, leb-true, eqb-true, lt-ltb, le-ltb, le-leb, lt-leb, eq-eqb, ne-eqb}
@@ -64,9 +64,6 @@ module _ (s : List ℕ) where
     fits-met is =
         leb-true (length s) greatestStretch
         (demand-met (leb (length s) greatestStretch) 4 0 (ok tt) tt (sym told ∙ ap toldVerdict is) .0)
-
-    pub fits-on : v ≡ Sound → {A : Type 0} (o : Outcome A) → fits s o ≡ o
-    fits-on is o = rw (le-leb (length s) greatestStretch (fits-met is))
 
     pub open-long : {w : Refusal} → v ≡ Verdict.Refused w → openAt s ≡ refused (w .number) (w .place)
     unfolding openAt

@@ -13,7 +13,7 @@ use Rattle.stretch.specs.Cuts.{cut, sumFrom, pieces}
 use Rattle.stretch.specs.Writing.{Spot, spot, given, Matching, variantGiven, segmentGiven, segmentsGiven}
 use Rattle.stretch.specs.Answers.{reached}
 use Rattle.stretch.proofs.Walks.{Walk, walk-none, walk-more, walk-refused, walk-length}
-use Rattle.stretch.proofs.Givens.{reached-refused, reached-ok, variants-are}
+use Rattle.stretch.proofs.GivenSegment.{reached-refused, reached-ok, variants-are}
 use Rattle.stretch.proofs.Texts.{Matched, matched-none, matched-within, matched-more, given-first}
 
 module _ (letters lengths counts : List ℕ) where

@@ -2,12 +2,12 @@
 use Prim.Native.Nat.{ℕ, _+_, _-_, _≤_, _<_}
 use native.Mathlib.Omega.{arith}
 use mathlib.Core.Path.{_≡_, refl, sym, ap, _∙_}
-use mathlib.Core.Bool.{Bool, true, false}
 use mathlib.Core.List.{List}
-use borrow.Author.Tests.{leb-true, leb-false, le-leb, lt-leb}
+use borrow.Author.Tests.{leb-true, le-leb, lt-leb}
 use lib.Dec.{leb}
 use lib.ListN.{length, take, drop, length-take, length-drop}
-use Rattle.text.specs.Refusal.{ok, refused, demand}
+use Rattle.text.specs.Refusal.{ok, refused}
+use Rattle.text.proofs.Outcomes.{ok-inj, demand-met}
 use Rattle.stretch.specs.Bytes.{word}
 use Rattle.stretch.specs.Pieces.{lettersAt, nextOf, Span, headAt}
 use Rattle.stretch.specs.Reading.{valueOf}
@@ -23,27 +23,21 @@ unfolding headAt
 head-cut s at l = rw (lt-leb (nextOf s at) (length s) l)
 
 -- found with the number n that its length states
-pub head-found : (s : List ℕ) (at n : ℕ) → n ≡ word s at → nextOf s at ≤ length s → headAt s at ≡ ok (record { start = at + 2; next = at + 2 + n })
+pub head-found :
+    (s : List ℕ) (at n : ℕ) → n ≡ word s at → nextOf s at ≤ length s → headAt s at ≡ ok (record { start = at + 2; next = at + 2 + n })
 unfolding headAt
 head-found s at n e l = rw (le-leb (nextOf s at) (length s) l, e)
 
 pub head-is : (s : List ℕ) (at start next : ℕ) → headAt s at ≡ ok (record { start = start; next = next }) → Whole s at start next
 unfolding headAt
-head-is s at start next e = go (leb (nextOf s at) (length s)) refl e
-  where
-    go : (b : Bool) → leb (nextOf s at) (length s) ≡ b → demand {A = Span} b 5 at (ok (record { start = at + 2; next = nextOf s at })) ≡ ok (record { start = start; next = next }) → Whole s at start next
-    go true t e =
-        let p : _≡_ {A = Span} (record { start = at + 2; next = nextOf s at }) (record { start = start; next = next }) = cc in
-        record { starts = sym (ap (λ (x : Span). x .start) p); ends = sym (ap (λ (x : Span). x .next) p); inside = leb-true (nextOf s at) (length s) t }
-    go false t e = absurd (let z : _≡_ {A = ℕ} 0 1 = cc in let y : ⊥ = omega arith in y)
-
-pub head-not : (s : List ℕ) (at n p : ℕ) → headAt s at ≡ refused n p → length s < nextOf s at
-unfolding headAt
-head-not s at n p e = go (leb (nextOf s at) (length s)) refl e
-  where
-    go : (b : Bool) → leb (nextOf s at) (length s) ≡ b → demand {A = Span} b 5 at (ok (record { start = at + 2; next = nextOf s at })) ≡ refused n p → length s < nextOf s at
-    go true t e = absurd (let z : _≡_ {A = ℕ} 0 1 = cc in let y : ⊥ = omega arith in y)
-    go false t e = leb-false (nextOf s at) (length s) t
+head-is s at start next e =
+    let (fits, is) = demand-met (leb (nextOf s at) (length s)) 5 at _ (record { start = start; next = next }) e in
+    let p : _≡_ {A = Span} (record { start = at + 2; next = nextOf s at }) (record { start = start; next = next }) = ok-inj is in
+    record {
+      starts = sym (ap (λ (x : Span). x .start) p);
+      ends = sym (ap (λ (x : Span). x .next) p);
+      inside = leb-true (nextOf s at) (length s) fits;
+    }
 
 -- the part from start to next is the variant's letters
 pub whole-part : (s : List ℕ) (at start next : ℕ) → Whole s at start next → take (next - start) (drop start s) ≡ lettersAt s at

@@ -12,9 +12,9 @@ use Rattle.text.proofs.Truth.{and-left, and-right}
 use Rattle.stretch.specs.Bytes.{wordBytes}
 use Rattle.stretch.specs.Encoding.{bytesOf, encodeVariant, encodeSegment, all}
 
-variant-length : (v : Variant) → length (encodeVariant v) ≡ 2 + length v
+pub length-variant : (v : Variant) → length (encodeVariant v) ≡ 2 + length v
 unfolding encodeVariant wordBytes
-variant-length v = omega arith
+length-variant v = omega arith
 
 -- a segment that has variants, as each of an accepted stretch
 abbrev pub filled : Segment → Bool
@@ -24,7 +24,7 @@ filled g = ltb 0 (length g)
 filled-length : (g : Segment) → filled g ≡ true → 3 ≤ length (encodeSegment g)
 unfolding encodeSegment bytesOf
 filled-length [] f = absurd (let z : ⊥ = omega (arith, ltb-true 0 0 f) in z)
-filled-length (v ∷ g) f = omega (arith, length-append (encodeVariant v) (bytesOf encodeVariant g), variant-length v)
+filled-length (v ∷ g) f = omega (arith, length-append (encodeVariant v) (bytesOf encodeVariant g), length-variant v)
 
 pub filled-lengths : (t : Text) → all filled t ≡ true → 3 * length t ≤ length (bytesOf encodeSegment t)
 unfolding bytesOf all

@@ -1,31 +1,38 @@
--- Laws of the definitions in specs/, and the theorems about them.
-pub mod Words
+-- Laws of the definitions in specs/, and the theorems about the calls.
+pub mod Told
+pub mod Theorems
+-- numbers and parts in the bytes
+pub mod Stands
+pub mod Overs
+-- the pieces of a walk: a variant's head, the test for repetition, the verdict, the frame
 pub mod Heads
-pub mod Repeats
+pub mod Skips
+pub mod RepeatsInBytes
+pub mod Verdicts
 pub mod Walks
 pub mod Frames
-pub mod Verdicts
+-- walks over the variants of a segment and the segments of a stretch
 pub mod Units
 pub mod Segments
 pub mod Stretches
-pub mod Overs
-pub mod Stands
+-- bytes and texts are inverse
 pub mod Rows
 pub mod Lengths
 pub mod Decoding
 pub mod Encoding
 pub mod Refusals
-pub mod Skips
-pub mod Places
-pub mod Readings
-pub mod Calls
-pub mod Readers
-pub mod Passing
-pub mod ReadingOn
+-- reading
+pub mod TextPlaces
+pub mod ReadsAtPlace
+pub mod ReadsOnward
+pub mod CallReturned
+pub mod ReaderOwned
+pub mod ReaderMethods
+-- writing
 pub mod Totals
 pub mod Cuts
-pub mod Repetitions
-pub mod Givens
+pub mod RepeatsInWrite
+pub mod GivenSegment
 pub mod Texts
 pub mod GivenText
 pub mod SegmentBytes
@@ -33,3 +40,4 @@ pub mod TextBytes
 pub mod Writings
 pub mod Writable
 pub mod RoundTrips
+pub mod Rewriting

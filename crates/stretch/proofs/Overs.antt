@@ -40,6 +40,11 @@ module _ (d : List ℕ) (at : ℕ) where
         let far : at + length (xs ++ ys) ≡ n + m = simp length-append (omega arith) in
         rw (first, front, behind, far) (simp append-assoc)
 
+-- what is written at the front stands there
+pub over-front : (d xs : List ℕ) (n : ℕ) → length xs ≡ n → take n (over d 0 xs) ≡ xs
+unfolding over
+over-front d xs n e = take-at xs (drop (0 + length xs) d) n e
+
 -- two numbers set one after the other
 pub over-two : (d : List ℕ) (at a b : ℕ) → at + 2 ≤ length d → set (set d at a) (at + 1) b ≡ over d at (a ∷ b ∷ [])
 over-two d at a b l =

@@ -1,6 +1,6 @@
--- Round trips of reading and writing: what a write writes reads back as what it was given, and a text that can be written, taken
--- apart and written, is the same text; so an accepted stretch that is read and written again is the same bytes.
-use Prim.Native.Nat.{ℕ, _+_, _<_, _≤_}
+-- A text that can be written, taken apart and written, is the same text; so an accepted stretch that is read and written again is the
+-- same bytes.
+use Prim.Native.Nat.{ℕ, _+_, _≤_}
 use native.Mathlib.Nat.{add-zero}
 use native.Mathlib.Omega.{arith}
 use mathlib.Core.Path.{_≡_, refl, sym, ap, _∙_}
@@ -21,19 +21,10 @@ use Rattle.stretch.specs.Writing.{Spot, spot, given, Matching, needed, v
 use Rattle.stretch.specs.Writing.{lettersOf, lengthsOf, countsOf}
 use Rattle.stretch.proofs.Stands.{Bytes, Stands, stands-front, stands-back, stands-at}
 use Rattle.stretch.proofs.Rows.{Row, row-many}
-use Rattle.stretch.proofs.Encoding.{Fresh, fresh-letters, fresh-once, fresh-rest, writable-segment, stretch-of}
+use Rattle.stretch.proofs.Encoding.{Fresh, fresh-letters, fresh-once, fresh-rest, writable-segment}
 use Rattle.stretch.proofs.Decoding.{stretch-bytes, stretch-writable}
 use Rattle.stretch.proofs.Texts.{needed-is}
 use Rattle.stretch.proofs.GivenText.{next-segment, text-is}
-use Rattle.stretch.proofs.Writable.{writing-writable}
-
--- what a write writes reads back as the segments that it was given
-pub written-back :
-    (letters lengths counts : List ℕ) (room : ℕ) (t : Text) → ((k : ℕ) → getD counts k 0 < 256) →
-    writing letters lengths counts room ≡ ok t → stretchOf (encode t) ≡ ok (given letters lengths counts)
-written-back letters lengths counts room t bytes e =
-    let (is, w) = writing-writable letters lengths counts bytes room t e in
-    stretch-of t w ∙ ap ok is
 
 flatten-append : {A : Type 0} (l k : List (List A)) → flatten (l ++ k) ≡ flatten l ++ flatten k
 unfolding flatten
@@ -139,23 +130,32 @@ apart-accepted t w =
     let walk = row-many (next-segment letters lengths counts) t [] (spot 0 0) _ row in
     (_, rw (← length-map t length) at walk)
 
+-- it is cut out of its own letters, and needs the bytes that it has
+pub record Apart (t : Text) : Type 0 where
+  pub matching : Matching (lettersOf t) (lengthsOf t) (countsOf t)
+  pub last : Spot
+  pub walk : segmentsGiven (lettersOf t) (lengthsOf t) (countsOf t) ≡ ok (record { value = t; next = last })
+  pub size : needed (lettersOf t) (lengthsOf t) (countsOf t) ≡ length (encode t)
+
+pub apart : (t : Text) → all writableSegment t ≡ true → Apart t
+apart t w =
+    let m = apart-matching t in
+    let (last, walk) = apart-accepted t w in
+    let is : t ≡ given (lettersOf t) (lengthsOf t) (countsOf t) = text-is m (record { value = t; next = last }) walk in
+    record { matching = m; last = last; walk = walk; size = rw (← is) at (needed-is m) }
+
 -- a text that can be written, taken apart and written, is the same text
 pub written-again :
     (t : Text) (room : ℕ) → writable t ≡ true → length (encode t) ≤ room → writing (lettersOf t) (lengthsOf t) (countsOf t) room ≡ ok t
 unfolding writing writable
 written-again t room w l =
-    let good : all writableSegment t ≡ true = and-left (all writableSegment t) (leb (length (encode t)) greatestStretch) w in
-    let small = and-right (all writableSegment t) (leb (length (encode t)) greatestStretch) w in
-    let m = apart-matching t in
-    let (last, walk) = apart-accepted t good in
-    let is : t ≡ given (lettersOf t) (lengthsOf t) (countsOf t) = text-is m (record { value = t; next = last }) walk in
-    let size : needed (lettersOf t) (lengthsOf t) (countsOf t) ≡ length (encode t) = rw (← is) at (needed-is m) in
+    let a = apart t (and-left (all writableSegment t) (leb (length (encode t)) greatestStretch) w) in
     rw (
-      eq-eqb (sum (countsOf t)) (length (lengthsOf t)) (m .listed),
-      eq-eqb (sum (lengthsOf t)) (length (lettersOf t)) (m .spelt),
-      size,
-      small,
-      walk,
+      eq-eqb (sum (countsOf t)) (length (lengthsOf t)) (a .matching .listed),
+      eq-eqb (sum (lengthsOf t)) (length (lettersOf t)) (a .matching .spelt),
+      a .size,
+      and-right (all writableSegment t) (leb (length (encode t)) greatestStretch) w,
+      a .walk,
       le-leb (length (encode t)) room l,
     )
 

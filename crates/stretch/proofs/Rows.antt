@@ -1,10 +1,10 @@
 -- Things read one after another, seen as a row: each stands where the one before it ends. `many` accepts a row, and a row is
 -- what it accepts; so what holds of each thing read holds of all of them, and bytes that are written one after another are read.
-use Prim.Native.Nat.{ℕ, zero, suc, _+_, _<_}
+use Prim.Native.Nat.{ℕ, zero, suc, _+_}
 use native.Mathlib.Nat.{add-assoc}
 use native.Mathlib.Omega.{arith}
 use mathlib.Core.Path.{_≡_, refl, sym, ap, _∙_}
-use mathlib.Core.Bool.{Bool, true}
+use mathlib.Core.Bool.{Bool, true, _&&_, and-assoc}
 use mathlib.Core.List.{List, [], _∷_, _++_, append-nil, append-assoc}
 use lib.ListN.{length, length-append}
 use Rattle.text.specs.Refusal.{Outcome, ok}
@@ -13,6 +13,12 @@ use Rattle.text.proofs.Outcomes.{ok-inj, after-met}
 use Rattle.stretch.specs.Reading.{Taken, many}
 use Rattle.stretch.specs.Encoding.{bytesOf, all}
 use Rattle.stretch.proofs.Stands.{Bytes, Stands, stands-both, stands-front, stands-back}
+
+-- what all of two lists have, all of both have
+pub all-append : {A : Type 0} (f : A → Bool) (l k : List A) → all f (l ++ k) ≡ (all f l && all f k)
+unfolding all
+all-append f [] k = refl
+all-append f (a ∷ l) k = rw (all-append f l k) (sym (and-assoc (f a) (all f l) (all f k)))
 
 -- the members of l are read by f one after another, the first behind those seen, and `next` is the place behind the last
 unfoldable pub Row : {A B : Type 0} → (List A → B → Outcome (Taken A B)) → List A → B → List A → B → Type 0
@@ -55,20 +61,6 @@ module _ {A B : Type 0} (f : List A → B → Outcome (Taken A B)) where
   row-many [] seen at next r = rw (append-nil, r)
   row-many (a ∷ l) seen at next r =
       rw (r .1) (row-many l (seen ++ (a ∷ [])) (r .0) next (r .2) ∙ rw append-assoc)
-
-  -- two rows, one behind the other
-  pub row-append :
-      (l k seen : List A) (at place next : B) → Row f seen at l place → Row f (seen ++ l) place k next → Row f seen at (l ++ k) next
-  unfolding Row
-  row-append [] k seen at place next r q = rw (r, ← append-nil seen) q
-  row-append (a ∷ l) k seen at place next r q = (r .0, r .1, row-append l k (seen ++ (a ∷ [])) (r .0) place next (r .2) (rw append-assoc q))
-
-  -- a row may begin at any place that reads the same
-  pub row-from :
-      (p q : B) (l seen : List A) (next : B) → f seen p ≡ f seen q → 0 < length l → Row f seen q l next → Row f seen p l next
-  unfolding Row
-  row-from p q [] seen next e some r = absurd (let z : ⊥ = omega arith in z)
-  row-from p q (a ∷ l) seen next e some r = (r .0, e ∙ r .1, r .2)
 
   -- what each read gives, all have
   pub row-all :

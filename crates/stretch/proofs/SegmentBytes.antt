@@ -10,7 +10,7 @@ use Rattle.stretch.specs.Encoding.{bytesOf, encodeVariant, encodeSegment
 use Rattle.stretch.specs.Cuts.{sumFrom, pieces, Within}
 use Rattle.stretch.proofs.Cuts.{Passing, passing-none, passing-number, passing-inside, passing-more}
 use Rattle.stretch.proofs.Cuts.{part-slice, length-part, pieces-rest, pieces-over, length-pieces}
-use Rattle.stretch.proofs.Texts.{length-variant}
+use Rattle.stretch.proofs.Lengths.{length-variant}
 use Rattle.stretch.proofs.Overs.{over-set, over-over, Emitted, emitted-none, emitted-room, emitted-more, emitted-end}
 
 -- a variant is its length and then its letters

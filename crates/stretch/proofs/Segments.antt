@@ -4,25 +4,24 @@ use Prim.Native.Nat.{ℕ, zero, suc, _+_, _-_, _≤_, _<_}
 use native.Mathlib.Omega.{arith}
 use mathlib.Core.Path.{_≡_, sym, ap, _∙_}
 use mathlib.Core.List.{List, [], _∷_, _++_, append-nil, append-assoc}
-use lib.ListN.{length, getD}
+use lib.ListN.{length}
 use Rattle.text.specs.Text.{Variant, Segment, total, counted, weight}
-use Rattle.text.specs.Refusal.{ok, refused, after}
+use Rattle.text.specs.Refusal.{ok, refused}
 use Rattle.text.proofs.Sizes.{counted-le}
 use Rattle.text.proofs.Outcomes.{ok-inj, after-met, told-met, told-refused}
 use Rattle.stretch.specs.Bytes.{word}
 use Rattle.stretch.specs.Pieces.{nextOf}
 use Rattle.stretch.specs.Reading.{Taken, valueOf, variantAt, valuesFrom, many, segmentAt}
 use Rattle.stretch.specs.Skips.{stepped, behindVariants, UpTo}
-use Rattle.stretch.specs.Variants.{soundAt}
-use Rattle.stretch.specs.Answers.{walkedSegment}
+use Rattle.stretch.specs.Answers.{spanAt, walkedSegment}
 use Rattle.stretch.proofs.Heads.{value-length}
-use Rattle.stretch.proofs.Units.{sound-read}
-pub use Rattle.stretch.proofs.Units.{Read, variant-read}
-use Rattle.stretch.proofs.Frames.{variants-cut, variants-none, variants-some}
-use Rattle.stretch.proofs.Walks.{Step, Walk, walk-refused, Summed, summed-none, summed-more}
+use Rattle.stretch.proofs.Units.{variant-read, span-read, span-read-not}
+use Rattle.stretch.proofs.Walks.{Step, walk-refused, Summed, summed-none, summed-more}
 
 -- what a walk has read are the values from its start on
-many-values : (s : List ℕ) (k : ℕ) (seen : Segment) (at : ℕ) (x : Taken Segment ℕ) → many (variantAt s) k seen at ≡ ok x → x .value ≡ seen ++ valuesFrom s k at
+many-values :
+    (s : List ℕ) (k : ℕ) (seen : Segment) (at : ℕ) (x : Taken Segment ℕ) → many (variantAt s) k seen at ≡ ok x →
+    x .value ≡ seen ++ valuesFrom s k at
 unfolding many valuesFrom
 many-values s zero seen at x e = ap (λ (y : Taken Segment ℕ). y .value) (sym (ok-inj e)) ∙ sym (append-nil seen)
 many-values s (suc k) seen at x e =
@@ -32,7 +31,9 @@ many-values s (suc k) seen at x e =
     ∙ append-assoc seen (valueOf s at ∷ []) (valuesFrom s k (nextOf s at))
 
 -- variants that were read are stepped over
-many-behind : (s : List ℕ) (k : ℕ) (seen : Segment) (at : ℕ) (x : Taken Segment ℕ) → many (variantAt s) k seen at ≡ ok x → behindVariants s k at ≡ x .next
+many-behind :
+    (s : List ℕ) (k : ℕ) (seen : Segment) (at : ℕ) (x : Taken Segment ℕ) → many (variantAt s) k seen at ≡ ok x →
+    behindVariants s k at ≡ x .next
 unfolding many stepped
 many-behind s zero seen at x e = ap (λ (y : Taken Segment ℕ). y .next) (ok-inj e)
 many-behind s (suc k) seen at x e =
@@ -69,64 +70,53 @@ module _ (s : List ℕ) (first k : ℕ) (seen : Segment) (at size : ℕ) (m : In
   in-next x more e count =
       rw count (summed-more (variantAt s) weight (length s) (variant-steps s) first k seen at size m x (rw in-values e))
 
-  pub in-not : (n : ℕ) → k < n → (j p : ℕ) → variantAt s (valuesFrom s k first) at ≡ refused j p → many (variantAt s) n [] first ≡ refused j p
+  pub in-not :
+      (n : ℕ) → k < n → (j p : ℕ) → variantAt s (valuesFrom s k first) at ≡ refused j p → many (variantAt s) n [] first ≡ refused j p
   in-not n l j p e = walk-refused (variantAt s) first k seen at (m .walk) n l j p (rw in-values e)
 
-  -- the same told by its span
-  pub in-more : (start next more : ℕ) → soundAt s first k at ≡ ok (record { start = start; next = next }) → more ≡ counted (next - start)
-      → InSegment s first (k + 1) (seen ++ (valueOf s at ∷ [])) next (size + more)
+  -- the same told by where its letters stand
+  pub in-more : (start next more : ℕ) → spanAt s (valuesFrom s k first) at ≡ ok (record { start = start; next = next })
+      → more ≡ counted (next - start) → InSegment s first (k + 1) (seen ++ (valueOf s at ∷ [])) next (size + more)
   unfolding weight
   in-more start next more e count =
-      let (w, read) = sound-read s first k at start next e in
+      let (w, read) = span-read s (valuesFrom s k first) at start next e in
       let long : next - start ≡ length (valueOf s at) = omega (arith, value-length s at (w .inside), w .starts, w .ends) in
       in-next (record { value = valueOf s at; next = next }) more read (count ∙ ap counted long)
 
-  pub in-refused : (n : ℕ) → k < n → (j p : ℕ) → soundAt s first k at ≡ refused j p → many (variantAt s) n [] first ≡ refused j p
-  unfolding soundAt
-  in-refused n l j p e =
-      in-not n l j p (told-refused (variantAt s (valuesFrom s k first) at) (λ x. record { start = at + 2; next = x .next }) j p e)
+  pub in-refused : (n : ℕ) → k < n → (j p : ℕ) → spanAt s (valuesFrom s k first) at ≡ refused j p
+      → many (variantAt s) n [] first ≡ refused j p
+  in-refused n l j p e = in-not n l j p (span-read-not s (valuesFrom s k first) at j p e)
 
   pub in-all : (n : ℕ) → k ≡ n → many (variantAt s) n [] first ≡ ok (record { value = seen; next = at })
   in-all n done = rw (← done) (m .walk)
 
--- what reading a segment answers, from the tests and the walk
+-- what is told of a segment, and what was read where it is told
+abbrev summed : Taken Segment ℕ → Taken ℕ ℕ
+summed x = record { value = total weight (x .value); next = x .next }
+
 module _ (s : List ℕ) (at : ℕ) where
-  pub segment-cut : length s ≤ at → segmentAt s at ≡ refused 5 at
-  unfolding segmentAt
-  segment-cut l = rw (variants-cut s at l)
+  pub walked-refused : (j p : ℕ) → segmentAt s at ≡ refused j p → walkedSegment s at ≡ refused j p
+  unfolding walkedSegment
+  walked-refused j p e = rw e
 
-  module _ (l : at < length s) (count : ℕ) (e : count ≡ getD s at 0) where
-    pub segment-none : count ≡ 0 → segmentAt s at ≡ refused 6 at
-    unfolding segmentAt
-    segment-none z = rw (variants-none s at l count e z)
+  pub walked-done :
+      (next size : ℕ) (g : Segment) → segmentAt s at ≡ ok (record { value = g; next = next }) → size ≡ total weight g →
+      walkedSegment s at ≡ ok (record { value = size; next = next })
+  unfolding walkedSegment
+  walked-done next size g e sum = rw (e, sum)
 
-    module _ (some : count ≡ 0 → ⊥) where
-      pub segment-variants : segmentAt s at ≡ many (variantAt s) count [] (at + 1)
-      unfolding segmentAt
-      segment-variants = rw (variants-some s at l count e some)
+  pub walked-met :
+      (next size : ℕ) → walkedSegment s at ≡ ok (record { value = size; next = next }) →
+      (g : Segment) × (segmentAt s at ≡ ok (record { value = g; next = next })) × (total weight g ≡ size)
+  unfolding walkedSegment
+  walked-met next size e =
+      let (x, read, is) = told-met (segmentAt s at) summed (record { value = size; next = next }) e in
+      let ends : x .next ≡ next = ap (λ (y : Taken ℕ ℕ). y .next) is in (
+        x .value,
+        read ∙ ap (λ (n : ℕ). ok (record { value = x .value; next = n })) ends,
+        ap (λ (y : Taken ℕ ℕ). y .value) is,
+      )
 
-      pub segment-all : (k : ℕ) (seen : Segment) (next size : ℕ) → InSegment s (at + 1) k seen next size → k ≡ count
-          → segmentAt s at ≡ ok (record { value = seen; next = next })
-      segment-all k seen next size m e = segment-variants ∙ in-all s (at + 1) k seen next size m count e
-
--- what is told of a segment
-pub walked-refused : (s : List ℕ) (at j p : ℕ) → segmentAt s at ≡ refused j p → walkedSegment s at ≡ refused j p
-unfolding walkedSegment
-walked-refused s at j p e = rw e
-
-pub walked-done : (s : List ℕ) (at next size : ℕ) (g : Segment) → segmentAt s at ≡ ok (record { value = g; next = next }) → size ≡ total weight g
-    → walkedSegment s at ≡ ok (record { value = size; next = next })
-unfolding walkedSegment
-walked-done s at next size g e sum = rw (e, sum)
-
--- what was told of a segment
-pub walked-met : (s : List ℕ) (at next size : ℕ) → walkedSegment s at ≡ ok (record { value = size; next = next })
-    → (g : Segment) × (segmentAt s at ≡ ok (record { value = g; next = next })) × (total weight g ≡ size)
-unfolding walkedSegment
-walked-met s at next size e =
-    let t = told-met (segmentAt s at) (λ x. record { value = total weight (x .value); next = x .next }) (record { value = size; next = next }) e in
-    (t .0 .value, t .1 ∙ ap (λ (n : ℕ). ok (record { value = t .0 .value; next = n })) (ap (λ (x : Taken ℕ ℕ). x .next) (t .2)), ap (λ (x : Taken ℕ ℕ). x .value) (t .2))
-
-pub walked-not : (s : List ℕ) (at j p : ℕ) → walkedSegment s at ≡ refused j p → segmentAt s at ≡ refused j p
-unfolding walkedSegment
-walked-not s at j p e = told-refused (segmentAt s at) (λ x. record { value = total weight (x .value); next = x .next }) j p e
+  pub walked-not : (j p : ℕ) → walkedSegment s at ≡ refused j p → segmentAt s at ≡ refused j p
+  unfolding walkedSegment
+  walked-not j p e = told-refused (segmentAt s at) summed j p e

@@ -19,7 +19,7 @@ abbrev pub Stands : List ℕ → ℕ → List ℕ → Type 0
 Stands s at b = part s at (length b) ≡ b
 
 module _ (s : List ℕ) (at : ℕ) where
-  part-add : (n m : ℕ) → part s at (n + m) ≡ part s at n ++ part s (at + n) m
+  pub part-add : (n m : ℕ) → part s at (n + m) ≡ part s at n ++ part s (at + n) m
   part-add n m = take-add n m (drop at s) ∙ rw drop-drop
 
   module _ (a b : List ℕ) where

@@ -2,28 +2,30 @@
 -- the tests that lead there.
 use Prim.Native.Nat.{ℕ, _+_, _≤_, _<_}
 use native.Mathlib.Omega.{arith}
-use mathlib.Core.Path.{_≡_, sym, ap, _∙_}
+use mathlib.Core.Path.{_≡_, ap}
 use mathlib.Core.List.{List, [], _∷_, _++_}
 use borrow.Author.Tests.{lt-leb}
 use lib.ListN.{length}
 use Rattle.text.specs.Text.{Variant, Segment, Text, weight, total, size}
 use Rattle.text.specs.Refusal.{ok, refused}
 use Rattle.text.proofs.Sizes.{total-each}
-use Rattle.stretch.specs.Bytes.{greatestStretch, word}
+use Rattle.stretch.specs.Bytes.{greatestStretch}
 use Rattle.stretch.specs.Pieces.{openAt, mostInStretch}
 use Rattle.stretch.specs.Reading.{Taken, variantAt, many, segmentAt, stretchOf}
 use Rattle.stretch.specs.Answers.{checking}
 use Rattle.stretch.proofs.Walks.{Step, walk-refused, walk-length, Summed, summed-none, summed-more, many-steps, many-length}
-use Rattle.stretch.proofs.Frames.{open-cut, open-counts, closed-left, closed-many, closed-sound, segment-met, stretch-met}
+use Rattle.stretch.proofs.Frames.{segment-met, stretch-met}
 use Rattle.stretch.proofs.Units.{variant-read}
 use Rattle.stretch.proofs.Segments.{variant-steps}
 
 -- a segment counts no more than its bytes
-pub segment-steps : (s : List ℕ) (seen : List Segment) (at : ℕ) (x : Taken Segment ℕ) → segmentAt s at ≡ ok x → Step (total weight) (length s) at x
+pub segment-steps :
+    (s : List ℕ) (seen : List Segment) (at : ℕ) (x : Taken Segment ℕ) → segmentAt s at ≡ ok x → Step (total weight) (length s) at x
 unfolding total
 segment-steps s seen at x e =
     let t = segment-met s at x e in
-    let m = many-steps (variantAt s) weight (length s) (variant-steps s) (t .count) [] (at + 1) x (omega (arith, t .counts .inside)) (t .all) in
+    let inside : at + 1 ≤ length s = omega (arith, t .counts .inside) in
+    let m = many-steps (variantAt s) weight (length s) (variant-steps s) (t .count) [] (at + 1) x inside (t .all) in
     record { counts = omega (arith, m .0); inside = m .1 }
 
 -- the segments that stand one after another from `from` on, walked and summed up
@@ -37,7 +39,8 @@ module _ (s : List ℕ) (from k : ℕ) (seen : Text) (at size : ℕ) (m : InStre
   pub through-more : (g : Segment) (next more : ℕ) → segmentAt s at ≡ ok (record { value = g; next = next }) → total weight g ≡ more
       → InStretch s from (k + 1) (seen ++ (g ∷ [])) next (size + more)
   through-more g next more e sum =
-      rw (← sum) (summed-more (λ _. segmentAt s) (total weight) (length s) (segment-steps s) from k seen at size m (record { value = g; next = next }) e)
+      let x : Taken Segment ℕ = record { value = g; next = next } in
+      rw (← sum) (summed-more (λ _. segmentAt s) (total weight) (length s) (segment-steps s) from k seen at size m x e)
 
   pub through-refused : (n : ℕ) → k < n → (j p : ℕ) → segmentAt s at ≡ refused j p → many (λ _. segmentAt s) n [] from ≡ refused j p
   through-refused n l j p e = walk-refused (λ _. segmentAt s) from k seen at (m .walk) n l j p e
@@ -45,48 +48,14 @@ module _ (s : List ℕ) (from k : ℕ) (seen : Text) (at size : ℕ) (m : InStre
   pub through-all : (n : ℕ) → k ≡ n → many (λ _. segmentAt s) n [] from ≡ ok (record { value = seen; next = at })
   through-all n done = rw (← done) (m .walk)
 
--- what reading a stretch answers, from the tests and the walk
-module _ (s : List ℕ) where
-  pub stretch-long : greatestStretch < length s → stretchOf s ≡ refused 4 0
-  unfolding stretchOf openAt
-  stretch-long l = rw (lt-leb (length s) greatestStretch l)
-
-  module _ (short : length s ≤ greatestStretch) where
-    pub stretch-cut : length s < 2 → stretchOf s ≡ refused 5 0
-    unfolding stretchOf
-    stretch-cut l = rw (open-cut s short l)
-
-    module _ (some : 2 ≤ length s) (n : ℕ) (e : n ≡ word s 0) where
-      opens : openAt s ≡ ok n
-      opens = open-counts s short some ∙ ap ok (sym e)
-
-      pub stretch-refused : (j p : ℕ) → many (λ _. segmentAt s) n [] 2 ≡ refused j p → stretchOf s ≡ refused j p
-      unfolding stretchOf
-      stretch-refused j p r = rw (opens, r)
-
-      module _ (seen : Text) (at : ℕ) (all : many (λ _. segmentAt s) n [] 2 ≡ ok (record { value = seen; next = at })) where
-        pub stretch-count : length seen ≡ n
-        stretch-count = walk-length (λ _. segmentAt s) 2 n seen at all
-
-        pub stretch-left : (at ≡ length s → ⊥) → stretchOf s ≡ refused 9 at
-        unfolding stretchOf
-        stretch-left l = rw (opens, all, closed-left s at n l)
-
-        module _ (end : at ≡ length s) where
-          pub stretch-many : mostInStretch < n → stretchOf s ≡ refused 16 0
-          unfolding stretchOf
-          stretch-many l = rw (opens, all, closed-many s at n end l)
-
-          pub stretch-sound : n ≤ mostInStretch → stretchOf s ≡ ok seen
-          unfolding stretchOf
-          stretch-sound l = rw (opens, all, closed-sound s at n end l)
-
 -- what a check tells
 pub check-refused : (s : List ℕ) (j p : ℕ) → stretchOf s ≡ refused j p → checking s ≡ refused j p
 unfolding checking
 check-refused s j p e = rw e
 
-pub check-sound : (s : List ℕ) (t : Text) (n sum : ℕ) → stretchOf s ≡ ok t → length t ≡ n → sum ≡ total (total weight) t → checking s ≡ ok (record { segments = n; size = sum })
+pub check-sound :
+    (s : List ℕ) (t : Text) (n sum : ℕ) → stretchOf s ≡ ok t → length t ≡ n → sum ≡ total (total weight) t →
+    checking s ≡ ok (record { segments = n; size = sum })
 unfolding checking size
 check-sound s t n sum e count whole = rw (e, whole) (ap (λ (j : ℕ). ok (record { segments = j; size = total (total weight) t })) count)
 
@@ -101,6 +70,11 @@ segment-bytes s at x e =
   where
     two : (seen : Segment) (at : ℕ) (x : Taken Variant ℕ) → variantAt s seen at ≡ ok x → Step (λ v. 2) (length s) at x
     two seen at x e = let r = variant-read s seen at x e in rw (r .is) (record { counts = omega arith; inside = r .inside })
+
+-- a stretch of more than 32,768 bytes is refused
+pub stretch-long : (s : List ℕ) → greatestStretch < length s → stretchOf s ≡ refused 4 0
+unfolding stretchOf openAt
+stretch-long s l = rw (lt-leb (length s) greatestStretch l)
 
 -- an accepted stretch has at most 32,768 bytes and 10,922 segments
 pub stretch-short : (s : List ℕ) (t : Text) → stretchOf s ≡ ok t → length s ≤ greatestStretch

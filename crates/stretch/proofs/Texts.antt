@@ -6,12 +6,13 @@ use mathlib.Core.Path.{_≡_, refl, sym, ap, _∙_}
 use mathlib.Core.List.{List, [], _∷_, _++_, append-assoc}
 use lib.ListN.{length, take, drop, getD, length-append, take-append-drop}
 use lib.Seq.{drop-cons, drop-drop, take-add, take-all, take-at, drop-at}
-use Rattle.text.specs.Text.{Variant, Segment, total}
+use Rattle.text.specs.Text.{Segment, total}
 use Rattle.text.proofs.Sizes.{total-append}
 use Rattle.stretch.specs.Bytes.{part, wordBytes}
 use Rattle.stretch.specs.Encoding.{bytesOf, encodeVariant, encodeSegment, encode}
 use Rattle.stretch.specs.Cuts.{cut, sum, sumFrom, pieces, Within}
 use Rattle.stretch.specs.Writing.{given, Matching, needed}
+use Rattle.stretch.proofs.Lengths.{length-variant}
 use Rattle.stretch.proofs.Totals.{sum-at}
 use Rattle.stretch.proofs.Cuts.{cut-append, length-cut, length-pieces, length-part}
 
@@ -65,10 +66,6 @@ pub bytes-append : {A : Type 0} (f : A → List ℕ) (l k : List A) → bytesOf 
 unfolding bytesOf
 bytes-append f [] k = refl
 bytes-append f (a ∷ l) k = rw (bytes-append f l k) (sym (append-assoc (f a) (bytesOf f l) (bytesOf f k)))
-
-pub length-variant : (v : Variant) → length (encodeVariant v) ≡ 2 + length v
-unfolding encodeVariant wordBytes
-length-variant v = omega arith
 
 -- how many bytes variants take that are cut from a list, and segments that are cut from variants
 length-variants : (ns l : List ℕ) → length (bytesOf encodeVariant (cut ns l)) ≡ 2 * length ns + length (take (sum ns) l)

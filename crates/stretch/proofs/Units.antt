@@ -1,26 +1,23 @@
 -- Laws of one variant of a walk: what reading it behind those before it answers, from what its head and its verdict tell.
-use Prim.Native.Nat.{ℕ, _+_, _-_, _≤_, _<_}
-use native.Mathlib.Omega.{arith}
-use mathlib.Core.Path.{_≡_, refl, sym, ap, ap₂, _∙_}
+use Prim.Native.Nat.{ℕ, _+_, _-_, _≤_}
+use mathlib.Core.Path.{_≡_, refl, sym, ap, _∙_}
 use mathlib.Core.Bool.{Bool, true, false, not}
 use mathlib.Core.List.{List}
-use borrow.Author.Tests.{leb-true}
 use lib.ListN.{length, take, drop}
-use Rattle.text.specs.Letter.{letter, every, firstNot}
+use Rattle.text.specs.Letter.{letter, every}
 use Rattle.text.specs.Text.{Variant, Segment}
-use Rattle.text.specs.Refusal.{Outcome, ok, refused, after}
+use Rattle.text.specs.Refusal.{ok, refused, after}
 use Rattle.text.specs.declared.refusal.Refusal.{Refusal}
-use Rattle.text.proofs.Letters.{first-le, first-every, first-not-every}
-use Rattle.text.proofs.Outcomes.{ok-inj, demand-met, after-met, after-demand, told-met}
+use Rattle.text.proofs.Outcomes.{ok-inj, demand-met, after-met, after-demand, told-met, told-refused}
 use Rattle.stretch.specs.Skips.{UpTo}
 use Rattle.stretch.specs.Pieces.{lettersAt, nextOf, Span, headAt, misspeltAt, judgedAt, toldPart, toldVerdict}
 use Rattle.stretch.specs.Reading.{Taken, among, valueOf, formed, variantAt, valuesFrom}
-use Rattle.stretch.specs.Variants.{soundAt}
+use Rattle.stretch.specs.Answers.{spanAt}
 use Rattle.stretch.specs.declared.pieces.Part.{Part}
 use Rattle.stretch.specs.declared.pieces.Verdict.{Verdict}
 use Rattle.stretch.specs.declared.pieces.Verdict.the-variants.{Sound}
-use Rattle.stretch.proofs.Heads.{Whole, head-found, head-is, whole-part, whole-length, value-part}
-use Rattle.stretch.proofs.Repeats.{repeats-walk}
+use Rattle.stretch.proofs.Heads.{Whole, head-found, head-is, whole-part, value-part}
+use Rattle.stretch.proofs.RepeatsInBytes.{repeats-walk}
 
 -- a variant that was read: its letters, whole, and where the next one begins
 pub record Read (s : List ℕ) (seen : Segment) (at : ℕ) (x : Taken Variant ℕ) : Type 0 where
@@ -74,63 +71,30 @@ module _ {s : List ℕ} {first k at start next : ℕ} (up : UpTo s first k at) (
     unfolding letters
     judged-sound is = sym (judged-is _ refl) ∙ rw (← spelt, ← told, is, w .ends)
 
--- the same told by the span of the variant
-pub sound-refused : (s : List ℕ) (first k at n p : ℕ) → headAt s at ≡ refused n p → soundAt s first k at ≡ refused n p
-unfolding soundAt variantAt formed
-sound-refused s first k at n p e = rw e
+-- the same told by where its letters stand
+module _ (s : List ℕ) (seen : Segment) (at : ℕ) where
+  pub span-not : (n p : ℕ) → variantAt s seen at ≡ refused n p → spanAt s seen at ≡ refused n p
+  unfolding spanAt
+  span-not n p e = rw e
 
-pub sound-not : (s : List ℕ) (first k at n p : ℕ) → variantAt s (valuesFrom s k first) at ≡ refused n p → soundAt s first k at ≡ refused n p
-unfolding soundAt
-sound-not s first k at n p e = rw e
+  pub span-is : (start next : ℕ) → Whole s at start next → variantAt s seen at ≡ ok (record { value = valueOf s at; next = next })
+      → spanAt s seen at ≡ ok (record { start = start; next = next })
+  unfolding spanAt
+  span-is start next w e = rw (e, w .starts)
 
-pub sound-is : (s : List ℕ) (first k at start next : ℕ) → Whole s at start next
-    → variantAt s (valuesFrom s k first) at ≡ ok (record { value = valueOf s at; next = next })
-    → soundAt s first k at ≡ ok (record { start = start; next = next })
-unfolding soundAt
-sound-is s first k at start next w e = rw (e, w .starts)
+  -- what was told so was read
+  pub span-read-not : (n p : ℕ) → spanAt s seen at ≡ refused n p → variantAt s seen at ≡ refused n p
+  unfolding spanAt
+  span-read-not n p e = told-refused (variantAt s seen at) (λ x. record { start = at + 2; next = x .next }) n p e
 
--- a sound variant is whole, and was read
-pub sound-read : (s : List ℕ) (first k at start next : ℕ) → soundAt s first k at ≡ ok (record { start = start; next = next })
-    → Whole s at start next × (variantAt s (valuesFrom s k first) at ≡ ok (record { value = valueOf s at; next = next }))
-unfolding soundAt
-sound-read s first k at start next e =
-    let v = valuesFrom s k first in
-    let t = told-met (variantAt s v at) (λ x. record { start = at + 2; next = x .next }) (record { start = start; next = next }) e in
-    let r = variant-read s v at (t .0) (t .1) in
-    let same : t .0 .next ≡ nextOf s at = ap (λ (x : Taken Variant ℕ). x .next) (r .is) in
-    let ends : next ≡ nextOf s at = sym (ap (λ (x : Span). x .next) (t .2)) ∙ same in (
-      record { starts = sym (ap (λ (x : Span). x .start) (t .2)); ends = ends; inside = r .inside },
-      t .1 ∙ ap ok (r .is) ∙ rw ends,
-    )
-
--- the same from the tests
-module _ (s : List ℕ) (first k at start next : ℕ) (w : Whole s at start next) where
-  long : length (lettersAt s at) ≡ next - start
-  long = omega (arith, whole-length s at start next w)
-
-  module _ (x : ℕ) (e : x ≡ firstNot letter (take (next - start) (drop start s))) where
-    wrong : x ≡ firstNot letter (lettersAt s at)
-    wrong = e ∙ ap (firstNot letter) (whole-part s at start next w)
-
-    pub sound-wrong : x < next - start → soundAt s first k at ≡ refused 7 (start + x)
-    unfolding soundAt variantAt formed
-    sound-wrong l =
-        let short : firstNot letter (lettersAt s at) < length (lettersAt s at) = omega (arith, wrong, long) in
-        rw (head-found s at _ refl (w .inside), first-not-every letter (lettersAt s at) short, wrong, w .starts)
-
-    module _ (l : next - start ≤ x) where
-      right : every letter (lettersAt s at) ≡ true
-      right =
-          first-every letter (lettersAt s at)
-          (let all : firstNot letter (lettersAt s at) ≡ length (lettersAt s at) = omega (arith, wrong, long, first-le letter (lettersAt s at)) in all)
-
-      own : take (next - start) (drop start s) ≡ valueOf s at
-      own = whole-part s at start next w ∙ sym (value-part s at)
-
-      pub sound-repeated : among (take (next - start) (drop start s)) (valuesFrom s k first) ≡ true → soundAt s first k at ≡ refused 8 at
-      unfolding soundAt variantAt formed
-      sound-repeated r = rw (head-found s at _ refl (w .inside), right, rw own at r)
-
-      pub sound-ok : among (take (next - start) (drop start s)) (valuesFrom s k first) ≡ false → soundAt s first k at ≡ ok (record { start = start; next = next })
-      unfolding soundAt variantAt formed
-      sound-ok r = rw (head-found s at _ refl (w .inside), right, rw own at r, w .starts, w .ends)
+  pub span-read : (start next : ℕ) → spanAt s seen at ≡ ok (record { start = start; next = next })
+      → Whole s at start next × (variantAt s seen at ≡ ok (record { value = valueOf s at; next = next }))
+  unfolding spanAt
+  span-read start next e =
+      let t = told-met (variantAt s seen at) (λ x. record { start = at + 2; next = x .next }) (record { start = start; next = next }) e in
+      let r = variant-read s seen at (t .0) (t .1) in
+      let same : t .0 .next ≡ nextOf s at = ap (λ (x : Taken Variant ℕ). x .next) (r .is) in
+      let ends : next ≡ nextOf s at = sym (ap (λ (x : Span). x .next) (t .2)) ∙ same in (
+        record { starts = sym (ap (λ (x : Span). x .start) (t .2)); ends = ends; inside = r .inside },
+        t .1 ∙ ap ok (r .is) ∙ rw ends,
+      )

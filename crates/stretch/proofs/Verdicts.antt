@@ -35,7 +35,9 @@ pub misspelt-cut : (s : List ℕ) (at : ℕ) {r : Part} {f : Refusal} → toldPa
 unfolding misspeltAt
 misspelt-cut s at told is = rw (← told, is)
 
-module _ (s : List ℕ) (at start next : ℕ) (w : Whole s at start next) (x : ℕ) (e : x ≡ firstNot letter (take (next - start) (drop start s))) where
+module _
+    (s : List ℕ) (at start next : ℕ) (w : Whole s at start next) (x : ℕ)
+    (e : x ≡ firstNot letter (take (next - start) (drop start s))) where
   -- the place lies in the bytes
   pub misspelt-inside : start + x ≤ length s
   misspelt-inside =

@@ -17,8 +17,9 @@ use Rattle.stretch.specs.Bytes.{greatestStretch}
 use Rattle.stretch.specs.Reading.{Taken, among, many}
 use Rattle.stretch.specs.Encoding.{encode, distinct, all, writableSegment, writable}
 use Rattle.stretch.specs.Writing.{Spot, spot, given, variantGiven, segmentGiven, segmentsGiven, writing}
+use Rattle.stretch.proofs.Rows.{all-append}
 use Rattle.stretch.proofs.Walks.{many-length}
-use Rattle.stretch.proofs.Givens.{variant-met}
+use Rattle.stretch.proofs.GivenSegment.{variant-met}
 use Rattle.stretch.proofs.GivenText.{next-segment, text-is}
 use Rattle.stretch.proofs.Texts.{needed-is}
 use Rattle.stretch.proofs.Writings.{Met, writing-met}
@@ -36,8 +37,7 @@ many-keeps f P step (suc n) seen at x p e =
 
 all-snoc : {A : Type 0} (f : A → Bool) (l : List A) (a : A) → all f (l ++ (a ∷ [])) ≡ (all f l && f a)
 unfolding all
-all-snoc f [] a = and-true (f a)
-all-snoc f (b ∷ l) a = rw (all-snoc f l a) (sym (and-assoc (f b) (all f l) (f a)))
+all-snoc f l a = all-append f l (a ∷ []) ∙ rw and-true
 
 distinct-snoc : (g seen : Segment) (v : Variant) → distinct seen (g ++ (v ∷ [])) ≡ (distinct seen g && not (among v (seen ++ g)))
 unfolding distinct

@@ -15,7 +15,7 @@ use Rattle.stretch.specs.Encoding.{encode}
 use Rattle.stretch.specs.Cuts.{sum}
 use Rattle.stretch.specs.Writing.{Spot, given, Matching, needed, segmentsGiven, writing}
 use Rattle.stretch.specs.Answers.{reached, written, leftBy}
-use Rattle.stretch.proofs.Givens.{reached-refused, reached-ok}
+use Rattle.stretch.proofs.GivenSegment.{reached-refused, reached-ok}
 use Rattle.stretch.proofs.GivenText.{text-is}
 use Rattle.stretch.proofs.Texts.{needed-is}
 

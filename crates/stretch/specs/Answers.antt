@@ -3,9 +3,10 @@ use Prim.Native.Nat.{ℕ, _+_}
 use mathlib.Core.Path.{_≡_}
 use mathlib.Core.List.{List}
 use lib.ListN.{length}
-use Rattle.text.specs.Text.{Text, total, weight, size}
+use Rattle.text.specs.Text.{Segment, Text, total, weight, size}
 use Rattle.text.specs.Refusal.{Outcome, ok, refused, after}
-use Rattle.stretch.specs.Reading.{Taken, segmentAt, stretchOf}
+use Rattle.stretch.specs.Pieces.{Span}
+use Rattle.stretch.specs.Reading.{Taken, variantAt, segmentAt, stretchOf}
 use Rattle.stretch.specs.Bytes.{word, over}
 use Rattle.stretch.specs.Encoding.{encode}
 use Rattle.stretch.specs.Writing.{Spot}
@@ -15,12 +16,16 @@ use Rattle.stretch.specs.declared.segment.Walked.{Walked}
 use Rattle.stretch.specs.declared.segment.Walked.the-variants.{To}
 use Rattle.stretch.specs.declared.checking.Checked.{Checked}
 use Rattle.stretch.specs.declared.checking.Checked.the-variants.{Sound}
-use Rattle.stretch.specs.declared.given.Reached.{Reached}
-use Rattle.stretch.specs.declared.given.Reached.the-variants.{Letter}
+use Rattle.stretch.specs.declared.writer.sound.Reached.{Reached}
+use Rattle.stretch.specs.declared.writer.sound.Reached.the-variants.{Letter}
 use Rattle.stretch.specs.declared.reading.Got.{Got}
 use Rattle.stretch.specs.declared.reading.Got.the-variants.{End}
-use Rattle.stretch.specs.declared.writing.Written.{Written}
-use Rattle.stretch.specs.declared.writing.Written.the-variants.{Bytes}
+use Rattle.stretch.specs.declared.writer.Written.{Written}
+use Rattle.stretch.specs.declared.writer.Written.the-variants.{Bytes}
+
+-- where the letters of the variant at `at` stand, read behind those seen of its segment
+unfoldable pub spanAt : List ℕ → Segment → ℕ → Outcome Span
+spanAt s seen at = after (variantAt s seen at) λ x. ok (record { start = at + 2; next = x .next })
 
 -- how far a walk over a segment has come, and the segment's size
 abbrev pub toldWalked : Walked → Outcome (Taken ℕ ℕ)

@@ -2,10 +2,10 @@
 pub mod Bytes
 pub mod Pieces
 pub mod Reading
-pub mod Variants
 pub mod Encoding
 pub mod Cuts
 pub mod Writing
 pub mod Places
 pub mod Skips
 pub mod Answers
+pub mod Onward

@@ -4,7 +4,7 @@ use mathlib.Core.Bool.{Bool, false, not, cond, _||_, _&&_}
 use mathlib.Core.List.{List}
 use lib.Dec.{leb, ltb, eqb}
 use lib.ListN.{length, getD}
-use Rattle.text.specs.Letter.{letter, every, firstNot}
+use Rattle.text.specs.Letter.{letter, firstNot}
 use Rattle.text.specs.Text.{Variant}
 use Rattle.text.specs.Compare.{same}
 use Rattle.text.specs.Refusal.{Outcome, ok, refused, demand, after}
@@ -62,10 +62,11 @@ repeatedBefore s v at (suc n) place = ltb place at && (same v (lettersAt s place
 unfoldable pub repeats : List ℕ → Variant → ℕ → ℕ → Bool
 repeats s v first at = leb (at + 2 + length v) (length s) && repeatedBefore s v at at first
 
--- the variant v at `at`, behind those of its segment that stand from `first` on: 7 if one of its letters was found wrong, then 8
+-- the variant at `at`, one of whose letters is wrong: 7 at the first that is
 unfoldable pub misspeltAt : List ℕ → ℕ → Outcome (Unit {0})
 misspeltAt s at = after (headAt s at) λ _. refused 7 (wrongPlace s at)
 
+-- the variant v at `at`, behind those of its segment that stand from `first` on: 7 if one of its letters was found wrong, then 8
 unfoldable pub judgedAt : List ℕ → ℕ → ℕ → Variant → Bool → Outcome (Unit {0})
 judgedAt s first at v wrong = cond wrong (misspeltAt s at) (demand (not (repeats s v first at)) 8 at (ok tt))
 

@@ -7,12 +7,7 @@ use Rattle.text.specs.Text.{Variant, Segment, Text}
 use Rattle.text.specs.Compare.{same}
 use Rattle.text.specs.Bits.{anyOf}
 use Rattle.text.specs.Refusal.{Outcome, ok, demand, after}
-use Rattle.stretch.specs.Pieces.{openAt, variantsAt, headAt, wrongPlace, closedAt}
-unfoldable pub use Rattle.stretch.specs.Pieces.{fits, lettersAt, nextOf, mostInStretch}
-
--- the place behind the variant at `at`
-abbrev pub behind : List ℕ → ℕ → ℕ
-behind s at = nextOf s at
+use Rattle.stretch.specs.Pieces.{fits, openAt, variantsAt, lettersAt, nextOf, headAt, wrongPlace, closedAt}
 
 -- what the variant whose length stands at `at` spells
 unfoldable pub valueOf : List ℕ → ℕ → Variant

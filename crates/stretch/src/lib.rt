@@ -1,25 +1,20 @@
-// The bytes of a stretch: what they mean as a text, their check, their writer and their reader.
-pub mod bytes;
+// The bytes of a stretch: what they mean as a text, their check, their reader and their writer.
 mod checking;
-mod emit;
-mod given;
-mod holding;
-mod pair;
+pub mod number;
 pub mod pieces;
+mod places;
+mod reader;
 mod reading;
 mod repetition;
 mod segment;
-mod skip;
-mod sums;
-pub mod variant;
-mod writing;
+mod writer;
 
 pub use checking::Checked;
 pub use checking::check;
-pub use holding::Reader;
-pub use holding::read_from;
+pub use reader::Reader;
+pub use reader::read_from;
 pub use reading::Got;
 pub use reading::letters;
 pub use reading::read;
-pub use writing::Written;
-pub use writing::write;
+pub use writer::Written;
+pub use writer::write;

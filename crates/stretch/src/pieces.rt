@@ -1,14 +1,13 @@
 // The pieces of which every walk over a stretch is made, each a question that is asked here alone: may the stretch be read at all
 // and how many segments has it, how many variants has a segment, where does a variant stand, is it sound, and is nothing left
 // behind the last segment. Any bytes and any places are fine.
-use crate::bytes::wide;
-use crate::pair::pair;
+use crate::number::pair;
+use crate::number::wide;
 use crate::repetition::repeated;
 use text::Refusal;
 use text::letter::first_wrong;
 use text::refusal;
 ghost use mathlib.Core.Path.{_≡_};
-ghost use Rattle.text.specs.Refusal.{refused};
 ghost use Rattle.stretch.specs.Pieces.{fitsAt, openAt, variantsAt, headAt, misspeltAt, judgedAt, closedAt};
 ghost use Rattle.stretch.specs.Pieces.{toldOpened, toldCounted, toldPart, toldVerdict};
 
@@ -85,31 +84,25 @@ pub fn variants(stretch: &[u8], at: usize) -> Counted
     Counted::Variants(count)
 }
 
-// Refusal 5: the bytes end inside the length at `at`, or before the letters that it states.
-fn cut_off(at: usize) -> Part
-    ensures { λ r. ⌜ toldPart r ≡ refused 5 at ⌝ }
-{
-    Part::Refused(Refusal {
-        number: refusal::BYTES_END,
-        place: at,
-    })
-}
-
-// The variant whose length stands at `at`: refusal 5.
+// The variant whose length stands at `at`: refusal 5 where the bytes end inside the length, or before the letters that it states.
 pub fn head(stretch: &[u8], at: usize) -> Part
     ensures { λ r. ⌜ toldPart r ≡ headAt (now (stretch .entry)) at ⌝ }
 {
+    let cut_off = Part::Refused(Refusal {
+        number: refusal::BYTES_END,
+        place: at,
+    });
     let end = stretch.len();
     if end <= at {
-        return cut_off(at);
+        return cut_off;
     }
     let left = end - at;
     if left < 2 {
-        return cut_off(at);
+        return cut_off;
     }
     let letters = pair(stretch, at);
     if left - 2 < letters {
-        return cut_off(at);
+        return cut_off;
     }
     let start = at + 2;
     let next = start + letters;

@@ -1,15 +1,16 @@
 // Reading a stretch from a place on: the first variant at or after a segment number and a variant number, in text order. The
 // whole stretch is checked each time, so that any bytes and any place are fine.
-use crate::bytes::wide;
-use crate::bytes::word;
 use crate::checking::Checked;
 use crate::checking::check;
-use crate::skip::behind_variants;
-use crate::skip::segment_place;
+use crate::number::pair;
+use crate::number::wide;
+use crate::places::behind_variants;
+use crate::places::segment_place;
 use text::Refusal;
-ghost use Prim.Native.Nat.{_+_, _<_};
+ghost use Prim.Native.Nat.{_+_, _<_, _≤_};
 ghost use mathlib.Core.Path.{_≡_};
 ghost use lib.ListN.{length};
+ghost use Rattle.stretch.specs.Pieces.{nextOf};
 ghost use Rattle.stretch.specs.Skips.{behindVariants};
 ghost use Rattle.stretch.specs.Places.{reading, partOf};
 ghost use Rattle.stretch.specs.Answers.{Accepted, toldGot, handedAt};
@@ -38,13 +39,13 @@ pub enum Got {
 
 // The variant of that number of the segment whose count stands at `at`.
 fn handed(stretch: &[u8], at: usize, segment: usize, variant: usize) -> Got
-    requires { ⌜ (behindVariants (now stretch) variant (at + 1) < length (now stretch)) × (variant < 256) ⌝ }
+    requires { ⌜ (nextOf (now stretch) (behindVariants (now stretch) variant (at + 1)) ≤ length (now stretch)) × (variant < 256) ⌝ }
     ensures { λ r. ⌜ toldGot r ≡ handedAt (now (stretch .entry)) at segment variant ⌝ }
 {
     let place = behind_variants(stretch, variant, at + 1);
     Got::Variant {
         start: place + 2,
-        len: word(stretch, place),
+        len: pair(stretch, place),
         segment,
         variant: variant + 1,
     }

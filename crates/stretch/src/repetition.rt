@@ -1,5 +1,5 @@
 // The test for repetition: whether a variant is equal to an earlier one of its segment.
-use crate::pair::pair;
+use crate::number::pair;
 use text::compare::same;
 ghost use mathlib.Core.Path.{_≡_};
 ghost use Prim.Native.Nat.{_+_, _<_};

@@ -1,51 +1,51 @@
-// The answers of the library's calls, all in one form.
-use crate::counts::Answer;
-use card::Asked;
-use search::Fed;
-use search::Searched;
-use stretch::Checked;
-use stretch::Written;
+// A call's answer in numbers: refusal number and place, and up to three results, 0 where the call has fewer or refuses.
+use check::same;
 
-// A check: segment count and size.
-pub fn checked(answer: Checked) -> Answer {
-    match answer {
-        Checked::Sound { segments, size } => Answer::told(segments, size, 0),
-        Checked::Refused(refused) => Answer::refused(refused.number, refused.place),
+pub struct Answer {
+    pub number: u64,
+    pub place: usize,
+    pub first: usize,
+    pub second: usize,
+    pub third: usize,
+}
+
+impl Answer {
+    // A call that is refused.
+    pub fn refused(number: u64, place: usize) -> Answer {
+        Answer {
+            number,
+            place,
+            first: 0,
+            second: 0,
+            third: 0,
+        }
+    }
+
+    // A call that is accepted, with its results.
+    pub fn told(first: usize, second: usize, third: usize) -> Answer {
+        Answer {
+            number: 0,
+            place: 0,
+            first,
+            second,
+            third,
+        }
+    }
+
+    // Whether two answers are the same.
+    pub fn equals(self, other: Answer) -> bool {
+        self.number == other.number
+            && self.place == other.place
+            && self.first == other.first
+            && self.second == other.second
+            && self.third == other.third
     }
 }
 
-// A write: how many bytes were written.
-pub fn written(answer: Written) -> Answer {
-    match answer {
-        Written::Bytes(bytes) => Answer::told(bytes, 0, 0),
-        Written::Refused(refused) => Answer::refused(refused.number, refused.place),
+// The answer of a call that is to leave these bytes in its buffer; where it leaves others, a refusal that no call gives.
+pub fn held(answer: Answer, buffer: &[u8], wanted: &[u8]) -> Answer {
+    if same(buffer, wanted) {
+        return answer;
     }
-}
-
-// A search: segment count, size and number of ones.
-pub fn searched(answer: Searched) -> Answer {
-    match answer {
-        Searched::Marked {
-            segments,
-            size,
-            ends,
-        } => Answer::told(segments, size, ends),
-        Searched::Refused(refused) => Answer::refused(refused.number, refused.place),
-    }
-}
-
-// A feed: the bits of the next state, and whether an occurrence ends.
-pub fn fed(answer: Fed) -> Answer {
-    match answer {
-        Fed::Next { state, ends } => Answer::told(state.bits as usize, ends as usize, 0),
-        Fed::Refused(refused) => Answer::refused(refused.number, refused.place),
-    }
-}
-
-// What a card tells of a state: the bits of the state behind the stretch, and the first end.
-pub fn asked(answer: Asked) -> Answer {
-    match answer {
-        Asked::Told { state, first } => Answer::told(state.bits as usize, first as usize, 0),
-        Asked::Refused(refused) => Answer::refused(refused.number, refused.place),
-    }
+    Answer::refused(100, 0)
 }

@@ -1,24 +1,17 @@
-// What programs that run examples share: answers side by side, the count of those that differ, what lent buffers are to hold, and
-// stretches read whole.
+// What programs that run examples count with: the answers of the library's calls in one form, and how many were compared.
 mod answers;
+mod calls;
 mod counts;
-mod gathering;
-mod lent;
-mod parts;
-mod rows;
+mod lines;
 
-pub use answers::asked;
-pub use answers::checked;
-pub use answers::fed;
-pub use answers::searched;
-pub use answers::written;
-pub use counts::Answer;
+pub use answers::Answer;
+pub use answers::held;
+pub use calls::asked;
+pub use calls::checked;
+pub use calls::fed;
+pub use calls::got;
+pub use calls::row;
+pub use calls::searched;
+pub use calls::written;
 pub use counts::Tally;
-pub use gathering::Place;
-pub use gathering::gather;
-pub use lent::BEFORE;
-pub use lent::WRONG_BYTES;
-pub use lent::holds;
-pub use parts::lengths_part;
-pub use parts::part;
-pub use rows::row;
+pub use lines::print;

@@ -1,4 +1,5 @@
 -- Laws of the definitions in specs/, and the theorems about them: Theorems has these by name.
+pub mod Told
 pub mod Theorems
 pub mod Truth
 pub mod Tests

@@ -3,7 +3,7 @@ use Prim.Native.Nat.{ℕ}
 use native.Mathlib.Omega.{arith}
 use mathlib.Core.Path.{_≡_, refl, sym}
 use mathlib.Core.Bool.{Bool, true, false}
-use Rattle.text.specs.Refusal.{Outcome, ok, refused, demand, after}
+use Rattle.text.specs.Refusal.{Outcome, ok, refused, demand, after, answer}
 
 -- both accept with the same value, or both refuse, whatever the numbers and places
 abbrev pub SameFate : {A : Type 0} → Outcome A → Outcome A → Type 0
@@ -17,6 +17,13 @@ refused-ok n p a e = let z : _≡_ {A = ℕ} 0 1 = cc in omega arith
 
 pub ok-inj : {A : Type 0} {a b : A} → ok a ≡ ok b → a ≡ b
 ok-inj e = cc
+
+pub refused-inj : {A : Type 0} {n p m q : ℕ} → _≡_ {A = Outcome A} (refused n p) (refused m q) → (n ≡ m) × (p ≡ q)
+refused-inj e = (cc, cc)
+
+-- in numbers: a refusal has zeros beside its number and place
+pub refused-zeros : {A : Type 0} (zeros : A) (o : Outcome A) (n p : ℕ) → o ≡ refused n p → answer zeros o ≡ record { number = n; place = p; value = zeros }
+refused-zeros zeros o n p e = rw e
 
 -- an accepted answer has met the demand
 pub demand-met : {A : Type 0} (t : Bool) (n p : ℕ) (o : Outcome A) (a : A) → demand t n p o ≡ ok a → (t ≡ true) × (o ≡ ok a)

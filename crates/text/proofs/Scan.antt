@@ -37,7 +37,8 @@ module _ (P : List ℕ) (st : ℕ) (v : Variant) where
         λ h. is-next P st (v ∷ []) (suc r) some short (record { variant = v; listed = List·Memᴰ·head refl; is = h }),
       )
 
-  one-ends : ends P st (v ∷ []) ≡ endsAt P st v
+  -- an occurrence ends in a segment of one variant
+  pub one-ends : ends P st (v ∷ []) ≡ endsAt P st v
   unfolding ends anyOf
   one-ends = or-false (endsAt P st v)
 

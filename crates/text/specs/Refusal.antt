@@ -23,6 +23,16 @@ abbrev pub after : {A B : Type 0} → Outcome A → (A → Outcome B) → Outcom
 after (ok a) f = f a
 after (refused n p) f = refused n p
 
+-- what a call says in numbers: 0 at 0 and its value; or the refusal's number and place, and zeros beside them
+pub record Answer (A : Type 0) : Type 0 where
+  pub number : ℕ
+  pub place : ℕ
+  pub value : A
+
+abbrev pub answer : {A : Type 0} → A → Outcome A → Answer A
+answer zeros (ok a) = record { number = 0; place = 0; value = a }
+answer zeros (refused n p) = record { number = n; place = p; value = zeros }
+
 -- the greatest pattern
 abbrev pub greatestPattern : ℕ
 greatestPattern = 64

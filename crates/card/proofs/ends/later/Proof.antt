@@ -4,12 +4,6 @@ use Rattle.text.specs.Card.{later}
 use Rattle.card.proofs.ends.later.Statement.{statement}
 use Rattle.card.proofs.ends.later.Tie as tie
 
-sub-room : tie.Need-sub-room
-sub-room c = search needs
-
-add-result : tie.Need-add-result
-add-result c = search needs
-
 returns : tie.Need-returns
 unfolding later
 returns c = search needs
@@ -19,4 +13,4 @@ unfolding later
 returns-2 c = search needs
 
 pub later-spec : {M : Type 1} → statement M
-later-spec = tie.close (tie.spec sub-room add-result returns returns-2)
+later-spec = tie.close (tie.spec (λ c. search needs) (λ c. search needs) returns returns-2)

@@ -40,14 +40,8 @@ shared-slice-read-earlier c =
     let s = c .before .before .before .before .before .before .before in
     omega (arith, inside (c .before .before .before), s .pre)
 
-earlier-requires : tie.Need-earlier-requires Inv-loop μ-loop
-earlier-requires c κs = search needs
-
 add-q : tie.Need-add-q Inv-loop μ-loop
 add-q c = omega (arith, inside (c .before))
-
-loop-less : tie.Need-loop-less Inv-loop μ-loop
-loop-less c = search needs
 
 loop-again : tie.Need-loop-again Inv-loop μ-loop
 loop-again c =
@@ -75,8 +69,8 @@ follow-spec =
     shared-slice-read-exit
     mul-earlier
     shared-slice-read-earlier
-    earlier-requires
+    (λ c κs. search needs)
     add-q
-    loop-less
+    (λ c. search needs)
     loop-again
     returns)

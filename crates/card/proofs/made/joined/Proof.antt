@@ -22,50 +22,8 @@ full c = record { states = search needs; ends = search needs }
 loop-holds : tie.Need-loop-holds Inv-loop μ-loop
 loop-holds c = changing-none _ _ _ (record { states = search needs; ends = search needs })
 
-mul-exit : tie.Need-mul-exit Inv-loop μ-loop
-mul-exit c = search needs
-
-array-read-exit : tie.Need-array-read-exit Inv-loop μ-loop
-array-read-exit c = search needs
-
-mul-first : tie.Need-mul-first Inv-loop μ-loop
-mul-first c = search needs
-
-array-read-first : tie.Need-array-read-first Inv-loop μ-loop
-array-read-first c = search needs
-
-slice-aggregate-follow : tie.Need-slice-aggregate-follow Inv-loop μ-loop
-slice-aggregate-follow c = search needs
-
-slice-aggregate-follow-2 : tie.Need-slice-aggregate-follow-2 Inv-loop μ-loop
-slice-aggregate-follow-2 c = search needs
-
 follow-requires : tie.Need-follow-requires Inv-loop μ-loop
 follow-requires c κs = full (c .before .before .before .before .before .before .before .before .before)
-
-mul-exits : tie.Need-mul-exits Inv-loop μ-loop
-mul-exits c = search needs
-
-array-write-exits : tie.Need-array-write-exits Inv-loop μ-loop
-array-write-exits c = search needs
-
-later-requires : tie.Need-later-requires Inv-loop μ-loop
-later-requires c κs = search needs
-
-earlier-requires : tie.Need-earlier-requires Inv-loop μ-loop
-earlier-requires c κs = search needs
-
-mul-firsts : tie.Need-mul-firsts Inv-loop μ-loop
-mul-firsts c = search needs
-
-array-write-firsts : tie.Need-array-write-firsts Inv-loop μ-loop
-array-write-firsts c = search needs
-
-add-q : tie.Need-add-q Inv-loop μ-loop
-add-q c = search needs
-
-loop-less : tie.Need-loop-less Inv-loop μ-loop
-loop-less c = search needs
 
 loop-again : tie.Need-loop-again Inv-loop μ-loop
 loop-again c =
@@ -89,21 +47,21 @@ joined-spec =
     Inv-loop
     μ-loop
     loop-holds
-    mul-exit
-    array-read-exit
-    mul-first
-    array-read-first
-    slice-aggregate-follow
-    slice-aggregate-follow-2
+    (λ c. search needs)
+    (λ c. search needs)
+    (λ c. search needs)
+    (λ c. search needs)
+    (λ c. search needs)
+    (λ c. search needs)
     follow-requires
-    mul-exits
-    array-write-exits
-    later-requires
-    earlier-requires
-    mul-firsts
-    array-write-firsts
-    add-q
-    loop-less
+    (λ c. search needs)
+    (λ c. search needs)
+    (λ c κs. search needs)
+    (λ c κs. search needs)
+    (λ c. search needs)
+    (λ c. search needs)
+    (λ c. search needs)
+    (λ c. search needs)
     loop-again
     add-segments
     returns)

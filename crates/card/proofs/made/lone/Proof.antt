@@ -15,21 +15,6 @@ abbrev μ-loop : tie.MeasureT-loop
 loop-holds : tie.Need-loop-holds Inv-loop μ-loop
 loop-holds c = loning-none _
 
-shl-exits : tie.Need-shl-exits Inv-loop μ-loop
-shl-exits c = search needs
-
-mul-exits : tie.Need-mul-exits Inv-loop μ-loop
-mul-exits c = search needs
-
-array-write-exits : tie.Need-array-write-exits Inv-loop μ-loop
-array-write-exits c = search needs
-
-add-q : tie.Need-add-q Inv-loop μ-loop
-add-q c = search needs
-
-loop-less : tie.Need-loop-less Inv-loop μ-loop
-loop-less c = search needs
-
 loop-again : tie.Need-loop-again Inv-loop μ-loop
 loop-again c = loning-more _ _ _ (c .before .loop .inv) (c .before .before .pre) (c .loop-test .taken)
 
@@ -43,10 +28,10 @@ lone-spec =
     Inv-loop
     μ-loop
     loop-holds
-    shl-exits
-    mul-exits
-    array-write-exits
-    add-q
-    loop-less
+    (λ c. search needs)
+    (λ c. search needs)
+    (λ c. search needs)
+    (λ c. search needs)
+    (λ c. search needs)
     loop-again
     returns)

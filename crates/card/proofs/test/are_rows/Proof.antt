@@ -17,21 +17,6 @@ abbrev μ-loop : tie.MeasureT-loop
 loop-holds : tie.Need-loop-holds Inv-loop μ-loop
 loop-holds c = tested-none _ _ _ _
 
-mul-exit : tie.Need-mul-exit Inv-loop μ-loop
-mul-exit c = search needs
-
-shared-slice-read-exit : tie.Need-shared-slice-read-exit Inv-loop μ-loop
-shared-slice-read-exit c = search needs
-
-mul-first : tie.Need-mul-first Inv-loop μ-loop
-mul-first c = search needs
-
-shared-slice-read-first : tie.Need-shared-slice-read-first Inv-loop μ-loop
-shared-slice-read-first c = search needs
-
-is-row-requires : tie.Need-is-row-requires Inv-loop μ-loop
-is-row-requires c κs = search needs
-
 -- q is a row
 inside : (c : tie.In-loop Inv-loop μ-loop) → c .before .loop .q < 64
 inside c = omega arith
@@ -40,26 +25,20 @@ returns : tie.Need-returns Inv-loop μ-loop
 returns c =
     let r = c .before in
     let d = r .before .before .before in
-    let full = d .before .before .before .before .pre .1 in
+    let full = d .before .before .before .before .pre in
     let wrong = failed (r .is-row .ensures) (c .if1 .taken) in
     tested-stop _ _ _ _ full _ (d .before .loop .inv) (inside d) wrong
-
-add-q : tie.Need-add-q Inv-loop μ-loop
-add-q c = search needs
-
-loop-less : tie.Need-loop-less Inv-loop μ-loop
-loop-less c = search needs
 
 loop-again : tie.Need-loop-again Inv-loop μ-loop
 loop-again c =
     let r = c .before in
     let d = r .before .before .before in
-    let full = d .before .before .before .before .pre .1 in
+    let full = d .before .before .before .before .pre in
     let right = passed (r .is-row .ensures) (c .if1 .left) in
     tested-more _ _ _ _ full _ (d .before .loop .inv) (inside d) right
 
 returns-2 : tie.Need-returns-2 Inv-loop μ-loop
-returns-2 c = tested-all _ _ _ _ (c .before .before .before .before .pre .1) _ (c .before .loop .inv) (c .loop-test .left)
+returns-2 c = tested-all _ _ _ _ (c .before .before .before .before .pre) _ (c .before .loop .inv) (c .loop-test .left)
 
 pub are-rows-spec : {M : Type 1} → statement M
 are-rows-spec =
@@ -68,13 +47,13 @@ are-rows-spec =
     Inv-loop
     μ-loop
     loop-holds
-    mul-exit
-    shared-slice-read-exit
-    mul-first
-    shared-slice-read-first
-    is-row-requires
+    (λ c. search needs)
+    (λ c. search needs)
+    (λ c. search needs)
+    (λ c. search needs)
+    (λ c κs. search needs)
     returns
-    add-q
-    loop-less
+    (λ c. search needs)
+    (λ c. search needs)
     loop-again
     returns-2)

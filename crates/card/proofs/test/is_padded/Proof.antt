@@ -11,25 +11,10 @@ use Rattle.card.proofs.test.is_padded.Tie as tie
 slice-aggregate-bases : tie.Need-slice-aggregate-bases
 slice-aggregate-bases c = head-long _ _ (c .before .before .pre .0) (c .before .before .pre .1)
 
-check-requires : tie.Need-check-requires
-check-requires c κs = search needs
-
-enum-told : tie.Need-enum-told
-enum-told c = search needs
-
-enum-told-2 : tie.Need-enum-told-2
-enum-told-2 c = search needs
-
 padded-requires : tie.Need-padded-requires
 padded-requires c κs =
     let s = c .before .before .before .before .before in
     head-short _ _ (s .pre .0) (s .pre .1)
-
-slice-aggregate-same : tie.Need-slice-aggregate-same
-slice-aggregate-same c = search needs
-
-same-requires : tie.Need-same-requires
-same-requires c κs = search needs
 
 returns : tie.Need-returns
 returns c =
@@ -49,11 +34,11 @@ is-padded-spec =
     tie.close
     (tie.spec
     slice-aggregate-bases
-    check-requires
-    enum-told
-    enum-told-2
+    (λ c κs. search needs)
+    (λ c. search needs)
+    (λ c. search needs)
     padded-requires
-    slice-aggregate-same
-    same-requires
+    (λ c. search needs)
+    (λ c κs. search needs)
     returns
     returns-2)

@@ -20,9 +20,6 @@ fresh c = ⊎-elim (λ w. fresh-first _ _ (w .0 .taken) (w .1)) (λ w. fresh-oth
 returns-3 : tie.Need-returns-3
 returns-3 c = row-stale _ _ _ _ _ (c .before .before .if1 .left) _ (fresh (c .before)) (c .if4 .taken)
 
-within-requires : tie.Need-within-requires
-within-requires c κs = search needs
-
 returns-4 : tie.Need-returns-4
 returns-4 c =
     let w = c .before in
@@ -46,4 +43,4 @@ returns-6 c =
 
 pub is-row-spec : {M : Type 1} → statement M
 is-row-spec =
-    tie.close (tie.spec returns returns-2 returns-3 within-requires returns-4 returns-5 returns-6)
+    tie.close (tie.spec returns returns-2 returns-3 (λ c κs. search needs) returns-4 returns-5 returns-6)

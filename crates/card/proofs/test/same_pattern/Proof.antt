@@ -11,15 +11,6 @@ returns c =
     let a = c .before .before .before .args in
     sizes-differ (cardIn (a .left)) (cardIn (a .right)) (c .if1 .taken)
 
-slice-aggregate-same : tie.Need-slice-aggregate-same
-slice-aggregate-same c = search needs
-
-slice-aggregate-same-2 : tie.Need-slice-aggregate-same-2
-slice-aggregate-same-2 c = search needs
-
-same-requires : tie.Need-same-requires
-same-requires c κs = search needs
-
 returns-2 : tie.Need-returns-2
 returns-2 c =
     let d = c .before .before .before .before .before in
@@ -29,4 +20,4 @@ returns-2 c =
 pub same-pattern-spec : {M : Type 1} → statement M
 same-pattern-spec =
     tie.close
-    (tie.spec returns slice-aggregate-same slice-aggregate-same-2 same-requires returns-2)
+    (tie.spec returns (λ c. search needs) (λ c. search needs) (λ c κs. search needs) returns-2)

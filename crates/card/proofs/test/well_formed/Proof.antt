@@ -1,24 +1,15 @@
 -- `card::test::well_formed` meets its contract: each answer is a law of `wellFormed`, from the tests that led to it.
 use Rattle.card.specs.Cards.{isPadded, Full}
 use Rattle.card.proofs.Tests.{passed, failed}
-use Rattle.card.proofs.Formed.{formed-long, padded-bases, formed-wrong, formed-many, formed-rows}
+use Rattle.card.proofs.Formed.{formed-long, formed-wrong, formed-many, formed-rows}
 use borrow.Author.Needs.{needs}
 use mathlib.Core.Path.{_≡_, _∙_}
 use mathlib.Core.Bool.{true}
 use Rattle.card.proofs.test.well_formed.Statement.{statement}
 use Rattle.card.proofs.test.well_formed.Tie as tie
 
-cast-m : tie.Need-cast-m
-cast-m c = search needs
-
 returns : tie.Need-returns
 returns c = formed-long _ (c .if1 .taken)
-
-slice-aggregate-is-padded : tie.Need-slice-aggregate-is-padded
-slice-aggregate-is-padded c = search needs
-
-is-padded-requires : tie.Need-is-padded-requires
-is-padded-requires c κs = search needs
 
 returns-2 : tie.Need-returns-2
 returns-2 c = formed-wrong _ (failed (c .before .is-padded .ensures) (c .if2 .taken))
@@ -32,12 +23,6 @@ padded c = passed (c .before .is-padded .ensures) (c .if2 .left)
 returns-3 : tie.Need-returns-3
 returns-3 c = formed-many _ (padded (c .before)) (c .if3 .taken)
 
-slice-aggregate-are-rows : tie.Need-slice-aggregate-are-rows
-slice-aggregate-are-rows c = search needs
-
-slice-aggregate-are-rows-2 : tie.Need-slice-aggregate-are-rows-2
-slice-aggregate-are-rows-2 c = search needs
-
 -- a card has 64 exits and 64 first ends
 full : (c : tie.Start) → Full (c .args .card .exits) (c .args .card .firsts)
 full c = record { states = search needs; ends = search needs }
@@ -45,7 +30,7 @@ full c = record { states = search needs; ends = search needs }
 are-rows-requires : tie.Need-are-rows-requires
 are-rows-requires c κs =
     let d = c .before .before .before .before .before in
-    (padded-bases _ _ (padded d), full (d .before .before .before .before .before .before))
+    full (d .before .before .before .before .before .before)
 
 returns-4 : tie.Need-returns-4
 returns-4 c =
@@ -58,13 +43,13 @@ pub well-formed-spec : {M : Type 1} → statement M
 well-formed-spec =
     tie.close
     (tie.spec
-    cast-m
+    (λ c. search needs)
     returns
-    slice-aggregate-is-padded
-    is-padded-requires
+    (λ c. search needs)
+    (λ c κs. search needs)
     returns-2
     returns-3
-    slice-aggregate-are-rows
-    slice-aggregate-are-rows-2
+    (λ c. search needs)
+    (λ c. search needs)
     are-rows-requires
     returns-4)

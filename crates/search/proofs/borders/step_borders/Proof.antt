@@ -1,17 +1,19 @@
--- `search::borders::step_borders` meets its contract. What the carried lengths tell, joined with what a fresh start tells where bit 0
--- is set, is the step.
+-- `search::borders::step_borders` meets its contract: what the carried lengths tell, joined with what a fresh start tells, is the step.
 use borrow.Author.Needs.{needs}
-use Rattle.search.proofs.BorderSteps.{steps-carried, steps-begun}
+use Rattle.search.proofs.BorderSteps.{steps-begun}
 use Rattle.search.proofs.borders.step_borders.Statement.{statement}
 use Rattle.search.proofs.borders.step_borders.Tie as tie
 
-returns : tie.Need-returns
-returns c = steps-carried (c .if1 .taken) (c .before .carried .ensures)
+carried-requires : tie.Need-carried-requires
+carried-requires c κs = let y = c .before .before .pre in (y .sized, y .state .small)
 
-returns-2 : tie.Need-returns-2
-returns-2 c =
+begun-requires : tie.Need-begun-requires
+begun-requires c κs = let y = c .before .before .before .pre in (y .sized, y .holds)
+
+returns : tie.Need-returns
+returns c =
     let d = c .before .before .before .before in
-    steps-begun (d .before .if1 .left) (d .before .before .carried .ensures) (d .begun .ensures)
+    steps-begun (d .before .before .before .before .pre .state .odd) (d .before .carried .ensures) (d .begun .ensures)
 
 pub step-borders-spec : {M : Type 1} → statement M
-step-borders-spec = tie.close (tie.spec (λ c κs. search needs) returns (λ c κs. search needs) returns-2)
+step-borders-spec = tie.close (tie.spec carried-requires begun-requires returns)

@@ -7,7 +7,8 @@ use mathlib.Core.Path.{sym, ap, _∙_}
 use mathlib.Core.List.{[]}
 use Rattle.text.specs.Text.{Text}
 use Rattle.stretch.specs.Answers.{toldWalked}
-use Rattle.stretch.proofs.Frames.{frame-refused-open, frame-opens, frame-refused-inside, frame-refused-closed, frame-count, frame-sound}
+use Rattle.stretch.proofs.Frames.{frame-opens, frame-count, frame-sound}
+use Rattle.stretch.proofs.Frames.{frame-refused-open, frame-refused-inside, frame-refused-closed}
 use Rattle.stretch.proofs.Stretches.{InStretch, through-none, through-more, through-refused, through-all, check-refused, check-sound}
 use Rattle.stretch.proofs.Segments.{walked-met, walked-not}
 use Rattle.stretch.proofs.checking.check.Statement.{statement}

@@ -1,41 +1,20 @@
--- `stretch::pieces::head` meets its contract: each test compares the end with the place behind the letters, or with the least
--- that it can be.
+-- `stretch::pieces::head` meets its contract: each test compares the end with the place behind the letters, or with the least that it
+-- can be.
 use borrow.Author.Needs.{needs}
 use native.Mathlib.Omega.{arith}
-use mathlib.Core.Path.{sym, _∙_}
+use mathlib.Core.Path.{sym}
 use Rattle.stretch.proofs.Heads.{head-cut, head-found}
 use Rattle.stretch.proofs.pieces.head.Statement.{statement}
 use Rattle.stretch.proofs.pieces.head.Tie as tie
 
-cut-off-requires : tie.Need-cut-off-requires
-cut-off-requires c κs = search needs
-
 returns : tie.Need-returns
-returns c = c .cut-off .ensures ∙ sym (head-cut _ _ (omega arith))
-
-sub-left : tie.Need-sub-left
-sub-left c = search needs
-
-cut-off-requires-2 : tie.Need-cut-off-requires-2
-cut-off-requires-2 c κs = search needs
+returns c = sym (head-cut _ _ (omega arith))
 
 returns-2 : tie.Need-returns-2
-returns-2 c = c .cut-off2 .ensures ∙ sym (head-cut _ _ (omega arith))
-
-pair-requires : tie.Need-pair-requires
-pair-requires c κs = search needs
-
-cut-off-requires-3 : tie.Need-cut-off-requires-3
-cut-off-requires-3 c κs = search needs
+returns-2 c = sym (head-cut _ _ (omega arith))
 
 returns-3 : tie.Need-returns-3
-returns-3 c = c .cut-off3 .ensures ∙ sym (head-cut _ _ (omega (arith, c .before .before .pair .ensures .0)))
-
-add-start : tie.Need-add-start
-add-start c = search needs
-
-add-next : tie.Need-add-next
-add-next c = search needs
+returns-3 c = sym (head-cut _ _ (omega (arith, c .before .pair .ensures .0)))
 
 returns-4 : tie.Need-returns-4
 returns-4 c = sym (head-found _ _ _ (c .before .pair .ensures .0) (omega (arith, c .before .pair .ensures)))
@@ -44,14 +23,11 @@ pub head-spec : {M : Type 1} → statement M
 head-spec =
     tie.close
     (tie.spec
-    cut-off-requires
     returns
-    sub-left
-    cut-off-requires-2
+    (λ c. search needs)
     returns-2
-    pair-requires
-    cut-off-requires-3
+    (λ c κs. search needs)
     returns-3
-    add-start
-    add-next
+    (λ c. search needs)
+    (λ c. search needs)
     returns-4)

@@ -5,8 +5,8 @@ use denote.Ref.{now}
 use native.Mathlib.Omega.{arith}
 use mathlib.Core.Path.{_∙_}
 use borrow.Author.Needs.{needs}
-use Rattle.stretch.proofs.Readings.{Standing, read-behind, place-inside, here-inside, here-handed, last-ended}
-use Rattle.stretch.proofs.Readings.{next-inside, first-inside, next-handed}
+use Rattle.stretch.proofs.ReadsAtPlace.{Standing, read-behind, place-inside, here-inside, here-handed, last-ended}
+use Rattle.stretch.proofs.ReadsAtPlace.{next-inside, first-inside, next-handed}
 use Rattle.stretch.proofs.reading.from_place.Statement.{statement}
 use Rattle.stretch.proofs.reading.from_place.Tie as tie
 
@@ -21,9 +21,6 @@ inside c = rw (c .segment-place .ensures) (place-inside _ _ (c .before .before .
 
 shared-slice-read-wide : tie.Need-shared-slice-read-wide
 shared-slice-read-wide c = inside (c .before)
-
-wide-requires : tie.Need-wide-requires
-wide-requires c κs = search needs
 
 there : (c : tie.After-wide) →
     let d = c .before .before in
@@ -45,9 +42,6 @@ handed-requires c κs =
 returns-2 : tie.Need-returns-2
 returns-2 c = c .handed .ensures ∙ here-handed _ _ _ _ _ (there (c .before .before)) _ (c .before .if2 .taken)
 
-add-if3 : tie.Need-add-if3
-add-if3 c = search needs
-
 returns-3 : tie.Need-returns-3
 returns-3 c = last-ended _ _ _ _ _ (there (c .before .before)) (c .if3 .taken) _ (c .before .if2 .left)
 
@@ -56,9 +50,6 @@ add-behind-variants c = omega (arith, inside (c .before .before .before .before)
 
 behind-variants-requires : tie.Need-behind-variants-requires
 behind-variants-requires c κs = omega (arith, next-inside _ _ _ _ _ (there (c .before .before)) (c .if3 .left))
-
-add-handed : tie.Need-add-handed
-add-handed c = search needs
 
 handed-requires-2 : tie.Need-handed-requires-2
 handed-requires-2 c κs =
@@ -78,13 +69,13 @@ from-place-spec =
     returns
     segment-place-requires
     shared-slice-read-wide
-    wide-requires
+    (λ c κs. search needs)
     handed-requires
     returns-2
-    add-if3
+    (λ c. search needs)
     returns-3
     add-behind-variants
     behind-variants-requires
-    add-handed
+    (λ c. search needs)
     handed-requires-2
     returns-4)

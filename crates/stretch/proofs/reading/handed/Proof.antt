@@ -12,22 +12,10 @@ add-behind-variants c =
     let a = c .before .args in
     omega (arith, variants-grow (now (a .stretch)) (a .variant) (a .at + 1))
 
-behind-variants-requires : tie.Need-behind-variants-requires
-behind-variants-requires c κs = search needs
-
-add-t6 : tie.Need-add-t6
-add-t6 c = search needs
-
-word-requires : tie.Need-word-requires
-word-requires c κs = search needs
-
-add-t8 : tie.Need-add-t8
-add-t8 c = search needs
-
 returns : tie.Need-returns
-returns c = rw (c .word .ensures, c .before .behind-variants .ensures)
+returns c = rw (c .pair .ensures .0, c .before .behind-variants .ensures)
 
 pub handed-spec : {M : Type 1} → statement M
 handed-spec =
     tie.close
-    (tie.spec add-behind-variants behind-variants-requires add-t6 word-requires add-t8 returns)
+    (tie.spec add-behind-variants (λ c κs. search needs) (λ c. search needs) (λ c κs. search needs) (λ c. search needs) returns)

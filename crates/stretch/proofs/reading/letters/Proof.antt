@@ -6,15 +6,9 @@ use lib.ListN.{length}
 use denote.Ref.{now}
 use borrow.Author.Needs.{needs}
 use Rattle.stretch.specs.Answers.{toldGot}
-use Rattle.stretch.proofs.Readings.{found-inside, part-told, part-found}
+use Rattle.stretch.proofs.ReadsAtPlace.{found-inside, part-told, part-found}
 use Rattle.stretch.proofs.reading.letters.Statement.{statement}
 use Rattle.stretch.proofs.reading.letters.Tie as tie
-
-read-requires : tie.Need-read-requires
-read-requires c κs = search needs
-
-enum-known-start : tie.Need-enum-known-start
-enum-known-start c = search needs
 
 fits : (c : tie.After-start) →
     c .start .given .0 .0 + c .start .given .0 .1 .0 ≤ length (now (c .before .before .before .before .args .stretch))
@@ -23,26 +17,8 @@ fits c = found-inside _ _ _ _ _ _ _ (sym (ap toldGot (c .start .given .1)) ∙ c
 add-result : tie.Need-add-result
 add-result c = omega (arith, fits (c .before))
 
-sub-result : tie.Need-sub-result
-sub-result c = search needs
-
-part-result-start : tie.Need-part-result-start
-part-result-start c = search needs
-
 part-result-end : tie.Need-part-result-end
 part-result-end c = fits (c .before)
-
-enum-told : tie.Need-enum-told
-enum-told c = search needs
-
-slice-aggregate-result : tie.Need-slice-aggregate-result
-slice-aggregate-result c = search needs
-
-enum-told-2 : tie.Need-enum-told-2
-enum-told-2 c = search needs
-
-slice-aggregate-result-2 : tie.Need-slice-aggregate-result-2
-slice-aggregate-result-2 c = search needs
 
 returns : tie.Need-returns
 returns c =
@@ -59,16 +35,16 @@ pub letters-spec : {M : Type 1} → statement M
 letters-spec =
     tie.close
     (tie.spec
-    read-requires
-    enum-known-start
+    (λ c κs. search needs)
+    (λ c. search needs)
     add-result
-    sub-result
-    part-result-start
+    (λ c. search needs)
+    (λ c. search needs)
     part-result-end
-    enum-told
-    slice-aggregate-result
-    enum-told-2
-    slice-aggregate-result-2
+    (λ c. search needs)
+    (λ c. search needs)
+    (λ c. search needs)
+    (λ c. search needs)
     returns
     returns-2
     returns-3)

@@ -2,18 +2,9 @@
 use mathlib.Core.Path.{sym, ap, _∙_}
 use borrow.Author.Needs.{needs}
 use Rattle.stretch.specs.Answers.{toldChecked}
-use Rattle.stretch.proofs.Readings.{check-accepted, read-refused}
+use Rattle.stretch.proofs.ReadsAtPlace.{check-accepted, read-refused}
 use Rattle.stretch.proofs.reading.read.Statement.{statement}
 use Rattle.stretch.proofs.reading.read.Tie as tie
-
-check-requires : tie.Need-check-requires
-check-requires c κs = search needs
-
-enum-known-refusal : tie.Need-enum-known-refusal
-enum-known-refusal c = search needs
-
-enum-known-segments : tie.Need-enum-known-segments
-enum-known-segments c = search needs
 
 from-place-requires : tie.Need-from-place-requires
 from-place-requires c κs =
@@ -25,16 +16,13 @@ returns c =
     let d = c .before .before .before in
     read-refused _ _ _ _ _ (sym (ap toldChecked (c .before .refusal .given .1)) ∙ d .check .ensures)
 
-returns-2 : tie.Need-returns-2
-returns-2 c = search needs
-
 pub read-spec : {M : Type 1} → statement M
 read-spec =
     tie.close
     (tie.spec
-    check-requires
-    enum-known-refusal
-    enum-known-segments
+    (λ c κs. search needs)
+    (λ c. search needs)
+    (λ c. search needs)
     from-place-requires
     returns
-    returns-2)
+    (λ c. search needs))

@@ -7,8 +7,7 @@ use lib.ListN.{length, take, drop}
 use Rattle.text.specs.Compare.{same}
 use Rattle.stretch.specs.Pieces.{lettersAt}
 use Rattle.stretch.specs.Pieces.{repeatedBefore}
-use Rattle.stretch.proofs.Words.{word-small}
-use Rattle.stretch.proofs.Repeats.{repeats-short, repeats-room, before-none, before-found, before-other}
+use Rattle.stretch.proofs.RepeatsInBytes.{repeats-short, repeats-room, before-none, before-found, before-other}
 use borrow.Author.Needs.{needs}
 use Rattle.stretch.proofs.repetition.repeated.Statement.{statement}
 use Rattle.stretch.proofs.repetition.repeated.Tie as tie
@@ -23,9 +22,6 @@ abbrev μ-loop : tie.MeasureT-loop
 returns : tie.Need-returns Inv-loop μ-loop
 returns c = sym (repeats-short _ _ _ _ (omega arith))
 
-sub-left : tie.Need-sub-left Inv-loop μ-loop
-sub-left c = search needs
-
 returns-2 : tie.Need-returns-2 Inv-loop μ-loop
 returns-2 c = sym (repeats-short _ _ _ _ (omega arith))
 
@@ -37,42 +33,29 @@ loop-holds c = (_, refl, omega arith)
 
 -- the variant has room at `at`
 room : (c : tie.At-loop Inv-loop μ-loop)
-    → c .before .before .before .before .before .before .args .at + 2 + length (c .before .before .before .before .before .before .args .variant .now) ≤ length (c .before .before .before .before .before .before .args .stretch .now)
+    → let a = c .before .before .before .before .before .before .args in
+    a .at + 2 + length (a .variant .now) ≤ length (a .stretch .now)
 room c = omega arith
 
 -- what was compared
 compared : (c : tie.After-stands Inv-loop μ-loop)
-    → same (c .before .before .before .before .before .before .before .before .before .args .variant .now) (lettersAt (c .before .before .before .before .before .before .before .before .before .args .stretch .now) (c .before .before .before .loop .place)) ≡ c .stands .result
+    → let a = c .before .before .before .before .before .before .before .before .before .args in
+    same (a .variant .now) (lettersAt (a .stretch .now) (c .before .before .before .loop .place)) ≡ c .stands .result
 compared c =
     let a = c .before .before .before .before .before .before .before .before .before .args in
     let place = c .before .before .before .loop .place in
-    ap (λ (n : ℕ). same (a .variant .now) (take n (drop (place + 2) (a .stretch .now)))) (sym (c .before .pair .ensures .0)) ∙ sym (c .stands .ensures)
-
-pair-requires : tie.Need-pair-requires Inv-loop μ-loop
-pair-requires c κs = search needs
-
-add-start : tie.Need-add-start Inv-loop μ-loop
-add-start c = search needs
-
-stands-requires : tie.Need-stands-requires Inv-loop μ-loop
-stands-requires c κs = search needs
+    ap (λ (n : ℕ). same (a .variant .now) (take n (drop (place + 2) (a .stretch .now)))) (sym (c .before .pair .ensures .0))
+    ∙ sym (c .stands .ensures)
 
 returns-4 : tie.Need-returns-4 Inv-loop μ-loop
 returns-4 c =
     let turn = c .before .before .before in
     let q = turn .before .loop .inv in
-    sym (repeats-room _ _ _ _ (room (turn .before)) ∙ q .1 ∙ before-found _ _ _ _ _ (q .2) (turn .loop-test .taken) (compared (c .before) ∙ c .if4 .taken))
+    let found = before-found _ _ _ _ _ (q .2) (turn .loop-test .taken) (compared (c .before) ∙ c .if4 .taken) in
+    sym (repeats-room _ _ _ _ (room (turn .before)) ∙ q .1 ∙ found)
 
 add-place : tie.Need-add-place Inv-loop μ-loop
-add-place c =
-    let turn = c .before .before .before in
-    let bytes = turn .before .before .before .before .before .before .shared-slice-known .given in
-    let s = turn .before .before .before .before .before .before .before .args .stretch .now in
-    let small = word-small s (turn .before .loop .place) (λ i. omega (arith, bytes i)) in
-    omega (arith, c .before .before .pair .ensures .0, small)
-
-loop-less : tie.Need-loop-less Inv-loop μ-loop
-loop-less c = search needs
+add-place c = omega (arith, c .before .before .pair .ensures .1)
 
 loop-again : tie.Need-loop-again Inv-loop μ-loop
 loop-again c =
@@ -93,15 +76,15 @@ repeated-spec =
     Inv-loop
     μ-loop
     returns
-    sub-left
+    (λ c. search needs)
     returns-2
     returns-3
     loop-holds
-    pair-requires
-    add-start
-    stands-requires
+    (λ c κs. search needs)
+    (λ c. search needs)
+    (λ c κs. search needs)
     returns-4
     add-place
-    loop-less
+    (λ c. search needs)
     loop-again
     returns-5)

@@ -4,28 +4,13 @@ use native.Mathlib.Omega.{arith}
 use mathlib.Core.Path.{_≡_, sym, ap, _∙_}
 use lib.ListN.{take, drop}
 use Rattle.text.specs.Compare.{same}
-use Rattle.stretch.proofs.Repeats.{other-length}
+use Rattle.stretch.proofs.RepeatsInBytes.{other-length}
 use borrow.Author.Needs.{needs}
 use Rattle.stretch.proofs.repetition.stands.Statement.{statement}
 use Rattle.stretch.proofs.repetition.stands.Tie as tie
 
 returns : tie.Need-returns
 returns c = let d = c .before .before .before in sym (other-length _ _ _ _ (d .pre) (c .if1 .taken))
-
-add-next : tie.Need-add-next
-add-next c = search needs
-
-sub-same : tie.Need-sub-same
-sub-same c = search needs
-
-part-same-start : tie.Need-part-same-start
-part-same-start c = search needs
-
-part-same-end : tie.Need-part-same-end
-part-same-end c = search needs
-
-same-requires : tie.Need-same-requires
-same-requires c κs = search needs
 
 returns-2 : tie.Need-returns-2
 returns-2 c =
@@ -36,4 +21,4 @@ returns-2 c =
 pub stands-spec : {M : Type 1} → statement M
 stands-spec =
     tie.close
-    (tie.spec returns add-next sub-same part-same-start part-same-end same-requires returns-2)
+    (tie.spec returns (λ c. search needs) (λ c. search needs) (λ c. search needs) (λ c. search needs) (λ c κs. search needs) returns-2)

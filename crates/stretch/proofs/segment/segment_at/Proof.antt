@@ -8,7 +8,7 @@ use mathlib.Core.List.{[]}
 use Rattle.text.specs.Text.{Segment}
 use Rattle.stretch.specs.Pieces.{toldPart}
 use Rattle.stretch.proofs.Frames.{Counts, count-refused, count-met, count-many}
-use Rattle.stretch.proofs.Units.{sound-read}
+use Rattle.stretch.proofs.Units.{span-read}
 use Rattle.stretch.proofs.Segments.{InSegment, in-none, in-whole, in-more, in-refused, in-all, walked-refused, walked-done}
 use Rattle.stretch.proofs.segment.segment_at.Statement.{statement}
 use Rattle.stretch.proofs.segment.segment_at.Tie as tie
@@ -47,7 +47,7 @@ returns-2 c =
 
 sub-counted : tie.Need-sub-counted Inv-loop μ-loop
 sub-counted c =
-    let w = sound-read _ _ _ _ _ _ (sym (c .before .before .before .variant-at .ensures) ∙ ap toldPart (c .before .start .given .1)) .0 in
+    let w = span-read _ _ _ _ _ (sym (c .before .before .before .variant-at .ensures) ∙ ap toldPart (c .before .start .given .1)) .0 in
     omega (arith, w .starts, w .ends)
 
 loop-again : tie.Need-loop-again Inv-loop μ-loop

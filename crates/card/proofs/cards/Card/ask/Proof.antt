@@ -2,16 +2,12 @@
 use mathlib.Core.Path.{_≡_}
 use mathlib.Core.Bool.{true}
 use Rattle.text.specs.Card.{wellFormed}
-use Rattle.text.proofs.Cards.{well}
 use Rattle.card.specs.Cards.{cardIn}
 use Rattle.card.proofs.Tests.{passed, failed}
 use Rattle.card.proofs.Answered.{ask-malformed, ask-wrong, ask-follow}
 use borrow.Author.Needs.{needs}
 use Rattle.card.proofs.cards.Card.ask.Statement.{statement}
 use Rattle.card.proofs.cards.Card.ask.Tie as tie
-
-well-formed-requires : tie.Need-well-formed-requires
-well-formed-requires c κs = search needs
 
 returns : tie.Need-returns
 returns c = ask-malformed _ _ (failed (c .before .well-formed .ensures) (c .if1 .taken))
@@ -20,25 +16,10 @@ returns c = ask-malformed _ _ (failed (c .before .well-formed .ensures) (c .if1 
 formed : (c : tie.Else1) → wellFormed (cardIn (c .before .before .args .self)) ≡ true
 formed c = passed (c .before .well-formed .ensures) (c .if1 .left)
 
-cast-m : tie.Need-cast-m
-cast-m c = search needs
-
-is-state-requires : tie.Need-is-state-requires
-is-state-requires c κs = let w = well _ .0 (formed (c .before)) in record { some = w .some; short = w .short }
-
 returns-2 : tie.Need-returns-2
 returns-2 c =
     let i = c .before in
     ask-wrong _ _ (formed (i .before .before)) (failed (i .is-state .ensures) (c .if2 .taken))
-
-slice-aggregate-follow : tie.Need-slice-aggregate-follow
-slice-aggregate-follow c = search needs
-
-slice-aggregate-follow-2 : tie.Need-slice-aggregate-follow-2
-slice-aggregate-follow-2 c = search needs
-
-follow-requires : tie.Need-follow-requires
-follow-requires c κs = search needs
 
 returns-3 : tie.Need-returns-3
 returns-3 c =
@@ -50,12 +31,12 @@ pub ask-spec : {M : Type 1} → statement M
 ask-spec =
     tie.close
     (tie.spec
-    well-formed-requires
+    (λ c κs. search needs)
     returns
-    cast-m
-    is-state-requires
+    (λ c. search needs)
+    (λ c κs. search needs)
     returns-2
-    slice-aggregate-follow
-    slice-aggregate-follow-2
-    follow-requires
+    (λ c. search needs)
+    (λ c. search needs)
+    (λ c κs. search needs)
     returns-3)

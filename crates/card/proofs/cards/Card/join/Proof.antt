@@ -3,7 +3,7 @@ use mathlib.Core.Path.{_≡_, sym, ap, _∙_}
 use mathlib.Core.Bool.{true}
 use Rattle.text.specs.Refusal.{ok}
 use Rattle.text.specs.Card.{wellFormed, samePattern, join, joined}
-use Rattle.text.proofs.Cards.{well}
+use Rattle.text.proofs.Cards.Formed.{well}
 use Rattle.card.specs.Cards.{cardIn}
 use Rattle.card.specs.Answers.{accepted, made}
 use Rattle.card.proofs.Tests.{passed, failed}
@@ -11,12 +11,6 @@ use Rattle.card.proofs.Answered.{join-left-malformed, join-right-malfor
 use borrow.Author.Needs.{needs}
 use Rattle.card.proofs.cards.Card.join.Statement.{statement}
 use Rattle.card.proofs.cards.Card.join.Tie as tie
-
-well-formed-requires : tie.Need-well-formed-requires
-well-formed-requires c κs = search needs
-
-refused-requires : tie.Need-refused-requires
-refused-requires c κs = search needs
 
 returns : tie.Need-returns
 returns c =
@@ -35,23 +29,11 @@ alike : (c : tie.Else3)
     samePattern (cardIn (s .self)) (cardIn (s .right)) ≡ true
 alike c = passed (c .before .same-pattern .ensures) (c .if3 .left)
 
-well-formed-requires-2 : tie.Need-well-formed-requires-2
-well-formed-requires-2 c κs = search needs
-
-refused-requires-2 : tie.Need-refused-requires-2
-refused-requires-2 c κs = search needs
-
 returns-2 : tie.Need-returns-2
 returns-2 c =
     let s = c .before in
     let wrong = failed (s .before .well-formed2 .ensures) (s .if2 .taken) in
     c .refused2 .ensures ∙ ap made (sym (join-right-malformed _ _ (left (s .before .before)) wrong))
-
-same-pattern-requires : tie.Need-same-pattern-requires
-same-pattern-requires c κs = search needs
-
-refused-requires-3 : tie.Need-refused-requires-3
-refused-requires-3 c κs = search needs
 
 returns-3 : tie.Need-returns-3
 returns-3 c =
@@ -62,9 +44,6 @@ returns-3 c =
 
 sub-if4 : tie.Need-sub-if4
 sub-if4 c = well _ .0 (left (c .before .before .before .before .before)) .count
-
-refused-requires-4 : tie.Need-refused-requires-4
-refused-requires-4 c κs = search needs
 
 returns-4 : tie.Need-returns-4
 returns-4 c =
@@ -84,9 +63,6 @@ fits c =
 joined-requires : tie.Need-joined-requires
 joined-requires c κs = fits c
 
-accepted-requires : tie.Need-accepted-requires
-accepted-requires c κs = search needs
-
 returns-5 : tie.Need-returns-5
 returns-5 c = c .accepted .ensures ∙ ap accepted (c .before .joined .ensures) ∙ ap made (sym (fits (c .before .before)))
 
@@ -94,18 +70,18 @@ pub join-spec : {M : Type 1} → statement M
 join-spec =
     tie.close
     (tie.spec
-    well-formed-requires
-    refused-requires
+    (λ c κs. search needs)
+    (λ c κs. search needs)
     returns
-    well-formed-requires-2
-    refused-requires-2
+    (λ c κs. search needs)
+    (λ c κs. search needs)
     returns-2
-    same-pattern-requires
-    refused-requires-3
+    (λ c κs. search needs)
+    (λ c κs. search needs)
     returns-3
     sub-if4
-    refused-requires-4
+    (λ c κs. search needs)
     returns-4
     joined-requires
-    accepted-requires
+    (λ c κs. search needs)
     returns-5)

@@ -1,0 +1,89 @@
+// A stretch and a pattern, compared in every call.
+use crate::cards;
+use crate::feeds;
+use crate::groups;
+use crate::joins;
+use crate::reads;
+use crate::searches;
+use crate::writes;
+use card::Card;
+use straight::Verdict;
+use straight::part;
+use tally::Answer;
+use tally::Tally;
+use tally::checked;
+use text::strand::Strand;
+
+// The calls on the bytes alone. A damaged stretch that is refused is not written.
+fn bytes_alone(tally: Tally, kind: usize, bytes: &[u8], verdict: Verdict) -> Tally {
+    let wanted = Answer {
+        number: verdict.number,
+        place: verdict.place,
+        first: verdict.segments,
+        second: verdict.size,
+        third: 0,
+    };
+    let t = tally.compare(groups::CHECKS, checked(stretch::check(bytes)), wanted);
+    let read = reads::compare(t, bytes, verdict);
+    if kind == groups::DAMAGED {
+        if verdict.number != 0 {
+            return read;
+        }
+    }
+    writes::compare(read, bytes, verdict)
+}
+
+// The calls on the pattern too.
+fn searched(tally: Tally, kind: usize, p: &[u8], bytes: &[u8], verdict: Verdict) -> Tally {
+    let found = straight::run(p, bytes, verdict, 1);
+    let refusal = tally.more(kind | verdict.number as usize, 1);
+    let segments = refusal.more(kind | groups::SEGMENTS, verdict.segments);
+    let seen = segments.more(kind | groups::MARKED, found.ends);
+    on(seen, p, p, Strand::Given, bytes, verdict)
+}
+
+// The calls on a strand that reads `given` as P.
+fn on(
+    tally: Tally,
+    p: &[u8],
+    given: &[u8],
+    strand: Strand,
+    bytes: &[u8],
+    verdict: Verdict,
+) -> Tally {
+    let found = straight::run(p, bytes, verdict, 1);
+    let t = searches::compare(tally, given, strand, bytes, verdict, found);
+    let fed = feeds::compare(t, p, given, strand, bytes, verdict);
+    let made = Card::of(given, strand, bytes);
+    cards::compare(fed, groups::CARDS, p, bytes, verdict, made)
+}
+
+// The calls on the opposite strand, which reads what is opposite to P as P, and the search on both strands.
+fn opposite(tally: Tally, p: &[u8], bytes: &[u8], alone: Verdict) -> Tally {
+    let mut bases = [0u8; 65];
+    let m = straight::turned(&mut bases, p);
+    let given = part(&bases, 0, m);
+    let verdict = straight::pattern(given, alone);
+    let t = on(tally, p, given, Strand::Opposite, bytes, verdict);
+    let own = straight::run(p, bytes, verdict, 1);
+    let other = straight::run(given, bytes, verdict, 1);
+    searches::compare_either(t, given, bytes, verdict, own.or(other))
+}
+
+// Everything. `kind` says which groups count what was seen.
+pub fn compare(tally: Tally, kind: usize, p: &[u8], bytes: &[u8]) -> Tally {
+    let alone = straight::stretch(bytes);
+    let verdict = straight::pattern(p, alone);
+    let t = searched(
+        bytes_alone(tally, kind, bytes, alone),
+        kind,
+        p,
+        bytes,
+        verdict,
+    );
+    let turned = opposite(t, p, bytes, alone);
+    if verdict.number != 0 {
+        return turned;
+    }
+    joins::compare(turned, p, bytes, verdict)
+}

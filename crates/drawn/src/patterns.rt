@@ -1,0 +1,91 @@
+// Patterns for a text: read out of it along random variants, or of random bases; and spoilt ones.
+use crate::numbers::below;
+use crate::puts::letter;
+use crate::puts::put_letters;
+use std::num::wrapping_add_usize;
+use straight::letters_at;
+use straight::number_at;
+use straight::part;
+use straight::put;
+use straight::put_part;
+use straight::skip;
+use straight::word_at;
+
+// How many bases a pattern is to have, 1 to 64: mostly few.
+fn bases(seed: u64) -> usize {
+    let kind = below(seed, 600, 16);
+    let most = match kind {
+        0..=4 => 64,
+        5..=8 => 16,
+        _ => 6,
+    };
+    if kind == 0 {
+        return 64;
+    }
+    wrapping_add_usize(below(seed, 601, most), 1)
+}
+
+// The letters of a random variant of the segment at a place.
+fn picked(bytes: &[u8], at: usize, seed: u64) -> &[u8] {
+    let number = below(seed, at, number_at(bytes, at));
+    letters_at(bytes, skip(bytes, wrapping_add_usize(at, 1), number))
+}
+
+// Puts a random variant of each segment behind the other, and tells how many letters they have.
+fn path(out: &mut [u8], bytes: &[u8], seed: u64) -> usize {
+    let segments = word_at(bytes, 0);
+    let mut n = 0;
+    let mut at = 2;
+    let mut j = 0;
+    while j < segments {
+        n = put_part(&mut *out, n, picked(bytes, at, seed));
+        at = skip(bytes, wrapping_add_usize(at, 1), number_at(bytes, at));
+        j += 1;
+    }
+    n
+}
+
+// Puts up to so many bases that can be read along a path of a text, and tells how many.
+fn read_out(out: &mut [u8], bytes: &[u8], wanted: usize, seed: u64) -> usize {
+    let mut letters = [0u8; 1024];
+    let n = path(&mut letters, bytes, seed);
+    let from = below(seed, 602, n);
+    let left = if from < n { n - from } else { 0 };
+    let m = if left < wanted { left } else { wanted };
+    put_part(&mut *out, 0, part(&letters, from, m))
+}
+
+// Puts one base that may be another, in one case of four.
+fn slip(out: &mut [u8], m: usize, seed: u64) {
+    if below(seed, 603, 4) == 0 {
+        put(&mut *out, below(seed, 604, m), letter(seed, 605, 4));
+    }
+}
+
+// Puts a pattern, and tells how many bases it has: half of them are read out of the text, where it has letters.
+pub fn pattern(out: &mut [u8], bytes: &[u8], seed: u64) -> usize {
+    let wanted = bases(seed);
+    let asked = if below(seed, 606, 2) == 0 { wanted } else { 0 };
+    let m = read_out(&mut *out, bytes, asked, seed);
+    if m == 0 {
+        put_letters(&mut *out, 0, wanted, seed, seed);
+        return wanted;
+    }
+    slip(&mut *out, m, seed);
+    m
+}
+
+// Puts a pattern again, in one case of eight spoilt: none of it, one base too many, or a byte that is no base.
+pub fn spoil(out: &mut [u8], p: &[u8], seed: u64) -> usize {
+    let m = put_part(&mut *out, 0, p);
+    let kind = below(seed, 607, 32);
+    match kind {
+        0 => 0,
+        1 => out.len(),
+        2 | 3 => {
+            put(&mut *out, below(seed, 608, m), b'N');
+            m
+        }
+        _ => m,
+    }
+}

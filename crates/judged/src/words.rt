@@ -1,0 +1,112 @@
+// The words of a line, with one space between them, and the numbers that they spell.
+use std::num::wrapping_add_u64;
+use std::num::wrapping_add_usize;
+use std::num::wrapping_sub_usize;
+use straight::number_at;
+use straight::part;
+use tally::Answer;
+use text::strand::Strand;
+
+// The place of the next such byte from a place on, or the end.
+pub fn find(line: &[u8], from: usize, byte: u8) -> usize {
+    let mut at = from;
+    while at < line.len() {
+        if line[at] == byte {
+            return at;
+        }
+        at += 1;
+    }
+    at
+}
+
+// What stands from a place on.
+pub fn rest(line: &[u8], from: usize) -> &[u8] {
+    part(line, from, wrapping_sub_usize(line.len(), from))
+}
+
+// The place of the word of that number.
+fn start(line: &[u8], number: usize) -> usize {
+    let mut at = 0;
+    let mut k = 0;
+    while k < number {
+        at = wrapping_add_usize(find(line, at, b' '), 1);
+        k += 1;
+    }
+    at
+}
+
+// The word of that number; nothing where it is a dash or there is none.
+pub fn word(line: &[u8], number: usize) -> &[u8] {
+    let at = start(line, number);
+    if number_at(line, at) == 45 {
+        return &line[..0];
+    }
+    part(line, at, wrapping_sub_usize(find(line, at, b' '), at))
+}
+
+// Whether the pattern of a line, its first word, has ~ in front: it is read on the opposite strand.
+fn is_turned(line: &[u8]) -> bool {
+    number_at(word(line, 1), 0) == 126
+}
+
+// The pattern of a line, without the ~.
+pub fn pattern(line: &[u8]) -> &[u8] {
+    let first = word(line, 1);
+    if is_turned(line) {
+        return rest(first, 1);
+    }
+    first
+}
+
+// The strand on which it is read.
+pub fn strand(line: &[u8]) -> Strand {
+    if is_turned(line) {
+        return Strand::Opposite;
+    }
+    Strand::Given
+}
+
+// Ten times as much, and a digit.
+fn appended(number: u64, digit: u8) -> u64 {
+    let ten = wrapping_add_u64(number << 3, number << 1);
+    wrapping_add_u64(ten, (digit % 16) as u64)
+}
+
+// The number that digits spell, up to the first other byte.
+pub fn spelt(word: &[u8]) -> u64 {
+    let mut number = 0;
+    let mut i = 0;
+    while i < word.len() {
+        let byte = word[i];
+        match byte {
+            b'0'..=b'9' => {}
+            _ => {
+                return number;
+            }
+        }
+        number = appended(number, byte);
+        i += 1;
+    }
+    number
+}
+
+// The number that the word of that number spells.
+pub fn number(line: &[u8], k: usize) -> usize {
+    spelt(word(line, k)) as usize
+}
+
+// The wanted answer: behind = up to three results, behind ! the refusal's number and place and what goes with them.
+pub fn wanted(line: &[u8]) -> Answer {
+    let refusal = rest(line, find(line, 0, b'!'));
+    let results = rest(line, find(line, 0, b'='));
+    if refusal.len() == 0 {
+        return Answer::told(number(results, 1), number(results, 2), number(results, 3));
+    }
+    Answer {
+        number: number(refusal, 1) as u64,
+        place: number(refusal, 2),
+        first: number(refusal, 3),
+        second: number(refusal, 4),
+        third: number(refusal, 5),
+    }
+}

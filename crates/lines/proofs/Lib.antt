@@ -1,0 +1,9 @@
+-- Laws of the definitions in specs/.
+pub mod Putting
+pub mod Digits
+pub mod Marked
+pub mod Screens
+pub mod Named
+pub mod Answering
+pub mod Enough
+pub mod Theorems

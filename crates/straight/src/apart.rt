@@ -1,0 +1,40 @@
+// A text taken apart: its letters in a row, the lengths of its variants and the variant counts of its segments.
+use crate::parts::letters_at;
+use crate::parts::number_at;
+use crate::parts::place_of;
+use crate::parts::put_part;
+use crate::parts::segment_at;
+use crate::parts::word_at;
+
+// The letters of all variants in a row, and how many there are.
+pub fn letters(out: &mut [u8], bytes: &[u8], segments: usize, variants: usize) -> usize {
+    let mut n = 0;
+    let mut k = 0;
+    while k < variants {
+        let place = place_of(bytes, segments, k);
+        n = put_part(&mut *out, n, letters_at(bytes, place.at));
+        k += 1;
+    }
+    n
+}
+
+// The length of each variant, as far as there is room.
+pub fn lengths(out: &mut [u16], bytes: &[u8], segments: usize) {
+    let mut k = 0;
+    while k < out.len() {
+        let place = place_of(bytes, segments, k);
+        let length = word_at(bytes, place.at);
+        out[k] = (length % 65536) as u16;
+        k += 1;
+    }
+}
+
+// The variant count of each segment, as far as there is room.
+pub fn counts(out: &mut [u8], bytes: &[u8]) {
+    let mut j = 0;
+    while j < out.len() {
+        let count = number_at(bytes, segment_at(bytes, j));
+        out[j] = (count % 256) as u8;
+        j += 1;
+    }
+}

@@ -1,0 +1,114 @@
+-- What was read from a stretch can be given to a write: letters and counts are bytes, lengths are below 65,536.
+use Prim.Native.Nat.{ℕ, zero, suc, _+_, _<_, _≤_}
+use native.Mathlib.Omega.{arith}
+use native.Mathlib.Decide.{decLt}
+use mathlib.Core.Logic.{by-cases, ⊎-elim}
+use mathlib.Core.Path.{_≡_, refl, _∙_}
+use mathlib.Core.Bool.{Bool, true, _||_}
+use mathlib.Core.List.{List, [], _∷_, _++_, flatten}
+use borrow.Author.Tests.{leb-true, eqb-true}
+use lib.Dec.{leb, eqb}
+use lib.ListN.{length, getD, List·getD-map, List·getD-eq-default}
+use Rattle.text.specs.Letter.{base, letter, every}
+use Rattle.text.specs.Text.{Segment, Text, total}
+use Rattle.text.proofs.Truth.{and-both, and-left, and-right, or-cases}
+use Rattle.stretch.specs.Bytes.{greatestStretch}
+use Rattle.stretch.specs.Encoding.{encode, all, writableSegment, writable}
+use Rattle.stretch.specs.Cuts.{sum}
+use Rattle.stretch.specs.Writing.{needed, lettersOf, lengthsOf, countsOf}
+use Rattle.stretch.proofs.Rows.{all-append}
+use Rattle.stretch.proofs.Encoding.{writable-segment}
+use Rattle.stretch.proofs.RoundTrips.{apart}
+
+-- a member of a list of numbers is no more than their sum
+member-le : (ns : List ℕ) (k : ℕ) → getD ns k 0 ≤ sum ns
+unfolding total
+member-le [] k = omega arith
+member-le (n ∷ ns) zero = omega arith
+member-le (n ∷ ns) (suc k) = omega (arith, member-le ns k)
+
+-- what holds of every byte holds of each, and of those of several lists in a row
+every-at : (f : ℕ → Bool) (s : List ℕ) (k : ℕ) → every f s ≡ true → k < length s → f (getD s k 0) ≡ true
+unfolding every
+every-at f [] k e l = absurd (let z : ⊥ = omega arith in z)
+every-at f (c ∷ s) zero e l = and-left (f c) (every f s) e
+every-at f (c ∷ s) (suc k) e l = every-at f s k (and-right (f c) (every f s) e) (omega arith)
+
+every-append : (f : ℕ → Bool) (s r : List ℕ) → every f s ≡ true → every f r ≡ true → every f (s ++ r) ≡ true
+unfolding every
+every-append f [] r e h = h
+every-append f (c ∷ s) r e h =
+    and-both (f c) (every f (s ++ r)) (and-left (f c) (every f s) e) (every-append f s r (and-right (f c) (every f s) e) h)
+
+every-flatten : (f : ℕ → Bool) (g : Segment) → all (every f) g ≡ true → every f (flatten g) ≡ true
+unfolding every all flatten
+every-flatten f [] e = refl
+every-flatten f (v ∷ g) e =
+    every-append f v (flatten g) (and-left (every f v) (all (every f) g) e) (every-flatten f g (and-right (every f v) (all (every f) g) e))
+
+writable-letters : (t : Text) → all writableSegment t ≡ true → all (every letter) (flatten t) ≡ true
+unfolding all flatten
+writable-letters [] w = refl
+writable-letters (g ∷ t) w =
+    all-append (every letter) g (flatten t)
+    ∙ and-both (all (every letter) g) (all (every letter) (flatten t))
+    (writable-segment g (and-left (writableSegment g) (all writableSegment t) w) .fresh .letters)
+    (writable-letters t (and-right (writableSegment g) (all writableSegment t) w))
+
+small-letter : (c : ℕ) → letter c ≡ true → c < 256
+unfolding letter base
+small-letter c e =
+    ⊎-elim
+    (λ (h : (eqb c 0x41 || eqb c 0x43 || eqb c 0x47) ≡ true).
+    ⊎-elim
+    (λ (h : (eqb c 0x41 || eqb c 0x43) ≡ true).
+    ⊎-elim (λ (h : eqb c 0x41 ≡ true). omega (arith, eqb-true c 0x41 h)) (λ (h : eqb c 0x43 ≡ true). omega (arith, eqb-true c 0x43 h))
+    (or-cases (eqb c 0x41) (eqb c 0x43) h))
+    (λ (h : eqb c 0x47 ≡ true). omega (arith, eqb-true c 0x47 h))
+    (or-cases (eqb c 0x41 || eqb c 0x43) (eqb c 0x47) h))
+    (λ (h : eqb c 0x54 ≡ true). omega (arith, eqb-true c 0x54 h))
+    (or-cases (eqb c 0x41 || eqb c 0x43 || eqb c 0x47) (eqb c 0x54) e)
+
+few-variants : (t : Text) → all writableSegment t ≡ true → (k : ℕ) → length (getD t k []) < 256
+unfolding all
+few-variants [] w k = omega arith
+few-variants (g ∷ t) w zero = omega (arith, writable-segment g (and-left (writableSegment g) (all writableSegment t) w) .few)
+few-variants (g ∷ t) w (suc k) = few-variants t (and-right (writableSegment g) (all writableSegment t) w) k
+
+-- letters, lengths and counts that a call can be given
+pub record Typed (letters lengths counts : List ℕ) : Type 0 where
+  pub letter : (k : ℕ) → getD letters k 0 < 256
+  pub length : (k : ℕ) → getD lengths k 0 < 65536
+  pub count : (k : ℕ) → getD counts k 0 < 256
+
+module _ (t : Text) (w : writable t ≡ true) where
+  good : all writableSegment t ≡ true
+  unfolding writable
+  good = and-left (all writableSegment t) (leb (length (encode t)) greatestStretch) w
+
+  short : length (encode t) ≤ greatestStretch
+  unfolding writable
+  short =
+      leb-true (length (encode t)) greatestStretch (and-right (all writableSegment t) (leb (length (encode t)) greatestStretch) w)
+
+  small-letters : (k : ℕ) → getD (lettersOf t) k 0 < 256
+  unfolding lettersOf
+  small-letters k =
+      by-cases (decLt k (length (flatten (flatten t))))
+      (λ (l : k < length (flatten (flatten t))).
+      small-letter (getD (flatten (flatten t)) k 0)
+      (every-at letter (flatten (flatten t)) k (every-flatten letter (flatten t) (writable-letters t good)) l))
+      (λ (l : ¬ (k < length (flatten (flatten t)))).
+      let out : length (flatten (flatten t)) ≤ k = omega arith in
+      omega (arith, List·getD-eq-default (flatten (flatten t)) 0 out))
+
+  small-lengths : (k : ℕ) → getD (lengthsOf t) k 0 < 65536
+  unfolding needed
+  small-lengths k = let a = apart t good in omega (arith, member-le (lengthsOf t) k, a .matching .spelt, a .size, short)
+
+  small-counts : (k : ℕ) → getD (countsOf t) k 0 < 256
+  unfolding countsOf
+  small-counts k = omega (arith, List·getD-map {A = Segment} length t k [], few-variants t good k)
+
+  pub apart-typed : Typed (lettersOf t) (lengthsOf t) (countsOf t)
+  apart-typed = record { letter = small-letters; length = small-lengths; count = small-counts }

@@ -1,0 +1,37 @@
+// Places in a stretch that was checked: its segments and variants are stepped over, not read again.
+use crate::number::pair;
+use crate::number::wide;
+ghost use Prim.Native.Nat.{_≤_};
+ghost use mathlib.Core.Path.{_≡_};
+ghost use lib.ListN.{length};
+ghost use Rattle.stretch.specs.Skips.{behindVariants, segmentPlace};
+
+// The place behind k variants, of which the first stands at `first`.
+pub fn behind_variants(stretch: &[u8], k: usize, first: usize) -> usize
+    requires { ⌜ behindVariants (now stretch) k first ≤ length (now stretch) ⌝ }
+    ensures { λ r. ⌜ r ≡ behindVariants (now (stretch .entry)) k first ⌝ }
+{
+    let mut at = first;
+    let mut i = 0;
+    while i < k {
+        let letters = pair(stretch, at);
+        at = at + 2 + letters;
+        i += 1;
+    }
+    at
+}
+
+// The place of segment k, where its variant count stands.
+pub fn segment_place(stretch: &[u8], k: usize) -> usize
+    requires { ⌜ segmentPlace (now stretch) k ≤ length (now stretch) ⌝ }
+    ensures { λ r. ⌜ r ≡ segmentPlace (now (stretch .entry)) k ⌝ }
+{
+    let mut at = 2;
+    let mut i = 0;
+    while i < k {
+        let variants = wide(stretch[at]);
+        at = behind_variants(stretch, variants, at + 1);
+        i += 1;
+    }
+    at
+}

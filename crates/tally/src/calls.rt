@@ -1,0 +1,99 @@
+// The answers of the library's calls, all in one form.
+use crate::answers::Answer;
+use card::Asked;
+use card::Made;
+use search::Fed;
+use search::Searched;
+use stretch::Checked;
+use stretch::Got;
+use stretch::Written;
+
+// A check: segment count and size.
+pub fn checked(answer: Checked) -> Answer {
+    match answer {
+        Checked::Sound { segments, size } => Answer::told(segments, size, 0),
+        Checked::Refused(refused) => Answer::refused(refused.number, refused.place),
+    }
+}
+
+// A write: how many bytes were written.
+pub fn written(answer: Written) -> Answer {
+    match answer {
+        Written::Bytes(bytes) => Answer::told(bytes, 0, 0),
+        Written::Refused(refused) => Answer::refused(refused.number, refused.place),
+    }
+}
+
+// A read that is to find so many letters: where they start, 0 for the end and a refusal, and the place that goes with it. A
+// refusal that no call gives where it finds more or fewer.
+pub fn got(answer: Got, letters: usize) -> Answer {
+    match answer {
+        Got::Variant {
+            start,
+            len,
+            segment,
+            variant,
+        } => {
+            if len != letters {
+                return Answer::refused(100, 1);
+            }
+            Answer::told(start, segment, variant)
+        }
+        Got::End { segment, variant } => Answer::told(0, segment, variant),
+        Got::Refused {
+            refusal,
+            segment,
+            variant,
+        } => Answer {
+            number: refusal.number,
+            place: refusal.place,
+            first: 0,
+            second: segment,
+            third: variant,
+        },
+    }
+}
+
+// A search: segment count, size and number of ones.
+pub fn searched(answer: Searched) -> Answer {
+    match answer {
+        Searched::Marked {
+            segments,
+            size,
+            ends,
+        } => Answer::told(segments, size, ends),
+        Searched::Refused(refused) => Answer::refused(refused.number, refused.place),
+    }
+}
+
+// A feed: the bits of the next state, and whether an occurrence ends.
+pub fn fed(answer: Fed) -> Answer {
+    match answer {
+        Fed::Next { state, ends } => Answer::told(state.bits as usize, ends as usize, 0),
+        Fed::Refused(refused) => Answer::refused(refused.number, refused.place),
+    }
+}
+
+// What a card tells of a state: the bits of the state behind the stretch, and the first end.
+pub fn asked(answer: Asked) -> Answer {
+    match answer {
+        Asked::Told { state, first } => Answer::told(state.bits as usize, first as usize, 0),
+        Asked::Refused(refused) => Answer::refused(refused.number, refused.place),
+    }
+}
+
+// A card, at row q modulo 64: the row's exit and first end, and the segment count. Beside a refusal all of them are to be 0.
+pub fn row(answer: Made, q: usize) -> Answer {
+    let refusal = answer.refusal;
+    let card = answer.card;
+    let exits = card.exits;
+    let firsts = card.firsts;
+    let place = q % 64;
+    Answer {
+        number: refusal.number,
+        place: refusal.place,
+        first: exits[place] as usize,
+        second: firsts[place] as usize,
+        third: card.segments as usize,
+    }
+}
