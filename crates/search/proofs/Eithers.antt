@@ -1,16 +1,18 @@
 -- The search on both strands: the union of what they mark, the run over segments that marks it, and what the search answers.
-use Prim.Native.Nat.{ℕ, suc, _+_, _≤_, _<_, max}
+use Prim.Native.Nat.{ℕ, zero, suc, _+_, _≤_, _<_, max}
 use native.Mathlib.Omega.{arith}
 use mathlib.Core.Path.{_≡_, refl, sym, ap, ap₂, subst, _∙_}
+use mathlib.Core.Logic.{_⊎_, inl, inr, ⊎-elim, _↔_}
 use mathlib.Core.Bool.{Bool, true, false, _||_, cond}
 use mathlib.Core.List.{List, [], _∷_, _++_}
-use lib.ListN.{length, set}
-use Rattle.text.specs.Text.{Segment, Text, size}
+use lib.Dec.{eqb}
+use lib.ListN.{length, getD, take, set}
+use Rattle.text.specs.Text.{Segment, Text, segment, total, size}
 use Rattle.text.specs.State.{fresh, next, ends, run, marksFrom, marks}
 use Rattle.text.specs.Refusal.{Outcome, ok, refused, after}
 use Rattle.text.specs.Strand.{opposite}
 use Rattle.text.proofs.Outcomes.{ok-inj, told-met, told-refused}
-use Rattle.text.proofs.Marks.{marks-length}
+use Rattle.text.proofs.Marks.{marks-length, mark-at}
 use Rattle.text.proofs.Folds.{run-snoc, marks-snoc}
 use Rattle.stretch.specs.Reading.{Taken, segmentAt, many}
 use Rattle.search.specs.Masks.{StateOf}
@@ -25,6 +27,10 @@ use Rattle.search.proofs.Entries.{state-of, fresh-state}
 use Rattle.search.proofs.Passes.{Stepped, segment-met, segment-not}
 use Rattle.search.proofs.Markings.{Marking, marking-none, marking-room, marking-more, marking-refused, marking-all, marking-marks, run-marks-not}
 use Rattle.search.proofs.Searches.{run-state}
+
+-- 1 for a mark of 1, and 0 for every other
+abbrev pub one : ℕ → ℕ
+one x = cond (eqb x 1) 1 0
 
 -- rows of marks
 pub united-length : (k l : List ℕ) → length k ≡ length l → length (united k l) ≡ length k
@@ -45,6 +51,41 @@ either-one true true = refl
 either-one true false = refl
 either-one false true = refl
 either-one false false = refl
+
+one-of : (a b : Bool) → (_≡_ {A = ℕ} (max (cond a 1 0) (cond b 1 0)) 1) ↔ ((_≡_ {A = ℕ} (cond a 1 0) 1) ⊎ (_≡_ {A = ℕ} (cond b 1 0) 1))
+one-of true b = (λ e. inl refl, λ h. either-one true b)
+one-of false true = (λ e. inr refl, λ h. refl)
+one-of false false = (λ e. inl e, λ h. ⊎-elim (λ e. e) (λ e. e) h)
+
+pub united-at : (k l : List ℕ) (j : ℕ) → length k ≡ length l → getD (united k l) j 0 ≡ max (getD k j 0) (getD l j 0)
+unfolding united
+united-at [] [] j e = refl
+united-at [] (b ∷ l) j e = absurd (let z : ⊥ = omega arith in z)
+united-at (a ∷ k) [] j e = absurd (let z : ⊥ = omega arith in z)
+united-at (a ∷ k) (b ∷ l) zero e = refl
+united-at (a ∷ k) (b ∷ l) (suc j) e = united-at k l j (omega arith)
+
+-- from two states on, segment by segment: 1 where an occurrence of either ends
+pub united-marks : (P Q : List ℕ) (st re : ℕ) (g : Segment) (T : Text)
+    → united (marksFrom P st (g ∷ T)) (marksFrom Q re (g ∷ T))
+    ≡ cond (ends P st g || ends Q re g) 1 0 ∷ united (marksFrom P (next P st g) T) (marksFrom Q (next Q re g) T)
+unfolding united marksFrom
+united-marks P Q st re g T =
+    ap (λ (x : ℕ). x ∷ united (marksFrom P (next P st g) T) (marksFrom Q (next Q re g) T)) (either-one (ends P st g) (ends Q re g))
+
+-- each of them is 0 or 1, so that their sum is the number of ones
+united-ones : (P Q : List ℕ) (st re : ℕ) (T : Text)
+    → total (λ x. x) (united (marksFrom P st T) (marksFrom Q re T)) ≡ total one (united (marksFrom P st T) (marksFrom Q re T))
+unfolding united marksFrom total
+united-ones P Q st re [] = refl
+united-ones P Q st re (g ∷ T) = ap₂ _+_ (itself (ends P st g) (ends Q re g)) (united-ones P Q (next P st g) (next Q re g) T)
+  where
+    lone : (a : Bool) → cond a 1 0 ≡ one (cond a 1 0)
+    lone true = refl
+    lone false = refl
+
+    itself : (a b : Bool) → max (cond a 1 0) (cond b 1 0) ≡ one (max (cond a 1 0) (cond b 1 0))
+    itself a b = rw (either-one a b) (lone (a || b))
 
 -- the union of what the two strands mark
 module _ (P : List ℕ) where
@@ -69,6 +110,18 @@ module _ (P : List ℕ) where
       ap₂ united (marks-snoc P fresh T g) (marks-snoc (opposite P) fresh T g)
       ∙ united-snoc (marks P T) (marks (opposite P) T) (cond a 1 0) (cond b 1 0) (same-length T)
       ∙ ap (λ (x : ℕ). united (marks P T) (marks (opposite P) T) ++ (x ∷ [])) (either-one a b)
+
+  pub either-ones : (t : Text) → total (λ x. x) (eitherMarks P t) ≡ total one (eitherMarks P t)
+  unfolding eitherMarks marks
+  either-ones t = united-ones P (opposite P) fresh fresh t
+
+  -- segment j is marked where one of the two strands marks it
+  pub either-at : (t : Text) (j : ℕ) → j < length t
+      → (getD (eitherMarks P t) j 0 ≡ 1) ↔ ((getD (marks P t) j 0 ≡ 1) ⊎ (getD (marks (opposite P) t) j 0 ≡ 1))
+  unfolding eitherMarks marks
+  either-at t j l =
+      rw (united-at (marks P t) (marks (opposite P) t) j (same-length t), mark-at P fresh t j l, mark-at (opposite P) fresh t j l)
+      (one-of (ends P (run P fresh (take j t)) (segment t j)) (ends (opposite P) (run (opposite P) fresh (take j t)) (segment t j)))
 
 -- a run from the fresh state leads to a state
 fresh-run : (P : List ℕ) (T : Text) → 0 < length P → StateOf P (run P fresh T)

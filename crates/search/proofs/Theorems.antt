@@ -2,20 +2,21 @@
 -- are what the contracts say of the calls' answers.
 use Prim.Native.Nat.{ℕ, suc, _+_, _≤_, _<_}
 use mathlib.Core.Path.{_≡_, refl, sym, ap, ap₂, _∙_}
-use mathlib.Core.Logic.{_↔_}
+use mathlib.Core.Logic.{_⊎_, inl, inr, ⊎-elim, _↔_}
 use mathlib.Core.Bool.{Bool, true, false, cond}
 use mathlib.Core.List.{List, [], _∷_, map}
 use native.Mathlib.Omega.{arith}
 use lib.ListN.{length, getD, drop, take, List·getD-append, List·getD-map, length-map}
-use Rattle.text.specs.Text.{Text}
+use Rattle.text.specs.Text.{Text, total}
 use Rattle.text.specs.Occurrence.{EndsIn, CarriedOut}
 use Rattle.text.specs.Bits.{bit}
 use Rattle.text.specs.State.{isState, fresh, run, marksFrom, marks}
-use Rattle.text.specs.Refusal.{ok, after}
-use Rattle.text.specs.Strand.{onStrand}
+use Rattle.text.specs.Refusal.{Outcome, ok, refused, after}
+use Rattle.text.specs.Strand.{opposite, onStrand}
 use Rattle.text.specs.declared.strand.Strand.{Strand}
+use Rattle.text.specs.declared.strand.Strand.the-variants.{Given, Opposite}
 use Rattle.text.proofs.Patterns.{SoundPattern}
-use Rattle.text.proofs.Strands.{strand-length, strand-sound}
+use Rattle.text.proofs.Strands.{opposite-length, strand-length, strand-sound}
 use Rattle.text.proofs.Outcomes.{ok-inj}
 use Rattle.text.proofs.Marks.{marks-length}
 use Rattle.text.proofs.Occurrences.{marks-ends, state-carried}
@@ -23,21 +24,29 @@ use Rattle.stretch.specs.Bytes.{over}
 use Rattle.stretch.specs.Pieces.{mostInStretch}
 use Rattle.stretch.specs.Answers.{leftBy}
 use Rattle.search.specs.Answers.{Next, sumsOf, searching, toldSearched}
+use Rattle.search.specs.Either.{eitherMarks, eitherSums}
 use Rattle.search.specs.Chain.{segmentsText, feeds, markOf, stretchesText, Trail, seeks}
 use Rattle.search.specs.declared.searching.Searched.{Searched}
 use Rattle.search.proofs.Entries.{fresh-state}
 use Rattle.search.proofs.Told.{searched-once}
+use Rattle.search.proofs.Eithers.{one, either-length, either-ones, either-at}
 use Rattle.search.proofs.Chains.{steps, feeds-steps, steps-marks, steps-states, seeks-text}
+
+-- the byte that a search of an accepted text leaves for segment j is its mark
+left-at : (f : Text → List ℕ) (o : Outcome Text) (out : List ℕ) (t : Text) (j : ℕ) → o ≡ ok t → j < length (f t)
+    → getD (leftBy f o out) j 0 ≡ getD (f t) j 0
+unfolding over
+left-at f o out t j e l = rw e (List·getD-append (f t) (drop (0 + length (f t)) out) 0 j l)
 
 -- the byte that an accepted search leaves for segment j is 1 exactly when an occurrence ends there
 pub search-marks : (P : List ℕ) (strand : Strand) (s out : List ℕ) (t : Text) (j : ℕ) → 0 < length P → searching P s (length out) ≡ ok t → j < length t
     → (getD (leftBy (marks (onStrand strand P)) (searching P s (length out)) out) j 0 ≡ 1) ↔ EndsIn (onStrand strand P) t j
-unfolding over marks
+unfolding marks
 search-marks P strand s out t j some e l =
     let Q : List ℕ = onStrand strand P in
     let inside : j < length (marks Q t) = rw (marks-length Q fresh t) l in
     let more : 0 < length Q = rw (strand-length strand P) some in
-    rw e (rw (List·getD-append (marks Q t) (drop (0 + length (marks Q t)) out) 0 j inside) (marks-ends Q t j more))
+    rw (left-at (marks Q) (searching P s (length out)) out t j e inside) (marks-ends Q t j more)
 
 -- what both searches promise of their answer and of the buffer that they leave
 abbrev pub Promised : List ℕ → Strand → List ℕ → List ℕ → Searched → List ℕ → Type 0
@@ -49,6 +58,60 @@ Promised P strand s out answer left =
 pub searches-agree : (P : List ℕ) (strand : Strand) (s out : List ℕ) (a b : Searched) (left left′ : List ℕ) → Promised P strand s out a left
     → Promised P strand s out b left′ → (a ≡ b) × (left ≡ left′)
 searches-agree P strand s out a b left left′ p q = (searched-once a b (p .0 ∙ sym (q .0)), p .1 ∙ sym (q .1))
+
+-- what the search on both strands promises of its answer and of the buffer that it leaves
+abbrev pub PromisedEither : List ℕ → List ℕ → List ℕ → Searched → List ℕ → Type 0
+PromisedEither P s out answer left =
+    (toldSearched answer ≡ after (searching P s (length out)) (λ t. ok (eitherSums P t)))
+    × (left ≡ leftBy (eitherMarks P) (searching P s (length out)) out)
+
+-- it refuses where the searches of the two strands refuse, with the same number and place, and changes nothing
+pub either-refuses : (P : List ℕ) (strand : Strand) (s out : List ℕ) (a c : Searched) (left both : List ℕ) → Promised P strand s out a left
+    → PromisedEither P s out c both → (n p : ℕ) → searching P s (length out) ≡ refused n p → (c ≡ a) × (both ≡ out)
+either-refuses P strand s out a c left both p q n k e =
+    let one : toldSearched a ≡ refused n k = rw e at (p .0) in
+    let two : toldSearched c ≡ refused n k = rw e at (q .0) in
+    let same : both ≡ out = rw e at (q .1) in
+    (searched-once c a (two ∙ sym one), same)
+
+-- else the marks that it leaves are the union of those that the search leaves on the strand as given and on the opposite one
+pub either-unites : (P s out : List ℕ) (a b c : Searched) (given turned both : List ℕ) → Promised P Given s out a given
+    → Promised P Opposite s out b turned → PromisedEither P s out c both → (t : Text) → searching P s (length out) ≡ ok t → (j : ℕ) → j < length t
+    → (getD both j 0 ≡ 1) ↔ ((getD given j 0 ≡ 1) ⊎ (getD turned j 0 ≡ 1))
+unfolding marks
+either-unites P s out a b c given turned both p q r t e j l =
+    let o = searching P s (length out) in
+    let own : j < length (marks P t) = rw (marks-length P fresh t) l in
+    let other : j < length (marks (opposite P) t) = rw (marks-length (opposite P) fresh t) l in
+    let all : j < length (eitherMarks P t) = rw (either-length P t) l in
+    rw (
+      p .1,
+      q .1,
+      r .1,
+      left-at (marks P) o out t j e own,
+      left-at (marks (opposite P)) o out t j e other,
+      left-at (eitherMarks P) o out t j e all,
+    )
+    (either-at P t j l)
+
+-- so the byte for segment j is 1 exactly when an occurrence of the pattern or of its opposite ends there
+pub either-marks : (P s out : List ℕ) (t : Text) (j : ℕ) → 0 < length P → searching P s (length out) ≡ ok t → j < length t
+    → (getD (leftBy (eitherMarks P) (searching P s (length out)) out) j 0 ≡ 1) ↔ (EndsIn P t j ⊎ EndsIn (opposite P) t j)
+either-marks P s out t j some e l =
+    let all : j < length (eitherMarks P t) = rw (either-length P t) l in
+    let more : 0 < length (opposite P) = rw (opposite-length P) some in
+    let own : (getD (marks P t) j 0 ≡ 1) ↔ EndsIn P t j = marks-ends P t j some in
+    let other : (getD (marks (opposite P) t) j 0 ≡ 1) ↔ EndsIn (opposite P) t j = marks-ends (opposite P) t j more in
+    let at = either-at P t j l in
+    rw (left-at (eitherMarks P) (searching P s (length out)) out t j e all) (
+      λ h. ⊎-elim (λ x. inl (own .0 x)) (λ x. inr (other .0 x)) (at .0 h),
+      λ h. at .1 (⊎-elim (λ x. inl (own .1 x)) (λ x. inr (other .1 x)) h),
+    )
+
+-- the number that it tells is the number of segments marked 1: one in which both strands end counts once
+pub either-ends : (P : List ℕ) (t : Text) → eitherSums P t .ends ≡ total one (eitherMarks P t)
+unfolding eitherSums
+either-ends P t = either-ones P t
 
 -- what feeding lone segments one by one from the fresh state gives, for a text T of any length
 pub record Feeds (P : List ℕ) (strand : Strand) (ss : List (List ℕ)) (T : Text) : Type 0 where
