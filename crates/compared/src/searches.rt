@@ -8,6 +8,7 @@ use straight::Ran;
 use straight::Verdict;
 use straight::part;
 use straight::put_part;
+use straight::unite;
 use tally::Answer;
 use tally::Tally;
 use tally::held;
@@ -81,17 +82,30 @@ pub fn compare(
     )
 }
 
-// The search on both strands is to mark what is found on either.
+// The search on both strands is to answer so and to leave these marks.
+fn compare_united(tally: Tally, p: &[u8], bytes: &[u8], marks: &[u8], wanted: Answer) -> Tally {
+    let mut left = [7u8; 40];
+    put_part(&mut left, 0, marks);
+    tally.compare(EITHER, united(p, bytes, &left), wanted)
+}
+
+// It is to mark what is found on either.
 pub fn compare_either(
     tally: Tally,
     p: &[u8],
     bytes: &[u8],
     verdict: Verdict,
-    marks: &[u8],
-    ends: usize,
+    own: Ran,
+    other: Ran,
 ) -> Tally {
-    let mut left = [7u8; 40];
-    put_part(&mut left, 0, marks);
-    let answer = united(p, bytes, &left);
-    tally.compare(EITHER, answer, wanted(verdict, ends))
+    let mut marks = own.marks;
+    let more = other.marks;
+    let ends = unite(&mut marks, &more);
+    compare_united(
+        tally,
+        p,
+        bytes,
+        part(&marks, 0, verdict.segments),
+        wanted(verdict, ends),
+    )
 }

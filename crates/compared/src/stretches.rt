@@ -67,11 +67,7 @@ fn opposite(tally: Tally, p: &[u8], bytes: &[u8], alone: Verdict) -> Tally {
     let t = on(tally, p, given, Strand::Opposite, bytes, verdict);
     let own = straight::run(p, bytes, verdict, 1);
     let other = straight::run(given, bytes, verdict, 1);
-    let mut marks = own.marks;
-    let more = other.marks;
-    let ends = straight::unite(&mut marks, &more);
-    let left = part(&marks, 0, verdict.segments);
-    searches::compare_either(t, given, bytes, verdict, left, ends)
+    searches::compare_either(t, given, bytes, verdict, own, other)
 }
 
 // Everything. `kind` says which groups count what was seen.

@@ -41,7 +41,7 @@ cut-behind S x xs k small most =
 
 -- a front that has the bytes that count
 cut : (S : Strands) (k : ℕ) (input : List ℕ) → getD input 0 0 < 256 → mostRead ≤ k → linesOf S (take k input) ≡ linesOf S input
-cut S k [] small most = ap (linesOf S) S (take-nil k)
+cut S k [] small most = ap (linesOf S) (take-nil k)
 cut S zero (x ∷ xs) small most = absurd (let z : ⊥ = omega arith in z)
 cut S (suc k) (x ∷ xs) small most = cut-behind S x xs k small most
 
@@ -56,7 +56,7 @@ module _ (S : Strands) (buffer : List ℕ) (n : ℕ) (bytes : (i : ℕ) → getD
       let same : getD input 0 0 ≡ getD (take n buffer) 0 0 =
       sym (getD-take (length buffer) input 0 0 (omega arith)) ∙ ap (λ (l : List ℕ). getD l 0 0) read in
       let small : getD input 0 0 < 256 = rw same (first-byte n) in
-      ap (linesOf S) S (sym read) ∙ cut S (length buffer) input small most
+      ap (linesOf S) (sym read) ∙ cut S (length buffer) input small most
 
   pub screened-is :
       (d out : List ℕ) (r : ℕ) → mostBytes ≤ length d → length out ≡ length d → Put d 0 (linesOf S (take n buffer)) out r →
