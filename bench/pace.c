@@ -15,12 +15,16 @@ static const struct {
     const char *name;
     search_form *form;
     int checks, searches; /* whether it refuses as document 01 says, and whether it marks */
-} methods[] = {{"bits", cerantuh_search_bits, 1, 1},
-               {"borders", cerantuh_search_borders, 1, 1},
-               {"shiftand", shiftand, 1, 1},
-               {"edsmbv", edsmbv, 0, 1},
-               {"validate", validate, 1, 0},
-               {"memchr", through, 0, 0}};
+    enum { ON_GIVEN, ON_OPPOSITE, ON_EITHER } looks;
+} methods[] = {{"bits", cerantuh_search_bits, 1, 1, ON_GIVEN},
+               {"bits_opposite", cerantuh_search_bits_opposite, 1, 1, ON_OPPOSITE},
+               {"either", cerantuh_search_either, 1, 1, ON_EITHER},
+               {"borders", cerantuh_search_borders, 1, 1, ON_GIVEN},
+               {"borders_opposite", cerantuh_search_borders_opposite, 1, 1, ON_OPPOSITE},
+               {"shiftand", shiftand, 1, 1, ON_GIVEN},
+               {"edsmbv", edsmbv, 0, 1, ON_GIVEN},
+               {"validate", validate, 1, 0, ON_GIVEN},
+               {"memchr", through, 0, 0, ON_GIVEN}};
 enum { METHODS = sizeof methods / sizeof *methods };
 
 static struct made made;
@@ -40,13 +44,24 @@ static int size_of_data(void)
     return 0;
 }
 
+/* What a method is to answer. */
+static void expect(size_t i, size_t m, struct expected *expected)
+{
+    if (methods[i].looks == ON_EITHER) {
+        reference_either(pattern, m, made.bytes, made.len, sizeof marks, sizeof block, expected);
+        return;
+    }
+    enum strand strand = methods[i].looks == ON_GIVEN ? GIVEN : OPPOSITE;
+    reference_search(strand, pattern, m, made.bytes, made.len, sizeof marks, sizeof block, expected);
+}
+
 /* Whether the methods answer, mark and count as the reference does; those that check nothing are asked of sound bytes alone. */
 static int agree(size_t m)
 {
     static struct expected expected;
     int agree = 1;
-    reference_search(pattern, m, made.bytes, made.len, sizeof marks, sizeof block, &expected);
     for (size_t i = 0; i < METHODS; i++) {
+        expect(i, m, &expected);
         if (!methods[i].checks && (expected.answer != 0 || !methods[i].searches)) {
             continue;
         }

@@ -1,4 +1,4 @@
-/* Cerantuh's C forms: the two searches and the feed, for x86-64 Linux. Link target/staticlib/libcerantuh.a, which
+/* Cerantuh's C forms: the searches and the feed, on either strand, for x86-64 Linux. Link target/staticlib/libcerantuh.a, which
    'rt staticlib cerantuh' builds. docs/FORMAT.md has the bytes of a stretch and says when each refusal is given.
 
    Memory. Every pointer comes with its length in bytes, and lends that many bytes for the time of the call. The caller owns
@@ -73,6 +73,19 @@ uint64_t cerantuh_search_bits(const uint8_t *pattern, size_t pattern_len, const 
 uint64_t cerantuh_search_borders(const uint8_t *pattern, size_t pattern_len, const uint8_t *stretch, size_t stretch_len,
                                  uint8_t *marks, size_t marks_len, uint8_t *block, size_t block_len);
 
+/* The same searches on the opposite strand: they look for the reverse complement of the pattern (A with T, C with G, the order
+   reversed). The pattern is handed in as given, and the place in refusal 3 counts there. */
+uint64_t cerantuh_search_bits_opposite(const uint8_t *pattern, size_t pattern_len, const uint8_t *stretch, size_t stretch_len,
+                                       uint8_t *marks, size_t marks_len, uint8_t *block, size_t block_len);
+uint64_t cerantuh_search_borders_opposite(const uint8_t *pattern, size_t pattern_len, const uint8_t *stretch,
+                                          size_t stretch_len, uint8_t *marks, size_t marks_len, uint8_t *block,
+                                          size_t block_len);
+
+/* Both strands at once, in one walk: byte j of the marks becomes 1 if an occurrence of the pattern or of its reverse complement ends
+   in segment j; a segment that both strands mark counts once. */
+uint64_t cerantuh_search_either(const uint8_t *pattern, size_t pattern_len, const uint8_t *stretch, size_t stretch_len,
+                                uint8_t *marks, size_t marks_len, uint8_t *block, size_t block_len);
+
 /* Feeds one segment to a search that goes from segment to segment: the first is fed with CERANTUH_FRESH_STATE, each other with
    the state that the one before gave.
 
@@ -83,6 +96,10 @@ uint64_t cerantuh_search_borders(const uint8_t *pattern, size_t pattern_len, con
             does; bytes from 16 on stay */
 uint64_t cerantuh_feed(const uint8_t *pattern, size_t pattern_len, uint64_t state, const uint8_t *segment, size_t segment_len,
                        uint8_t *block, size_t block_len);
+
+/* The same on the opposite strand: a search of both strands keeps a state for each. */
+uint64_t cerantuh_feed_opposite(const uint8_t *pattern, size_t pattern_len, uint64_t state, const uint8_t *segment,
+                                size_t segment_len, uint8_t *block, size_t block_len);
 
 #ifdef __cplusplus
 }

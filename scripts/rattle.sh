@@ -20,11 +20,13 @@ keep_runtime() {
     mv "$runtime.new" "$runtime"
 }
 
-# Runs a program of target/bin as rt does.
+# Runs a program of target/bin as rt does, with the words behind its name.
 run_program() {
     emulator=$runtime/qemu-x86_64
     [ -x "$emulator" ] || emulator=''
-    $emulator "$runtime/ld-linux-x86-64.so.2" --library-path "$runtime" "target/bin/$1"
+    program=$1
+    shift
+    $emulator "$runtime/ld-linux-x86-64.so.2" --library-path "$runtime" "target/bin/$program" "$@"
 }
 
 # Ends what rt has started, all of it, and then the script. rt starts provers that a Ctrl-C does not reach, so it has a group of its own.

@@ -10,7 +10,10 @@
 
 uint64_t calls_made;
 
-static const char *const form_names[FORMS] = {"cerantuh_search_bits", "cerantuh_search_borders", "cerantuh_feed"};
+static const char *const form_names[FORMS] = {
+    "cerantuh_search_bits", "cerantuh_search_borders", "cerantuh_search_bits_opposite", "cerantuh_search_borders_opposite",
+    "cerantuh_search_either", "cerantuh_feed", "cerantuh_feed_opposite",
+};
 static const char *const placement_names[PLACEMENTS] = {"slices start behind a page", "slices end at a page"};
 
 /* The call under way, for the line that a fault prints. */
@@ -104,10 +107,13 @@ static void print_difference(uint64_t answer, const struct expected *expected)
 
 void call_expect(enum form form, const struct call *call, struct expected *expected)
 {
-    if (form == FEED) {
-        reference_feed(call->pattern, call->m, call->state, call->bytes, call->len, call->block_len, expected);
+    enum strand strand = form == SEARCH_BITS_OPPOSITE || form == SEARCH_BORDERS_OPPOSITE || form == FEED_OPPOSITE ? OPPOSITE : GIVEN;
+    if (form == FEED || form == FEED_OPPOSITE) {
+        reference_feed(strand, call->pattern, call->m, call->state, call->bytes, call->len, call->block_len, expected);
+    } else if (form == SEARCH_EITHER) {
+        reference_either(call->pattern, call->m, call->bytes, call->len, call->marks_len, call->block_len, expected);
     } else {
-        reference_search(call->pattern, call->m, call->bytes, call->len, call->marks_len, call->block_len, expected);
+        reference_search(strand, call->pattern, call->m, call->bytes, call->len, call->marks_len, call->block_len, expected);
     }
 }
 
@@ -118,14 +124,15 @@ static uint64_t run(enum form form, const struct call *call, enum placement plac
     uint8_t *marks = room_lend(&marks_room, placement, NULL, call->marks_len);
     uint8_t *block = room_lend(&block_room, placement, NULL, call->block_len);
     expect_results(expected);
-    switch (form) {
-    case SEARCH_BITS:
-        return cerantuh_search_bits(pattern, call->m, bytes, call->len, marks, call->marks_len, block, call->block_len);
-    case SEARCH_BORDERS:
-        return cerantuh_search_borders(pattern, call->m, bytes, call->len, marks, call->marks_len, block, call->block_len);
-    default:
-        return cerantuh_feed(pattern, call->m, call->state, bytes, call->len, block, call->block_len);
+    if (form == FEED || form == FEED_OPPOSITE) {
+        return (form == FEED ? cerantuh_feed : cerantuh_feed_opposite)(pattern, call->m, call->state, bytes, call->len, block,
+                                                                        call->block_len);
     }
+    static uint64_t (*const searches[])(const uint8_t *, size_t, const uint8_t *, size_t, uint8_t *, size_t, uint8_t *, size_t) = {
+        cerantuh_search_bits, cerantuh_search_borders, cerantuh_search_bits_opposite, cerantuh_search_borders_opposite,
+        cerantuh_search_either,
+    };
+    return searches[form](pattern, call->m, bytes, call->len, marks, call->marks_len, block, call->block_len);
 }
 
 bool call_agrees(enum form form, const struct call *call, enum placement placement, const struct expected *expected)

@@ -7,7 +7,17 @@
 
 #include <stdbool.h>
 
-enum form { SEARCH_BITS, SEARCH_BORDERS, FEED, FORMS };
+/* The searches, then the feeds. */
+enum form {
+    SEARCH_BITS,
+    SEARCH_BORDERS,
+    SEARCH_BITS_OPPOSITE,
+    SEARCH_BORDERS_OPPOSITE,
+    SEARCH_EITHER,
+    FEED,
+    FEED_OPPOSITE,
+    FORMS
+};
 
 struct call {
     const uint8_t *pattern;

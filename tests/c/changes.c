@@ -22,7 +22,7 @@ static void try_part(const char *pattern, const uint8_t *bytes, size_t len, bool
     struct call call = {(const uint8_t *)pattern, strlen(pattern), 1, bytes, len, 8, feeds ? 16 : 24};
     if (feeds) {
         call.state = ((uint64_t)1 << call.m) - 1; /* all lengths carried */
-        try_call(FEED, &call);
+        try_feed(&call);
     } else {
         try_searches(&call);
     }

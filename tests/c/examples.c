@@ -44,16 +44,33 @@ static void example(const char *pattern, const char *text, const char *marks, ui
     feed_all(&call, marks, states);
 }
 
+/* The marks of the opposite strand, and of either. */
+static void strand(const char *pattern, const char *text, const char *opposite, const char *either)
+{
+    static struct expected expected;
+    static const enum form forms[] = {SEARCH_BITS_OPPOSITE, SEARCH_BORDERS_OPPOSITE, SEARCH_EITHER};
+    tally_test("%s, and from the other side, in %.60s", pattern, text);
+    braces(text, &made);
+    struct call call = call_of(pattern);
+    try_searches(&call);
+    for (size_t i = 0; i < sizeof forms / sizeof *forms; i++) {
+        const char *marks = forms[i] == SEARCH_EITHER ? either : opposite;
+        call_expect(forms[i], &call, &expected);
+        for (size_t j = 0; j < strlen(marks); j++) {
+            tally_check(expected.marks[j] == marks[j] - '0', "a mark is not the one written here");
+        }
+    }
+}
+
 /* The stretch, and, where it has one segment, that segment fed alone: the same refusal, two bytes earlier. */
 static void hex(const char *bytes, size_t len, uint64_t number, uint64_t place, bool fed)
 {
     tally_test("refusal %d at %d, or none, of %zu bytes", (int)number, (int)place, len);
     struct call call = {(const uint8_t *)"A", 1, 1, (const uint8_t *)bytes, len, MOST_SEGMENTS, 24};
-    try_refusal(SEARCH_BITS, &call, number, place);
-    try_refusal(SEARCH_BORDERS, &call, number, place);
+    try_refused_searches(&call, number, place);
     if (fed) {
         struct call feed = {(const uint8_t *)"A", 1, 1, (const uint8_t *)bytes + 2, len - 2, 0, 16};
-        try_refusal(FEED, &feed, number, place >= 2 ? place - 2 : 0);
+        try_refused_feeds(&feed, number, place >= 2 ? place - 2 : 0);
     }
 }
 
@@ -89,6 +106,14 @@ void examples(void)
     example("A" A63, "{" A63 "}", "0", 63, NULL);
     example("A" A63, "{" A63 "}{A}", "01", 64, NULL);
     hexes();
+
+    tally_group("the opposite strand");
+    strand("GATTA", "{CGA,G}{e,T}{TTAC,AT}{TA,e}{A,GATTAG}", "00000", "00111");        /* TAATC is nowhere in D */
+    strand("TAATC", "{CGA,G}{e,T}{TTAC,AT}{TA,e}{A,GATTAG}", "00111", "00111");        /* D read from the other side */
+    strand("AC", "{A}{e}{C}{G}{T}", "00001", "00101");                                 /* GT, across two segments */
+    strand("ACGT", "{AC}{G}{T}", "001", "001");                                        /* its own opposite */
+    strand("AAG", "{CT}{e,T}{A,AG}", "010", "010");                                    /* CTT */
+    strand("A", "{A}{T}{e}{C}", "0100", "1100");
 
     tally_group("slips that look right");
     example("AC", "{A}{C}{e}{e}", "0100", 2, NULL);              /* only the empty variant follows a finished occurrence */

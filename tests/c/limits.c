@@ -39,7 +39,7 @@ static void bases(void)
             struct call call = call_of(tried[i]), feed = feed_of(tried[i] == 0 ? 1 : tried[i]);
             feed.m = tried[i];
             try_searches(&call);
-            try_call(FEED, &feed);
+            try_feed(&feed);
         }
     }
 }
@@ -50,21 +50,19 @@ static void bytes(void)
         tally_test("a variant that makes a stretch of %zu bytes", len);
         make_one_variant(len - 5);
         struct call call = call_of(64), short_call = call_of(3);
-        try_refusal(SEARCH_BITS, &call, len > MOST_BYTES ? 4 : 0, 0);
-        try_refusal(SEARCH_BORDERS, &call, len > MOST_BYTES ? 4 : 0, 0);
+        try_refused_searches(&call, len > MOST_BYTES ? 4 : 0, 0);
         try_searches(&short_call);
         tally_test("a variant that makes a lone segment of %zu bytes", len);
         make_one_variant(len - 3);
         struct call feed = feed_of(64);
-        try_refusal(FEED, &feed, len > MOST_BYTES ? 4 : 0, 0);
+        try_refused_feeds(&feed, len > MOST_BYTES ? 4 : 0, 0);
     }
     tally_test("a length of 65,535");
     make_one_variant(MOST_BYTES - 5);
     made.bytes[3] = made.bytes[4] = 255;
     struct call call = call_of(1), feed = feed_of(1);
-    try_refusal(SEARCH_BITS, &call, 5, 3);
-    try_refusal(SEARCH_BORDERS, &call, 5, 3);
-    try_refusal(FEED, &feed, 5, 1);
+    try_refused_searches(&call, 5, 3);
+    try_refused_feeds(&feed, 5, 1);
 }
 
 /* As many segments as there can be, all of the empty variant; and one more, or the most that can be stated. */
@@ -79,22 +77,17 @@ static void segments(void)
     tally_test("10,922 segments");
     struct call call = call_of(2);
     tally_check(made.len == MOST_BYTES, "10,922 segments of the empty variant have not 32,768 bytes");
-    try_refusal(SEARCH_BITS, &call, 0, 0);
-    try_refusal(SEARCH_BORDERS, &call, 0, 0);
+    try_refused_searches(&call, 0, 0);
     tally_test("10,922 segments, a mark buffer one shorter and one longer");
     call.marks_len = MOST_SEGMENTS - 1;
-    try_refusal(SEARCH_BITS, &call, 10, 0);
-    try_refusal(SEARCH_BORDERS, &call, 10, 0);
+    try_refused_searches(&call, 10, 0);
     call.marks_len = MOST_SEGMENTS + 1;
-    try_refusal(SEARCH_BITS, &call, 0, 0);
-    try_refusal(SEARCH_BORDERS, &call, 0, 0);
+    try_refused_searches(&call, 0, 0);
     tally_test("10,923 and 65,535 segments stated");
     made.bytes[0]++;
-    try_refusal(SEARCH_BITS, &call, 5, MOST_BYTES);
-    try_refusal(SEARCH_BORDERS, &call, 5, MOST_BYTES);
+    try_refused_searches(&call, 5, MOST_BYTES);
     made.bytes[0] = made.bytes[1] = 255;
-    try_refusal(SEARCH_BITS, &call, 5, MOST_BYTES);
-    try_refusal(SEARCH_BORDERS, &call, 5, MOST_BYTES);
+    try_refused_searches(&call, 5, MOST_BYTES);
 }
 
 /* {A,e} as often as it fits: every length is carried past every segment. */
@@ -136,15 +129,13 @@ static void variants(void)
     make_alike(254);
     struct call call = call_of(64), feed = feed_of(64);
     size_t last = made.len - 128;
-    try_refusal(SEARCH_BITS, &call, 0, 0);
-    try_refusal(SEARCH_BORDERS, &call, 0, 0);
-    try_refusal(FEED, &feed, 0, 0);
+    try_refused_searches(&call, 0, 0);
+    try_refused_feeds(&feed, 0, 0);
     for (size_t again = 0; again < 254; again += 253) {
         tally_test("255 variants, the last one equal to number %zu", again);
         make_alike(again);
-        try_refusal(SEARCH_BITS, &call, 8, last);
-        try_refusal(SEARCH_BORDERS, &call, 8, last);
-        try_refusal(FEED, &feed, 8, last - 2);
+        try_refused_searches(&call, 8, last);
+        try_refused_feeds(&feed, 8, last - 2);
     }
 }
 
@@ -160,17 +151,15 @@ static void lent(void)
         tally_test("a mark buffer of %zu bytes for 5 segments", marks_len);
         struct call call = call_of(3);
         call.marks_len = marks_len;
-        try_refusal(SEARCH_BITS, &call, marks_len < 5 ? 10 : 0, 0);
-        try_refusal(SEARCH_BORDERS, &call, marks_len < 5 ? 10 : 0, 0);
+        try_refused_searches(&call, marks_len < 5 ? 10 : 0, 0);
     }
     for (size_t block_len = 0; block_len <= 32; block_len++) {
         tally_test("a result block of %zu bytes", block_len);
         struct call call = call_of(3), feed = feed_of(3);
         call.block_len = feed.block_len = block_len;
         feed.len = 3;
-        try_refusal(SEARCH_BITS, &call, block_len < 24 ? 10 : 0, 0);
-        try_refusal(SEARCH_BORDERS, &call, block_len < 24 ? 10 : 0, 0);
-        try_refusal(FEED, &feed, block_len < 16 ? 10 : 0, 0);
+        try_refused_searches(&call, block_len < 24 ? 10 : 0, 0);
+        try_refused_feeds(&feed, block_len < 16 ? 10 : 0, 0);
     }
 }
 

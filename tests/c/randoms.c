@@ -67,7 +67,7 @@ static void any_feed(struct random *random)
     }
     size_t len = made.len < 2 ? 0 : made.len - 2;
     struct call call = {pattern, m, state, made.bytes + 2, len, 0, 16};
-    try_call(FEED, &call);
+    try_feed(&call);
 }
 
 void randoms(void)

@@ -183,10 +183,24 @@ static void search(const uint8_t *pattern, size_t m, const struct text *text, st
 
 /* The calls: the refusals in their order, then the results. */
 
-void reference_search(const uint8_t *pattern, size_t m, const uint8_t *stretch, size_t len, size_t marks_len, size_t block_len,
-                      struct expected *out)
+/* A with T, C with G, the order reversed; of a sound pattern. */
+static const uint8_t *read_on(enum strand strand, const uint8_t *pattern, size_t m, uint8_t turned[MOST_BASES])
+{
+    static const char bases[] = "ACGT", facing[] = "TGCA";
+    if (strand == GIVEN) {
+        return pattern;
+    }
+    for (size_t k = 0; k < m; k++) {
+        turned[k] = (uint8_t)facing[strchr(bases, pattern[m - 1 - k]) - bases];
+    }
+    return turned;
+}
+
+void reference_search(enum strand strand, const uint8_t *pattern, size_t m, const uint8_t *stretch, size_t len, size_t marks_len,
+                      size_t block_len, struct expected *out)
 {
     static struct text text;
+    uint8_t turned[MOST_BASES];
     out->result_count = out->mark_count = 0;
     out->answer = pattern_refusal(pattern, m);
     if (out->answer == 0) {
@@ -196,7 +210,19 @@ void reference_search(const uint8_t *pattern, size_t m, const uint8_t *stretch, 
         out->answer = refused(10, 0);
     }
     if (out->answer == 0) {
-        search(pattern, m, &text, out);
+        search(read_on(strand, pattern, m, turned), m, &text, out);
+    }
+}
+
+void reference_either(const uint8_t *pattern, size_t m, const uint8_t *stretch, size_t len, size_t marks_len, size_t block_len,
+                      struct expected *out)
+{
+    static struct expected opposite;
+    reference_search(GIVEN, pattern, m, stretch, len, marks_len, block_len, out);
+    reference_search(OPPOSITE, pattern, m, stretch, len, marks_len, block_len, &opposite);
+    for (size_t j = 0; j < out->mark_count; j++) {
+        out->results[2] += opposite.marks[j] && !out->marks[j];
+        out->marks[j] |= opposite.marks[j];
     }
 }
 
@@ -206,11 +232,12 @@ static uint64_t state_refusal(size_t m, uint64_t state)
     return state % 2 == 0 || high ? refused(17, 0) : 0;
 }
 
-void reference_feed(const uint8_t *pattern, size_t m, uint64_t state, const uint8_t *segment, size_t len, size_t block_len,
-                    struct expected *out)
+void reference_feed(enum strand strand, const uint8_t *pattern, size_t m, uint64_t state, const uint8_t *segment, size_t len,
+                    size_t block_len, struct expected *out)
 {
     static struct text text;
     bool carried[MOST_BASES], next[MOST_BASES];
+    uint8_t turned[MOST_BASES];
     out->result_count = out->mark_count = 0;
     out->answer = pattern_refusal(pattern, m);
     if (out->answer == 0 && len > MOST_BYTES) {
@@ -232,7 +259,7 @@ void reference_feed(const uint8_t *pattern, size_t m, uint64_t state, const uint
         carried[r] = state >> r & 1;
     }
     out->result_count = 2;
-    out->results[1] = pass(pattern, m, carried, &text, 0, next);
+    out->results[1] = pass(read_on(strand, pattern, m, turned), m, carried, &text, 0, next);
     out->results[0] = 1;
     for (size_t r = 1; r < m; r++) {
         out->results[0] |= (uint64_t)next[r] << r;

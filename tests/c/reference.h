@@ -33,10 +33,17 @@ struct expected {
     uint8_t marks[MOST_SEGMENTS];
 };
 
-void reference_search(const uint8_t *pattern, size_t m, const uint8_t *stretch, size_t len, size_t marks_len, size_t block_len,
+/* The strand on which a pattern is read: as given, or its reverse complement. */
+enum strand { GIVEN, OPPOSITE };
+
+void reference_search(enum strand strand, const uint8_t *pattern, size_t m, const uint8_t *stretch, size_t len, size_t marks_len,
+                      size_t block_len, struct expected *out);
+void reference_feed(enum strand strand, const uint8_t *pattern, size_t m, uint64_t state, const uint8_t *segment, size_t len,
+                    size_t block_len, struct expected *out);
+
+/* A segment is marked when either strand ends there. */
+void reference_either(const uint8_t *pattern, size_t m, const uint8_t *stretch, size_t len, size_t marks_len, size_t block_len,
                       struct expected *out);
-void reference_feed(const uint8_t *pattern, size_t m, uint64_t state, const uint8_t *segment, size_t len, size_t block_len,
-                    struct expected *out);
 
 /* The text of a stretch, or its refusal (number + 256 * place). */
 uint64_t reference_read(const uint8_t *stretch, size_t len, struct text *text);

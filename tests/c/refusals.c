@@ -16,8 +16,7 @@ static void search(uint64_t number, uint64_t place, const char *pattern, const c
         call.len = sizeof zeros;
     }
     tally_test("search: %d at %d", (int)number, (int)place);
-    try_refusal(SEARCH_BITS, &call, number, place);
-    try_refusal(SEARCH_BORDERS, &call, number, place);
+    try_refused_searches(&call, number, place);
 }
 
 static void feed(uint64_t number, uint64_t place, const char *pattern, uint64_t state, const char *segment, size_t len,
@@ -29,7 +28,7 @@ static void feed(uint64_t number, uint64_t place, const char *pattern, uint64_t 
         call.len = sizeof zeros;
     }
     tally_test("feed: %d at %d", (int)number, (int)place);
-    try_refusal(FEED, &call, number, place);
+    try_refused_feeds(&call, number, place);
 }
 
 #define TEN "AAAAAAAAAA"

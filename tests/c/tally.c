@@ -74,8 +74,15 @@ uint64_t try_call(enum form form, const struct call *call)
 
 void try_searches(const struct call *call)
 {
-    try_call(SEARCH_BITS, call);
-    try_call(SEARCH_BORDERS, call);
+    for (enum form form = 0; form < FEED; form++) {
+        try_call(form, call);
+    }
+}
+
+void try_feed(const struct call *call)
+{
+    try_call(FEED, call);
+    try_call(FEED_OPPOSITE, call);
 }
 
 void try_feeds(const struct call *search, const struct made *made, struct fed fed[MOST_SEGMENTS])
@@ -86,7 +93,7 @@ void try_feeds(const struct call *search, const struct made *made, struct fed fe
     for (size_t j = 0; j < made->segment_count; j++) {
         call.bytes = made->bytes + made->segment_at[j];
         call.len = made->segment_at[j + 1] - made->segment_at[j];
-        try_call(FEED, &call);
+        try_feed(&call);
         call_expect(FEED, &call, &expected);
         fed[j] = (struct fed){expected.results[0], expected.results[1]};
         call.state = fed[j].state;
@@ -96,4 +103,17 @@ void try_feeds(const struct call *search, const struct made *made, struct fed fe
 void try_refusal(enum form form, const struct call *call, uint64_t number, uint64_t place)
 {
     tally_check(try_call(form, call) == number + 256 * place, "the reference does not give the refusal that is written here");
+}
+
+void try_refused_searches(const struct call *call, uint64_t number, uint64_t place)
+{
+    for (enum form form = 0; form < FEED; form++) {
+        try_refusal(form, call, number, place);
+    }
+}
+
+void try_refused_feeds(const struct call *call, uint64_t number, uint64_t place)
+{
+    try_refusal(FEED, call, number, place);
+    try_refusal(FEED_OPPOSITE, call, number, place);
 }

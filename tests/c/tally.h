@@ -14,7 +14,8 @@ int tally_end(void);
 
 /* Calls the form with its slices in both placements and holds it to the reference, whose answer is returned. */
 uint64_t try_call(enum form form, const struct call *call);
-void try_searches(const struct call *call);
+void try_searches(const struct call *call); /* by each search */
+void try_feed(const struct call *call);     /* by each feed */
 
 /* Feeds the segments of a text one by one, the first with the search's state, each other with the state that the one before gave.
    Tells the state behind each of them and whether an occurrence ends there. */
@@ -25,5 +26,7 @@ void try_feeds(const struct call *search, const struct made *made, struct fed fe
 
 /* A call that is known to be refused so. */
 void try_refusal(enum form form, const struct call *call, uint64_t number, uint64_t place);
+void try_refused_searches(const struct call *call, uint64_t number, uint64_t place);
+void try_refused_feeds(const struct call *call, uint64_t number, uint64_t place);
 
 #endif

@@ -126,19 +126,22 @@ static struct call draw_call(struct random *random, int aim, bool feeds)
     return call;
 }
 
+static bool feeds(enum form form) { return form >= FEED; }
+
 /* 45 of 100 calls are searches to be accepted, 10 feeds to be accepted; the others are spread over the refusals. */
 static void choose(struct random *random, enum form *form, int *aim)
 {
     size_t choice = random_below(random, 100);
-    *form = random_below(random, 2) == 0 ? SEARCH_BITS : SEARCH_BORDERS;
+    enum form feed = FEED + random_below(random, FORMS - FEED);
+    *form = random_below(random, FEED);
     *aim = ACCEPTED;
     if (choice >= 45 && choice < 55) {
-        *form = FEED;
+        *form = feed;
     } else if (choice >= 55) {
         static const int aims[] = {1, 2, 3, 4, 5, 6, 7, 8, 9, 10, 17, ANY};
         *aim = aims[random_below(random, sizeof aims / sizeof *aims)];
         if (*aim == 17 || random_below(random, 3) == 0) {
-            *form = FEED;
+            *form = feed;
         }
     }
 }
@@ -147,14 +150,27 @@ static uint64_t counts[256][FORMS];
 
 static void print_counts(void)
 {
-    printf("%-12s %15s %15s %15s\n", "answer", "search_bits", "search_borders", "feed");
+    static const char *const names[FORMS] = {"bits", "borders", "bits_opp.", "borders_opp.", "either", "feed", "feed_opp."};
+    printf("%-12s", "answer");
+    for (enum form form = 0; form < FORMS; form++) {
+        printf(" %12s", names[form]);
+    }
+    printf("\n");
     for (size_t number = 0; number < 256; number++) {
-        const uint64_t *row = counts[number];
-        if (row[SEARCH_BITS] + row[SEARCH_BORDERS] + row[FEED] > 0) {
-            char name[32];
-            snprintf(name, sizeof name, number == 0 ? "accepted" : "refused %zu", number);
-            printf("%-12s %15" PRIu64 " %15" PRIu64 " %15" PRIu64 "\n", name, row[SEARCH_BITS], row[SEARCH_BORDERS], row[FEED]);
+        uint64_t all = 0;
+        for (enum form form = 0; form < FORMS; form++) {
+            all += counts[number][form];
         }
+        if (all == 0) {
+            continue;
+        }
+        char name[32];
+        snprintf(name, sizeof name, number == 0 ? "accepted" : "refused %zu", number);
+        printf("%-12s", name);
+        for (enum form form = 0; form < FORMS; form++) {
+            printf(" %12" PRIu64, counts[number][form]);
+        }
+        printf("\n");
     }
 }
 
@@ -170,12 +186,12 @@ int main(int argc, char **argv)
         enum form form;
         int aim;
         choose(&random, &form, &aim);
-        struct call call = draw_call(&random, aim, form == FEED);
+        struct call call = draw_call(&random, aim, feeds(form));
         call_expect(form, &call, &expected);
         differences += !call_agrees(form, &call, (enum placement)random_below(&random, PLACEMENTS), &expected);
         counts[expected.answer & 255][form]++;
-        marked += form != FEED && expected.answer == 0 && expected.results[2] > 0;
-        ends += form == FEED && expected.answer == 0 && expected.results[1] > 0;
+        marked += !feeds(form) && expected.answer == 0 && expected.results[2] > 0;
+        ends += feeds(form) && expected.answer == 0 && expected.results[1] > 0;
     }
     print_counts();
     printf("an occurrence ends in %" PRIu64 " texts and %" PRIu64 " fed segments\n", marked, ends);

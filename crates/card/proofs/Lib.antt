@@ -7,6 +7,7 @@ pub mod Empties
 pub mod Formed
 pub mod Joins
 pub mod Answered
+pub mod Strands
 pub mod Numbers
 pub mod FirstEnds
 pub mod Meets

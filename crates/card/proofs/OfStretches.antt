@@ -141,7 +141,7 @@ module _ (P s out : List ℕ) (room : length out ≡ mostInStretch) where
 
   sought : seeking P fresh s (length out) ≡ after (pattern P (ok (tt {0}))) (λ _. stretchOf s)
   unfolding searching
-  sought = fresh-searching P s out ∙ ap (pattern P) roomy ∙ pattern-after P (stretchOf s)
+  sought = fresh-searching P P s out ∙ ap (pattern P) roomy ∙ pattern-after P (stretchOf s)
 
   carding-is : carding P s ≡ after (seeking P fresh s (length out)) (λ t. ok (cardOf P t))
   unfolding carding

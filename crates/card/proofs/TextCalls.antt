@@ -18,6 +18,8 @@ use Rattle.text.specs.Refusal.{Outcome, ok, refused, after, pattern, greatestPa
 use Rattle.text.specs.Card.{Row, Card, mostSegments, row, firstEnd, ran, cardOf}
 use Rattle.text.proofs.Truth.{and-left, and-right}
 use Rattle.text.proofs.Outcomes.{ok-inj, after-met}
+use Rattle.text.specs.declared.strand.Strand.the-variants.{Given}
+use Rattle.text.proofs.Strands.{strand-sound}
 use Rattle.text.proofs.Patterns.{SoundPattern, pattern-sound, pattern-after, sound-pattern}
 use Rattle.text.proofs.Marks.{marks-length, run-append, marks-append}
 use Rattle.text.proofs.TextCards.{IsFirst, row-text, fresh-first, join-text, ask-text}
@@ -157,16 +159,16 @@ module _ (P : List ℕ) (y : SoundPattern P) (st : ℕ) where
 -- what feeding lone segments one by one from the state st tells of the ask of a card
 pub record Fed (P : List ℕ) (st : ℕ) (ss : List (List ℕ)) (asked : Outcome Row) : Type 0 where
   pub answers : List Next
-  pub accepts : feeds P st ss ≡ ok answers
+  pub accepts : feeds P Given st ss ≡ ok answers
   pub tells : asked ≡ ok (rowOf (lastOf st answers) (firstEnd (map markOf answers)))
 
 pub asking-feeds : (P s : List ℕ) (T : Text) (st : ℕ) (ss : List (List ℕ)) → Accepts (making P s) → stretchOf s ≡ ok T
     → segmentsText ss ≡ ok T → isState (length P) st ≡ true → Fed P st ss (asking (making P s .card) st)
 asking-feeds P s T st ss a e lone i =
-    let y = of-carded P s a .sound in
+    let y = strand-sound Given P (of-carded P s a .sound) in
     record {
       answers = steps P y st T;
-      accepts = feeds-steps P y st ss T i lone;
+      accepts = feeds-steps P Given (of-carded P s a .sound) st ss T i lone;
       tells =
           asking-of P s T st a e i
           ∙ sym (ap₂ (λ (x : ℕ) (l : List ℕ). ok (rowOf x (firstEnd l))) (steps-last P y st T) (steps-marks P y st T));

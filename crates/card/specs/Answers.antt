@@ -3,7 +3,9 @@ use Prim.Native.Nat.{ℕ}
 use mathlib.Core.List.{List}
 use lib.ListN.{replicate}
 use Rattle.text.specs.Refusal.{Outcome, ok, refused, after, pattern}
-use Rattle.text.specs.Card.{Row, Card, cardOf}
+use Rattle.text.specs.Card.{Row, Card, cardOf, empty}
+use Rattle.text.specs.Strand.{onStrand}
+use Rattle.text.specs.declared.strand.Strand.{Strand}
 use Rattle.stretch.specs.Reading.{stretchOf}
 use Rattle.card.specs.declared.cards.Card.{Card as Held}
 use Rattle.card.specs.declared.answers.Made.{Made}
@@ -14,6 +16,13 @@ use Rattle.card.specs.Cards.{cardOut}
 -- the card of a stretch: 1, 2, 3, then those of the stretch
 unfoldable pub carding : List ℕ → List ℕ → Outcome Card
 carding P s = pattern P (after (stretchOf s) λ t. ok (cardOf P t))
+
+-- the card of no segments and of a stretch, of the pattern that a strand reads, behind 1, 2, 3 of the pattern as given
+unfoldable pub emptyOn : List ℕ → Strand → Outcome Card
+emptyOn P strand = pattern P (empty (onStrand strand P))
+
+unfoldable pub cardingOn : List ℕ → Strand → List ℕ → Outcome Card
+cardingOn P strand s = pattern P (carding (onStrand strand P) s)
 
 -- the card of all zeros
 unfoldable pub zeroCard : Held

@@ -15,10 +15,12 @@ use text::pattern::PatternIs;
 use text::pattern::check;
 use text::refusal;
 use text::state::is_state;
+use text::strand::Strand;
+use text::strand::read_on;
 ghost use mathlib.Core.Path.{_≡_};
-ghost use Rattle.text.specs.Card.{empty, join, ask};
+ghost use Rattle.text.specs.Card.{join, ask};
 ghost use Rattle.card.specs.Cards.{cardIn};
-ghost use Rattle.card.specs.Answers.{carding, made, toldAsked};
+ghost use Rattle.card.specs.Answers.{emptyOn, cardingOn, made, toldAsked};
 
 // What comes of each carried length: row q says what comes of a lone q carried in, row 0 of nothing carried in.
 pub struct Card {
@@ -39,22 +41,34 @@ impl Card {
     // The first end where none is.
     pub const NONE: u32 = 4294967295;
 
-    // The card of no segments: refusals 1, 2, 3.
-    pub fn empty(pattern: &[u8]) -> Made
-        ensures { λ r. ⌜ r ≡ made (empty (now (pattern .entry))) ⌝ }
+    // The card of no segments, of the pattern as the strand reads it: refusals 1, 2, 3 of the pattern as given.
+    pub fn empty(pattern: &[u8], strand: Strand) -> Made
+        ensures { λ r. ⌜ r ≡ made (emptyOn (now (pattern .entry)) strand) ⌝ }
     {
         match check(pattern) {
             PatternIs::Refused(wrong) => refused(wrong.number, wrong.place),
-            PatternIs::Sound => accepted(nothing(pattern)),
+            PatternIs::Sound => {
+                let m = pattern.len();
+                let bytes = read_on(strand, pattern);
+                accepted(nothing(&bytes[..m]))
+            }
         }
     }
 
-    // The card of a stretch: refusals 1, 2, 3, then those of the stretch.
-    pub fn of(pattern: &[u8], stretch: &[u8]) -> Made
-        ensures { λ r. ⌜ r ≡ made (carding (now (pattern .entry)) (now (stretch .entry))) ⌝ }
+    // The card of a stretch, of the pattern as the strand reads it: refusals 1, 2, 3 of the pattern as given, then those of the
+    // stretch. It holds the pattern that the strand reads.
+    pub fn of(pattern: &[u8], strand: Strand, stretch: &[u8]) -> Made
+        ensures { λ r. ⌜ r ≡ made (cardingOn (now (pattern .entry)) strand (now (stretch .entry))) ⌝ }
     {
-        let mut marks = [0u8; refusal::MOST_IN_STRETCH];
-        by_way_of(pattern, stretch, &mut marks)
+        match check(pattern) {
+            PatternIs::Refused(wrong) => refused(wrong.number, wrong.place),
+            PatternIs::Sound => {
+                let m = pattern.len();
+                let bytes = read_on(strand, pattern);
+                let mut marks = [0u8; refusal::MOST_IN_STRETCH];
+                by_way_of(&bytes[..m], stretch, &mut marks)
+            }
+        }
     }
 
     // The card of two neighbours: refusals 11 of the left, 11 of the right, 12, 13.

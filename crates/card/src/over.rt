@@ -11,6 +11,7 @@ use search::Sought;
 use search::State;
 use search::masks;
 use text::state::low;
+use text::strand::Strand;
 ghost use mathlib.Core.Path.{_≡_};
 ghost use mathlib.Core.List.{[]};
 ghost use lib.ListN.{length};
@@ -87,13 +88,13 @@ fn card_of(pattern: &[u8], stretch: &[u8], segments: usize, exit: u64, first: u3
     }
 }
 
-// The card of a stretch, by way of a buffer for the marks of as many segments as a stretch can have.
+// The card of a stretch of the pattern as it stands, by way of a buffer for the marks of as many segments as a stretch can have.
 pub fn by_way_of(pattern: &[u8], stretch: &[u8], marks: &mut [u8]) -> Made
     requires { ⌜ length (now marks) ≡ mostInStretch ⌝ }
     ensures { λ r. ⌜ r ≡ made (carding (now (pattern .entry)) (now (stretch .entry))) ⌝ }
 {
     let fresh = State::FRESH;
-    match fresh.through(pattern, stretch, &mut *marks) {
+    match fresh.through(pattern, Strand::Given, stretch, &mut *marks) {
         Sought::Refused(wrong) => refused(wrong.number, wrong.place),
         Sought::Marked {
             segments,

@@ -9,6 +9,7 @@ use mathlib.Core.List.{List}
 use borrow.Author.Tests.{leb-true}
 use lib.Dec.{leb, ltb}
 use lib.ListN.{length}
+use Rattle.text.specs.declared.strand.Strand.{Strand}
 use Rattle.text.specs.Letter.{base, every, firstNot}
 use Rattle.text.specs.State.{isState}
 use Rattle.text.specs.Refusal.{Outcome, ok, refused, demand, after, pattern, greatestPattern}
@@ -68,9 +69,9 @@ entering-coded P st s o k =
     demand-coded (isState (length P) st) 17 0 o (omega arith) λ _.
     k fit)
 
-feeding-coded : (P : List ℕ) (st : ℕ) (s : List ℕ) → Coded (feeding P st s)
+feeding-coded : (P : List ℕ) (strand : Strand) (st : ℕ) (s : List ℕ) → Coded (feeding P strand st s)
 unfolding feeding segmentOf
-feeding-coded P st s =
+feeding-coded P strand st s =
     entering-coded P st s _ λ fit.
     let alone : segmentOf s ≡ loneSegment s = rw fit in
     after-coded (loneSegment s) _ (subst Coded alone (low-coded (segmentOf s) (segment-low s))) (λ g. tt)
@@ -81,10 +82,10 @@ unfolding searchingInto
 search-form-coded P s marks block =
     after-coded (searching P s marks) _ (searching-coded P s marks) (λ t. demand-coded (leb 24 block) 10 0 (ok t) (omega arith) (λ _. tt))
 
-pub feed-form-coded : (P : List ℕ) (st : ℕ) (s : List ℕ) (block : ℕ) → Coded (feedingInto P st s block)
+pub feed-form-coded : (P : List ℕ) (strand : Strand) (st : ℕ) (s : List ℕ) (block : ℕ) → Coded (feedingInto P strand st s block)
 unfolding feedingInto
-feed-form-coded P st s block =
-    after-coded (feeding P st s) _ (feeding-coded P st s) (λ x. demand-coded (leb 16 block) 10 0 (ok x) (omega arith) (λ _. tt))
+feed-form-coded P strand st s block =
+    after-coded (feeding P strand st s) _ (feeding-coded P strand st s) (λ x. demand-coded (leb 16 block) 10 0 (ok x) (omega arith) (λ _. tt))
 
 -- so is each
 refused-small : {A : Type 0} (o : Outcome A) (n p : ℕ) → Coded o → o ≡ refused n p → Small n p
@@ -97,8 +98,8 @@ pub checking-small : (s : List ℕ) (n p : ℕ) → checking s ≡ refused n p �
 unfolding checking
 checking-small s n p e = omega (arith, stretch-low s n p (told-refused (stretchOf s) _ n p e))
 
-pub feeding-small : (P : List ℕ) (st : ℕ) (s : List ℕ) (n p : ℕ) → feeding P st s ≡ refused n p → Small n p
-feeding-small P st s n p e = refused-small (feeding P st s) n p (feeding-coded P st s) e
+pub feeding-small : (P : List ℕ) (strand : Strand) (st : ℕ) (s : List ℕ) (n p : ℕ) → feeding P strand st s ≡ refused n p → Small n p
+feeding-small P strand st s n p e = refused-small (feeding P strand st s) n p (feeding-coded P strand st s) e
 
 -- the answer fits its 64 bits
 pub coded-fits : {A : Type 0} (o : Outcome A) → Coded o → coded o < 2 ^ 64

@@ -6,6 +6,7 @@ use mathlib.Core.List.{List}
 use borrow.Author.Tests.{le-leb, lt-leb}
 use lib.Dec.{leb}
 use lib.ListN.{length}
+use Rattle.text.specs.declared.strand.Strand.{Strand}
 use Rattle.text.specs.Text.{Text}
 use Rattle.text.specs.Refusal.{Outcome, ok, refused, demand, after, pattern}
 use Rattle.text.proofs.Outcomes.{told-met, told-refused}
@@ -84,15 +85,15 @@ module _ (P s : List ℕ) (marks block : ℕ) where
       none (refused n p) y = refl
 
 -- the feed decides first; its block is asked last
-module _ (P : List ℕ) (st : ℕ) (s : List ℕ) (block : ℕ) where
-  pub feed-room : 16 ≤ block → feedingInto P st s block ≡ feeding P st s
+module _ (P : List ℕ) (strand : Strand) (st : ℕ) (s : List ℕ) (block : ℕ) where
+  pub feed-room : 16 ≤ block → feedingInto P strand st s block ≡ feeding P strand st s
   unfolding feedingInto
-  feed-room l = rw (le-leb 16 block l) (same (feeding P st s))
+  feed-room l = rw (le-leb 16 block l) (same (feeding P strand st s))
 
-  pub feed-not : (n p : ℕ) → feeding P st s ≡ refused n p → feedingInto P st s block ≡ refused n p
+  pub feed-not : (n p : ℕ) → feeding P strand st s ≡ refused n p → feedingInto P strand st s block ≡ refused n p
   unfolding feedingInto
   feed-not n p e = rw e
 
-  pub feed-short : (x : Next) → feeding P st s ≡ ok x → block < 16 → feedingInto P st s block ≡ refused 10 0
+  pub feed-short : (x : Next) → feeding P strand st s ≡ ok x → block < 16 → feedingInto P strand st s block ≡ refused 10 0
   unfolding feedingInto
   feed-short x e l = rw (e, lt-leb 16 block l)

@@ -4,11 +4,12 @@ use native.Mathlib.Omega.{arith}
 use mathlib.Core.Path.{_≡_, refl, sym, ap, _∙_}
 use mathlib.Core.List.{List}
 use lib.ListN.{length}
+use Rattle.text.specs.Text.{Text}
 use Rattle.text.specs.Refusal.{Outcome, ok, after}
 use Rattle.text.specs.declared.refusal.Refusal.{Refusal}
 use Rattle.stretch.specs.Bytes.{over}
 use Rattle.stretch.specs.Answers.{leftBy}
-use Rattle.search.specs.Answers.{Sums, sumsOf, marked, searching, toldSearched}
+use Rattle.search.specs.Answers.{Sums, searching, toldSearched}
 use Rattle.search.specs.declared.searching.Searched.{Searched}
 use Rattle.search.specs.declared.searching.Searched.the-variants.{Marked}
 use Rattle.cerantuh.specs.Forms.{coded, lowFirst, sumsBlock, searchingInto, searchAnswer, searchMarks, searchBlock}
@@ -33,35 +34,35 @@ module _ (x : Searched) (d : List ℕ) where
   unfolding sumsBlock
   told-put n z m a b left e l f g h = rw e (refl, h ∙ rw (g, f) (three-put d n z m (omega arith)))
 
-module _ (P s marks block : List ℕ) where
+module _ (f : Text → List ℕ) (g : Text → Sums) (P s marks block : List ℕ) where
   -- what a search form promises of its answer, of the mark buffer and of the block
   abbrev Form : ℕ → List ℕ → List ℕ → Type 0
   Form r marks′ block′ =
-      (r ≡ searchAnswer P s marks block) × ((marks′ ≡ searchMarks P s marks block) × (block′ ≡ searchBlock P s marks block))
+      (r ≡ searchAnswer P s marks block) × ((marks′ ≡ searchMarks f P s marks block) × (block′ ≡ searchBlock g P s marks block))
 
   pub form-short : (r : ℕ) → length block < 24 → r ≡ coded (searchingInto P s 0 0) → Form r marks block
   form-short r l is =
       let none : 0 < 24 = omega arith in (
         is ∙ ap coded (search-short P s 0 0 none ∙ sym (search-short P s (length marks) (length block) l)),
         (
-          sym (left-short P s (length marks) (length block) (marked P) marks l),
-          sym (left-short P s (length marks) (length block) (λ t. sumsBlock (sumsOf P t)) block l),
+          sym (left-short P s (length marks) (length block) f marks l),
+          sym (left-short P s (length marks) (length block) (λ t. sumsBlock (g t)) block l),
         ),
       )
 
-  module _ (x : Searched) (told : toldSearched x ≡ after (searching P s (length marks)) (λ t. ok (sumsOf P t))) where
+  module _ (x : Searched) (told : toldSearched x ≡ after (searching P s (length marks)) (λ t. ok (g t))) where
     pub searched-fits : coded (toldSearched x) < 2 ^ 64
     searched-fits =
-        rw told (rw (told-code (searching P s (length marks)) (sumsOf P)) (coded-fits (searching P s (length marks)) (searching-coded P s (length marks))))
+        rw told (rw (told-code (searching P s (length marks)) g) (coded-fits (searching P s (length marks)) (searching-coded P s (length marks))))
 
     pub form-room :
-        (r : ℕ) (marks′ block′ : List ℕ) → 24 ≤ length block → marks′ ≡ leftBy (marked P) (searching P s (length marks)) marks →
+        (r : ℕ) (marks′ block′ : List ℕ) → 24 ≤ length block → marks′ ≡ leftBy f (searching P s (length marks)) marks →
         Told x r block block′ → Form r marks′ block′
     form-room r marks′ block′ l wrote (is, left) =
         let same = search-room P s (length marks) (length block) l in (
-          is ∙ ap coded told ∙ told-code (searching P s (length marks)) (sumsOf P) ∙ sym (ap coded same),
+          is ∙ ap coded told ∙ told-code (searching P s (length marks)) g ∙ sym (ap coded same),
           (
             rw same wrote,
-            rw same (left ∙ ap (λ (o : Outcome Sums). leftBy sumsBlock o block) told ∙ told-left (searching P s (length marks)) (sumsOf P) sumsBlock block),
+            rw same (left ∙ ap (λ (o : Outcome Sums). leftBy sumsBlock o block) told ∙ told-left (searching P s (length marks)) g sumsBlock block),
           ),
         )

@@ -7,6 +7,7 @@ use mathlib.Core.Path.{_≡_, refl, ap, _∙_}
 use mathlib.Core.Logic.{_↔_}
 use mathlib.Core.List.{List}
 use lib.ListN.{length}
+use Rattle.text.specs.declared.strand.Strand.{Strand}
 use Rattle.text.specs.Text.{Text}
 use Rattle.text.specs.Refusal.{ok, refused}
 use Rattle.search.specs.Answers.{Next}
@@ -24,12 +25,12 @@ search-apart P s marks block n p e =
     coded-apart (searchingInto P s (length marks) (length block)) n p (search-form-coded P s (length marks) (length block)) e
 
 -- the same of a feed
-pub feed-zero : (P : List ℕ) (st : ℕ) (s block : List ℕ) → (feedAnswer P st s block ≡ 0) ↔ ((x : Next) × (feedingInto P st s (length block) ≡ ok x))
-feed-zero P st s block = coded-zero (feedingInto P st s (length block)) (feed-form-coded P st s (length block))
+pub feed-zero : (P : List ℕ) (strand : Strand) (st : ℕ) (s block : List ℕ) → (feedAnswer P strand st s block ≡ 0) ↔ ((x : Next) × (feedingInto P strand st s (length block) ≡ ok x))
+feed-zero P strand st s block = coded-zero (feedingInto P strand st s (length block)) (feed-form-coded P strand st s (length block))
 
-pub feed-apart : (P : List ℕ) (st : ℕ) (s block : List ℕ) (n p : ℕ) → feedingInto P st s (length block) ≡ refused n p
-    → (feedAnswer P st s block % 256 ≡ n) × (feedAnswer P st s block / 256 ≡ p)
-feed-apart P st s block n p e = coded-apart (feedingInto P st s (length block)) n p (feed-form-coded P st s (length block)) e
+pub feed-apart : (P : List ℕ) (strand : Strand) (st : ℕ) (s block : List ℕ) (n p : ℕ) → feedingInto P strand st s (length block) ≡ refused n p
+    → (feedAnswer P strand st s block % 256 ≡ n) × (feedAnswer P strand st s block / 256 ≡ p)
+feed-apart P strand st s block n p e = coded-apart (feedingInto P strand st s (length block)) n p (feed-form-coded P strand st s (length block)) e
 
 -- the bytes of a number read back as the number
 low-value : (k n : ℕ) → n < 256 ^ k → lowValue (lowFirst k n) ≡ n

@@ -6,8 +6,9 @@ use lib.Dec.{leb}
 use lib.ListN.{length}
 use Rattle.text.specs.Text.{Text}
 use Rattle.text.specs.Refusal.{Outcome, ok, refused, demand, after}
+use Rattle.text.specs.declared.strand.Strand.{Strand}
 use Rattle.stretch.specs.Answers.{leftBy}
-use Rattle.search.specs.Answers.{Sums, Next, sumsOf, marked, searching, feeding}
+use Rattle.search.specs.Answers.{Sums, Next, searching, feeding}
 
 -- one number answers: the refusal number plus 256 times the place; accepted is 0
 abbrev pub coded : {A : Type 0} → Outcome A → ℕ
@@ -36,23 +37,23 @@ nextBlock x = lowFirst 8 (x .state) ++ lowFirst 8 (cond (x .ends) 1 0)
 unfoldable pub searchingInto : List ℕ → List ℕ → ℕ → ℕ → Outcome Text
 searchingInto P s marks block = after (searching P s marks) λ t. demand (leb 24 block) 10 0 (ok t)
 
--- its answer, and what it leaves in the two
+-- its answer, and what it leaves in the two: the marks of a text, and what is summed up of it
 abbrev pub searchAnswer : List ℕ → List ℕ → List ℕ → List ℕ → ℕ
 searchAnswer P s marks block = coded (searchingInto P s (length marks) (length block))
 
-abbrev pub searchMarks : List ℕ → List ℕ → List ℕ → List ℕ → List ℕ
-searchMarks P s marks block = leftBy (marked P) (searchingInto P s (length marks) (length block)) marks
+abbrev pub searchMarks : (Text → List ℕ) → List ℕ → List ℕ → List ℕ → List ℕ → List ℕ
+searchMarks marking P s marks block = leftBy marking (searchingInto P s (length marks) (length block)) marks
 
-abbrev pub searchBlock : List ℕ → List ℕ → List ℕ → List ℕ → List ℕ
-searchBlock P s marks block = leftBy (λ t. sumsBlock (sumsOf P t)) (searchingInto P s (length marks) (length block)) block
+abbrev pub searchBlock : (Text → Sums) → List ℕ → List ℕ → List ℕ → List ℕ → List ℕ
+searchBlock summing P s marks block = leftBy (λ t. sumsBlock (summing t)) (searchingInto P s (length marks) (length block)) block
 
 -- a feed with a result block of so many bytes: 10 is asked last
-unfoldable pub feedingInto : List ℕ → ℕ → List ℕ → ℕ → Outcome Next
-feedingInto P st s block = after (feeding P st s) λ x. demand (leb 16 block) 10 0 (ok x)
+unfoldable pub feedingInto : List ℕ → Strand → ℕ → List ℕ → ℕ → Outcome Next
+feedingInto P strand st s block = after (feeding P strand st s) λ x. demand (leb 16 block) 10 0 (ok x)
 
 -- its answer, and what it leaves in the block
-abbrev pub feedAnswer : List ℕ → ℕ → List ℕ → List ℕ → ℕ
-feedAnswer P st s block = coded (feedingInto P st s (length block))
+abbrev pub feedAnswer : List ℕ → Strand → ℕ → List ℕ → List ℕ → ℕ
+feedAnswer P strand st s block = coded (feedingInto P strand st s (length block))
 
-abbrev pub feedBlock : List ℕ → ℕ → List ℕ → List ℕ → List ℕ
-feedBlock P st s block = leftBy nextBlock (feedingInto P st s (length block)) block
+abbrev pub feedBlock : List ℕ → Strand → ℕ → List ℕ → List ℕ → List ℕ
+feedBlock P strand st s block = leftBy nextBlock (feedingInto P strand st s (length block)) block

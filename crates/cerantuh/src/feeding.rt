@@ -4,20 +4,22 @@ use crate::block::put;
 use search::Fed;
 use search::State;
 use text::refusal;
+use text::strand::Strand;
 ghost use mathlib.Core.Path.{_≡_};
+ghost use Rattle.text.specs.declared.strand.Strand.the-variants.{Given, Opposite};
 ghost use Rattle.cerantuh.specs.Forms.{feedAnswer, feedBlock};
 
 // The bytes of a feed's results.
 const FEED_BLOCK: usize = 16;
 
-// The state after a lone segment, and 1 where an occurrence ends in it. The block's room is asked last.
-#[no_mangle]
-pub extern "C" fn cerantuh_feed(pattern: &[u8], state: u64, segment: &[u8], block: &mut [u8]) -> u64
-    ensures { λ r. ⌜ r ≡ feedAnswer (now (pattern .entry)) state (now (segment .entry)) (now (block .entry)) ⌝ }
-    ensures { λ r. ⌜ now (block .exit) ≡ feedBlock (now (pattern .entry)) state (now (segment .entry)) (now (block .entry)) ⌝ }
+// The state after a lone segment, and 1 where an occurrence ends in it, of the pattern as the strand reads it. The block's room is asked
+// last.
+fn form(pattern: &[u8], strand: Strand, state: u64, segment: &[u8], block: &mut [u8]) -> u64
+    ensures { λ r. ⌜ r ≡ feedAnswer (now (pattern .entry)) strand state (now (segment .entry)) (now (block .entry)) ⌝ }
+    ensures { λ r. ⌜ now (block .exit) ≡ feedBlock (now (pattern .entry)) strand state (now (segment .entry)) (now (block .entry)) ⌝ }
 {
     let before = State { bits: state };
-    match before.feed(pattern, segment) {
+    match before.feed(pattern, strand, segment) {
         Fed::Refused(wrong) => code(wrong),
         Fed::Next { state: after, ends } => {
             if block.len() < FEED_BLOCK {
@@ -28,4 +30,27 @@ pub extern "C" fn cerantuh_feed(pattern: &[u8], state: u64, segment: &[u8], bloc
             0
         }
     }
+}
+
+// The feed of the pattern as given.
+#[no_mangle]
+pub extern "C" fn cerantuh_feed(pattern: &[u8], state: u64, segment: &[u8], block: &mut [u8]) -> u64
+    ensures { λ r. ⌜ r ≡ feedAnswer (now (pattern .entry)) Given state (now (segment .entry)) (now (block .entry)) ⌝ }
+    ensures { λ r. ⌜ now (block .exit) ≡ feedBlock (now (pattern .entry)) Given state (now (segment .entry)) (now (block .entry)) ⌝ }
+{
+    form(pattern, Strand::Given, state, segment, &mut *block)
+}
+
+// The feed on the opposite strand.
+#[no_mangle]
+pub extern "C" fn cerantuh_feed_opposite(
+    pattern: &[u8],
+    state: u64,
+    segment: &[u8],
+    block: &mut [u8],
+) -> u64
+    ensures { λ r. ⌜ r ≡ feedAnswer (now (pattern .entry)) Opposite state (now (segment .entry)) (now (block .entry)) ⌝ }
+    ensures { λ r. ⌜ now (block .exit) ≡ feedBlock (now (pattern .entry)) Opposite state (now (segment .entry)) (now (block .entry)) ⌝ }
+{
+    form(pattern, Strand::Opposite, state, segment, &mut *block)
 }

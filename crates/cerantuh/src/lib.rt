@@ -4,5 +4,9 @@ mod feeding;
 mod searching;
 
 pub use feeding::cerantuh_feed;
+pub use feeding::cerantuh_feed_opposite;
 pub use searching::cerantuh_search_bits;
+pub use searching::cerantuh_search_bits_opposite;
 pub use searching::cerantuh_search_borders;
+pub use searching::cerantuh_search_borders_opposite;
+pub use searching::cerantuh_search_either;

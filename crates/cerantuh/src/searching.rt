@@ -4,15 +4,19 @@ use crate::block::put;
 use search::Searched;
 use search::by_bits;
 use search::by_borders;
+use search::either;
 use stretch::Checked;
 use text::pattern::PatternIs;
 use text::pattern::check;
 use text::refusal;
+use text::strand::Strand;
 ghost use mathlib.Core.Path.{_≡_};
 ghost use Prim.Native.Nat.{_^_, _≤_, _<_};
 ghost use lib.ListN.{length};
 ghost use Rattle.stretch.specs.Answers.{leftBy};
-ghost use Rattle.search.specs.Answers.{toldSearched};
+ghost use Rattle.text.specs.Strand.{onStrand, opposite};
+ghost use Rattle.search.specs.Answers.{sumsOf, marked, toldSearched};
+ghost use Rattle.search.specs.Either.{eitherMarks, eitherSums};
 ghost use Rattle.cerantuh.specs.Forms.{coded, sumsBlock, searchingInto, searchAnswer, searchMarks, searchBlock};
 
 // The bytes of a search's results.
@@ -52,6 +56,42 @@ fn told(searched: Searched, block: &mut [u8]) -> u64
     }
 }
 
+// Which search a form runs.
+enum Search {
+    Bits,
+    Borders,
+}
+
+// A search form: the block's room first, then the search, then its results.
+fn form(
+    search: Search,
+    pattern: &[u8],
+    strand: Strand,
+    stretch: &[u8],
+    marks: &mut [u8],
+    block: &mut [u8],
+) -> u64
+    ensures { λ r. ⌜ r ≡ searchAnswer (now (pattern .entry)) (now (stretch .entry)) (now (marks .entry)) (now (block .entry)) ⌝ }
+    ensures { λ r. ⌜ now (marks .exit) ≡ searchMarks (marked (onStrand strand (now (pattern .entry))))
+        (now (pattern .entry)) (now (stretch .entry)) (now (marks .entry)) (now (block .entry)) ⌝ }
+    ensures { λ r. ⌜ now (block .exit) ≡ searchBlock (sumsOf (onStrand strand (now (pattern .entry))))
+        (now (pattern .entry)) (now (stretch .entry)) (now (marks .entry)) (now (block .entry)) ⌝ }
+{
+    if block.len() < SEARCH_BLOCK {
+        return roomless(pattern, stretch);
+    }
+    match search {
+        Search::Bits => {
+            let searched = by_bits(pattern, strand, stretch, &mut *marks);
+            told(searched, &mut *block)
+        }
+        Search::Borders => {
+            let searched = by_borders(pattern, strand, stretch, &mut *marks);
+            told(searched, &mut *block)
+        }
+    }
+}
+
 // The search by bit-vectors.
 #[no_mangle]
 pub extern "C" fn cerantuh_search_bits(
@@ -61,16 +101,19 @@ pub extern "C" fn cerantuh_search_bits(
     block: &mut [u8],
 ) -> u64
     ensures { λ r. ⌜ r ≡ searchAnswer (now (pattern .entry)) (now (stretch .entry)) (now (marks .entry)) (now (block .entry)) ⌝ }
-    ensures { λ r. ⌜ now (marks .exit)
-        ≡ searchMarks (now (pattern .entry)) (now (stretch .entry)) (now (marks .entry)) (now (block .entry)) ⌝ }
-    ensures { λ r. ⌜ now (block .exit)
-        ≡ searchBlock (now (pattern .entry)) (now (stretch .entry)) (now (marks .entry)) (now (block .entry)) ⌝ }
+    ensures { λ r. ⌜ now (marks .exit) ≡ searchMarks (marked (now (pattern .entry)))
+        (now (pattern .entry)) (now (stretch .entry)) (now (marks .entry)) (now (block .entry)) ⌝ }
+    ensures { λ r. ⌜ now (block .exit) ≡ searchBlock (sumsOf (now (pattern .entry)))
+        (now (pattern .entry)) (now (stretch .entry)) (now (marks .entry)) (now (block .entry)) ⌝ }
 {
-    if block.len() < SEARCH_BLOCK {
-        return roomless(pattern, stretch);
-    }
-    let searched = by_bits(pattern, stretch, &mut *marks);
-    told(searched, &mut *block)
+    form(
+        Search::Bits,
+        pattern,
+        Strand::Given,
+        stretch,
+        &mut *marks,
+        &mut *block,
+    )
 }
 
 // The search by border tables: the same promise.
@@ -82,14 +125,86 @@ pub extern "C" fn cerantuh_search_borders(
     block: &mut [u8],
 ) -> u64
     ensures { λ r. ⌜ r ≡ searchAnswer (now (pattern .entry)) (now (stretch .entry)) (now (marks .entry)) (now (block .entry)) ⌝ }
-    ensures { λ r. ⌜ now (marks .exit)
-        ≡ searchMarks (now (pattern .entry)) (now (stretch .entry)) (now (marks .entry)) (now (block .entry)) ⌝ }
-    ensures { λ r. ⌜ now (block .exit)
-        ≡ searchBlock (now (pattern .entry)) (now (stretch .entry)) (now (marks .entry)) (now (block .entry)) ⌝ }
+    ensures { λ r. ⌜ now (marks .exit) ≡ searchMarks (marked (now (pattern .entry)))
+        (now (pattern .entry)) (now (stretch .entry)) (now (marks .entry)) (now (block .entry)) ⌝ }
+    ensures { λ r. ⌜ now (block .exit) ≡ searchBlock (sumsOf (now (pattern .entry)))
+        (now (pattern .entry)) (now (stretch .entry)) (now (marks .entry)) (now (block .entry)) ⌝ }
+{
+    form(
+        Search::Borders,
+        pattern,
+        Strand::Given,
+        stretch,
+        &mut *marks,
+        &mut *block,
+    )
+}
+
+// The search by bit-vectors on the opposite strand.
+#[no_mangle]
+pub extern "C" fn cerantuh_search_bits_opposite(
+    pattern: &[u8],
+    stretch: &[u8],
+    marks: &mut [u8],
+    block: &mut [u8],
+) -> u64
+    ensures { λ r. ⌜ r ≡ searchAnswer (now (pattern .entry)) (now (stretch .entry)) (now (marks .entry)) (now (block .entry)) ⌝ }
+    ensures { λ r. ⌜ now (marks .exit) ≡ searchMarks (marked (opposite (now (pattern .entry))))
+        (now (pattern .entry)) (now (stretch .entry)) (now (marks .entry)) (now (block .entry)) ⌝ }
+    ensures { λ r. ⌜ now (block .exit) ≡ searchBlock (sumsOf (opposite (now (pattern .entry))))
+        (now (pattern .entry)) (now (stretch .entry)) (now (marks .entry)) (now (block .entry)) ⌝ }
+{
+    form(
+        Search::Bits,
+        pattern,
+        Strand::Opposite,
+        stretch,
+        &mut *marks,
+        &mut *block,
+    )
+}
+
+// The search by border tables on the opposite strand: the same promise.
+#[no_mangle]
+pub extern "C" fn cerantuh_search_borders_opposite(
+    pattern: &[u8],
+    stretch: &[u8],
+    marks: &mut [u8],
+    block: &mut [u8],
+) -> u64
+    ensures { λ r. ⌜ r ≡ searchAnswer (now (pattern .entry)) (now (stretch .entry)) (now (marks .entry)) (now (block .entry)) ⌝ }
+    ensures { λ r. ⌜ now (marks .exit) ≡ searchMarks (marked (opposite (now (pattern .entry))))
+        (now (pattern .entry)) (now (stretch .entry)) (now (marks .entry)) (now (block .entry)) ⌝ }
+    ensures { λ r. ⌜ now (block .exit) ≡ searchBlock (sumsOf (opposite (now (pattern .entry))))
+        (now (pattern .entry)) (now (stretch .entry)) (now (marks .entry)) (now (block .entry)) ⌝ }
+{
+    form(
+        Search::Borders,
+        pattern,
+        Strand::Opposite,
+        stretch,
+        &mut *marks,
+        &mut *block,
+    )
+}
+
+// The search of both strands at once.
+#[no_mangle]
+pub extern "C" fn cerantuh_search_either(
+    pattern: &[u8],
+    stretch: &[u8],
+    marks: &mut [u8],
+    block: &mut [u8],
+) -> u64
+    ensures { λ r. ⌜ r ≡ searchAnswer (now (pattern .entry)) (now (stretch .entry)) (now (marks .entry)) (now (block .entry)) ⌝ }
+    ensures { λ r. ⌜ now (marks .exit) ≡ searchMarks (eitherMarks (now (pattern .entry)))
+        (now (pattern .entry)) (now (stretch .entry)) (now (marks .entry)) (now (block .entry)) ⌝ }
+    ensures { λ r. ⌜ now (block .exit) ≡ searchBlock (eitherSums (now (pattern .entry)))
+        (now (pattern .entry)) (now (stretch .entry)) (now (marks .entry)) (now (block .entry)) ⌝ }
 {
     if block.len() < SEARCH_BLOCK {
         return roomless(pattern, stretch);
     }
-    let searched = by_borders(pattern, stretch, &mut *marks);
+    let searched = either(pattern, stretch, &mut *marks);
     told(searched, &mut *block)
 }

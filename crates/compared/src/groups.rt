@@ -22,3 +22,5 @@ pub const FEEDS: usize = 60;
 pub const CARDS: usize = 61;
 
 pub const JOINS: usize = 62;
+
+pub const EITHER: usize = 63;

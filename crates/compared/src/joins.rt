@@ -13,19 +13,20 @@ use straight::segment_at;
 use tally::Answer;
 use tally::Tally;
 use tally::asked;
+use text::strand::Strand;
 
 // What the card of a text makes of a state is what is found.
 fn ask(tally: Tally, p: &[u8], bytes: &[u8], bits: u64) -> Tally {
     let found = run(p, bytes, straight::stretch(bytes), bits);
     let wanted = Answer::told(found.bits as usize, found.first, 0);
-    let made = Card::of(p, bytes);
+    let made = Card::of(p, Strand::Given, bytes);
     tally.compare(JOINS, asked(made.card.ask(State { bits })), wanted)
 }
 
 // The card of the join of two texts.
 fn joined(p: &[u8], left: &[u8], right: &[u8]) -> Made {
-    let first = Card::of(p, left);
-    let second = Card::of(p, right);
+    let first = Card::of(p, Strand::Given, left);
+    let second = Card::of(p, Strand::Given, right);
     first.card.join(second.card)
 }
 

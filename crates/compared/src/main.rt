@@ -69,7 +69,7 @@ fn main() {
           damaged stretches refused with 6\ndamaged stretches refused with 7\ndamaged stretches refused with 8\n\
           damaged stretches refused with 9\n\n\n\n\n\n\n\n\nsegments of damaged stretches\nmarked ones of them\n\n\n\n\nwrites\n\
           checks\nreads, at every variant\nsearches, by bit-vectors and by border tables\nfeeds, segment by segment\n\
-          cards, row by row\njoins of two parts, and what cards tell of states\n",
+          cards, row by row\njoins of two parts, and what cards tell of states\nsearches on both strands\n",
         b" comparisons, ",
     );
 }

@@ -8,9 +8,11 @@ use crate::searches;
 use crate::writes;
 use card::Card;
 use straight::Verdict;
+use straight::part;
 use tally::Answer;
 use tally::Tally;
 use tally::checked;
+use text::strand::Strand;
 
 // The calls on the bytes alone. A damaged stretch that is refused is not written.
 fn bytes_alone(tally: Tally, kind: usize, bytes: &[u8], verdict: Verdict) -> Tally {
@@ -37,9 +39,35 @@ fn searched(tally: Tally, kind: usize, p: &[u8], bytes: &[u8], verdict: Verdict)
     let refusal = tally.more(kind | verdict.number as usize, 1);
     let segments = refusal.more(kind | groups::SEGMENTS, verdict.segments);
     let seen = segments.more(kind | groups::MARKED, found.ends);
-    let t = searches::compare(seen, p, bytes, verdict, found);
-    let fed = feeds::compare(t, p, bytes, verdict);
-    cards::compare(fed, groups::CARDS, p, bytes, verdict, Card::of(p, bytes))
+    on(seen, p, p, Strand::Given, bytes, verdict)
+}
+
+// The calls on a strand that reads `given` as P.
+fn on(
+    tally: Tally,
+    p: &[u8],
+    given: &[u8],
+    strand: Strand,
+    bytes: &[u8],
+    verdict: Verdict,
+) -> Tally {
+    let found = straight::run(p, bytes, verdict, 1);
+    let t = searches::compare(tally, given, strand, bytes, verdict, found);
+    let fed = feeds::compare(t, p, given, strand, bytes, verdict);
+    let made = Card::of(given, strand, bytes);
+    cards::compare(fed, groups::CARDS, p, bytes, verdict, made)
+}
+
+// The calls on the opposite strand, which reads what is opposite to P as P, and the search on both strands.
+fn opposite(tally: Tally, p: &[u8], bytes: &[u8], alone: Verdict) -> Tally {
+    let mut bases = [0u8; 65];
+    let m = straight::turned(&mut bases, p);
+    let given = part(&bases, 0, m);
+    let verdict = straight::pattern(given, alone);
+    let t = on(tally, p, given, Strand::Opposite, bytes, verdict);
+    let own = straight::run(p, bytes, verdict, 1);
+    let other = straight::run(given, bytes, verdict, 1);
+    searches::compare_either(t, given, bytes, verdict, own, other)
 }
 
 // Everything. `kind` says which groups count what was seen.
@@ -53,8 +81,9 @@ pub fn compare(tally: Tally, kind: usize, p: &[u8], bytes: &[u8]) -> Tally {
         bytes,
         verdict,
     );
+    let turned = opposite(t, p, bytes, alone);
     if verdict.number != 0 {
-        return t;
+        return turned;
     }
-    joins::compare(t, p, bytes, verdict)
+    joins::compare(turned, p, bytes, verdict)
 }

@@ -1,6 +1,8 @@
 // The calls on stretches and states, as the lines give them.
 use crate::bytes;
 use crate::words::number;
+use crate::words::pattern;
+use crate::words::strand;
 use crate::words::wanted;
 use crate::words::word;
 use search::State;
@@ -19,6 +21,7 @@ use tally::got;
 use tally::held;
 use tally::searched;
 use tally::written;
+use text::strand::Strand;
 
 // check STRETCH = segments size
 pub fn check(line: &[u8]) -> Answer {
@@ -49,7 +52,7 @@ pub fn feed(line: &[u8]) -> Answer {
     let state = State {
         bits: number(line, 2) as u64,
     };
-    fed(state.feed(word(line, 1), part(&out, 0, n)))
+    fed(state.feed(pattern(line), strand(line), part(&out, 0, n)))
 }
 
 // lengths state = count shortest: what a state carries.
@@ -62,15 +65,15 @@ pub fn lengths(line: &[u8]) -> Answer {
 }
 
 // The search by bit-vectors, and the one by border tables, where they leave these marks.
-fn by_bits(p: &[u8], text: &[u8], left: &[u8]) -> Answer {
+fn by_bits(p: &[u8], strand: Strand, text: &[u8], left: &[u8]) -> Answer {
     let mut marks = [7u8; 8];
-    let answer = searched(search::by_bits(p, text, &mut marks));
+    let answer = searched(search::by_bits(p, strand, text, &mut marks));
     held(answer, &marks, left)
 }
 
-fn by_borders(p: &[u8], text: &[u8], left: &[u8]) -> Answer {
+fn by_borders(p: &[u8], strand: Strand, text: &[u8], left: &[u8]) -> Answer {
     let mut marks = [7u8; 8];
-    let answer = searched(search::by_borders(p, text, &mut marks));
+    let answer = searched(search::by_borders(p, strand, text, &mut marks));
     held(answer, &marks, left)
 }
 
@@ -79,18 +82,43 @@ fn both(tally: Tally, group: usize, line: &[u8], marks: &[u8]) -> Tally {
     let mut out = [0u8; 256];
     let n = bytes::stretch(&mut out, word(line, 2), 2);
     let text = part(&out, 0, n);
-    let p = word(line, 1);
-    let t = tally.compare(group, by_bits(p, text, marks), wanted(line));
-    t.compare(group, by_borders(p, text, marks), wanted(line))
+    let p = pattern(line);
+    let t = tally.compare(group, by_bits(p, strand(line), text, marks), wanted(line));
+    t.compare(
+        group,
+        by_borders(p, strand(line), text, marks),
+        wanted(line),
+    )
+}
+
+// Puts the marks that a line wants in front of eight.
+fn put_marks(left: &mut [u8], line: &[u8]) {
+    let mut marks = [0u8; 8];
+    let n = bytes::raw(&mut marks, word(line, 3));
+    put_part(&mut *left, 0, part(&marks, 0, n));
 }
 
 // search PATTERN STRETCH MARKS = segments size ends
 pub fn searches(tally: Tally, group: usize, line: &[u8]) -> Tally {
-    let mut marks = [0u8; 8];
-    let n = bytes::raw(&mut marks, word(line, 3));
     let mut left = [7u8; 8];
-    put_part(&mut left, 0, part(&marks, 0, n));
+    put_marks(&mut left, line);
     both(tally, group, line, &left)
+}
+
+// The search on both strands, where it leaves these marks.
+fn either(line: &[u8], left: &[u8]) -> Answer {
+    let mut out = [0u8; 256];
+    let n = bytes::stretch(&mut out, word(line, 2), 2);
+    let mut marks = [7u8; 8];
+    let answer = searched(search::either(word(line, 1), part(&out, 0, n), &mut marks));
+    held(answer, &marks, left)
+}
+
+// united PATTERN STRETCH MARKS = segments size ends: on both strands at once.
+pub fn united(tally: Tally, group: usize, line: &[u8]) -> Tally {
+    let mut left = [7u8; 8];
+    put_marks(&mut left, line);
+    tally.compare(group, either(line, &left), wanted(line))
 }
 
 // Lengths from their bytes.

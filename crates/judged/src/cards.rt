@@ -1,6 +1,8 @@
 // The calls on cards, as the lines give them. There is a left card and a right one; `make` puts a new one on the right.
 use crate::bytes;
 use crate::words::number;
+use crate::words::pattern;
+use crate::words::strand;
 use crate::words::word;
 use card::Card;
 use card::Made;
@@ -19,9 +21,9 @@ pub fn of(line: &[u8]) -> Made {
     let text = word(line, 2);
     let n = bytes::stretch(&mut out, text, 2);
     if text.len() == 0 {
-        return Card::empty(word(line, 1));
+        return Card::empty(pattern(line), strand(line));
     }
-    Card::of(word(line, 1), part(&out, 0, n))
+    Card::of(pattern(line), strand(line), part(&out, 0, n))
 }
 
 // A card's m, where its pattern is all zeros.

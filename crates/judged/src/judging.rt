@@ -13,6 +13,7 @@ use straight::put;
 use straight::put_part;
 use tally::Answer;
 use tally::Tally;
+use text::strand::Strand;
 
 // The tally, the group that is counted now, and the two cards.
 struct Bench {
@@ -25,7 +26,7 @@ struct Bench {
 impl Bench {
     // Nothing is judged yet: group 63 stands before group 0.
     fn start() -> Bench {
-        let none = Card::empty(b"A");
+        let none = Card::empty(b"A", Strand::Given);
         let card = none.card;
         Bench {
             tally: Tally::NONE,
@@ -113,14 +114,15 @@ fn tallied(bench: Bench, call: usize, line: &[u8]) -> Tally {
         ),
         114 => calls::reads(bench.tally, group, line),
         115 => calls::searches(bench.tally, group, line),
+        117 => calls::united(bench.tally, group, line),
         _ => bench
             .tally
             .compare(group, answer(bench, call, line), wanted(line)),
     }
 }
 
-// One line, known by its first letter: ask, broken, check, equal, feed, join, lengths, make, put, read, search, write, or a
-// heading. Nothing comes of an empty line or a comment.
+// One line, known by its first letter: ask, broken, check, equal, feed, join, lengths, make, put, read, search, united,
+// write, or a heading. Nothing comes of an empty line or a comment.
 fn judge(bench: Bench, line: &[u8]) -> Bench {
     let call = number_at(line, 0);
     match call {

@@ -5,6 +5,7 @@ use std::num::wrapping_sub_usize;
 use straight::number_at;
 use straight::part;
 use tally::Answer;
+use text::strand::Strand;
 
 // The place of the next such byte from a place on, or the end.
 pub fn find(line: &[u8], from: usize, byte: u8) -> usize {
@@ -41,6 +42,28 @@ pub fn word(line: &[u8], number: usize) -> &[u8] {
         return &line[..0];
     }
     part(line, at, wrapping_sub_usize(find(line, at, b' '), at))
+}
+
+// Whether the pattern of a line, its first word, has ~ in front: it is read on the opposite strand.
+fn is_turned(line: &[u8]) -> bool {
+    number_at(word(line, 1), 0) == 126
+}
+
+// The pattern of a line, without the ~.
+pub fn pattern(line: &[u8]) -> &[u8] {
+    let first = word(line, 1);
+    if is_turned(line) {
+        return rest(first, 1);
+    }
+    first
+}
+
+// The strand on which it is read.
+pub fn strand(line: &[u8]) -> Strand {
+    if is_turned(line) {
+        return Strand::Opposite;
+    }
+    Strand::Given
 }
 
 // Ten times as much, and a digit.

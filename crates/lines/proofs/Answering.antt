@@ -6,56 +6,56 @@ use mathlib.Core.List.{List, _++_}
 use lib.ListN.{length, take, drop, length-append}
 use lib.Seq.{take-at}
 use Rattle.text.specs.Text.{Text}
-use Rattle.text.specs.State.{fresh, marks}
 use Rattle.text.specs.Refusal.{Outcome, ok, after}
 use Rattle.text.specs.declared.refusal.Refusal.{Refusal}
 use Rattle.text.proofs.Outcomes.{told-met, told-refused}
-use Rattle.text.proofs.Marks.{marks-length}
 use Rattle.stretch.specs.Bytes.{over}
 use Rattle.stretch.specs.Answers.{leftBy}
-use Rattle.search.specs.Answers.{Sums, sumsOf, seenFrom, marked, searching, toldSearched}
+use Rattle.search.specs.Answers.{Sums, searching, toldSearched}
 use Rattle.search.specs.declared.searching.Searched.{Searched}
 use Rattle.search.specs.declared.searching.Searched.the-variants.{Marked, Refused}
 use Rattle.stretch.specs.Pieces.{mostInStretch}
 use Rattle.input.specs.Input.{patternIn, stretchIn}
 use Rattle.lines.specs.Puts.{Put}
+use Rattle.lines.specs.Screening.{sumsOn, marksOn}
 use Rattle.lines.specs.Answer.{textLines, refusalLine, answerLines, linesOf}
+use Rattle.lines.specs.declared.strands.Strands.{Strands}
+use Rattle.lines.proofs.Screens.{on-length, on-sums}
 
-module _ (P s d left : List ℕ) (room : ℕ) (r : Searched)
-    (told : toldSearched r ≡ after (searching P s room) (λ t. ok (sumsOf P t)))
-    (wrote : left ≡ leftBy (marked P) (searching P s room) d) where
+module _ (S : Strands) (P s d left : List ℕ) (room : ℕ) (r : Searched)
+    (told : toldSearched r ≡ after (searching P s room) (λ t. ok (sumsOn S P t)))
+    (wrote : left ≡ leftBy (marksOn S P) (searching P s room) d) where
   pub answered-refused :
-      (wrong : Refusal) → r ≡ Refused wrong → refusalLine (wrong .number) (wrong .place) ≡ answerLines P (searching P s room)
+      (wrong : Refusal) → r ≡ Refused wrong → refusalLine (wrong .number) (wrong .place) ≡ answerLines S P (searching P s room)
   answered-refused wrong e =
-      sym (ap (answerLines P) (told-refused (searching P s room) (sumsOf P) (wrong .number) (wrong .place) (sym told ∙ ap toldSearched e)))
+      sym (ap (answerLines S P) (told-refused (searching P s room) (sumsOn S P) (wrong .number) (wrong .place) (sym told ∙ ap toldSearched e)))
 
   module _ (n z m : ℕ) (e : r ≡ Marked n z m) where
-    met : (t : Text) × (searching P s room ≡ ok t) × (sumsOf P t ≡ record { segments = n; size = z; ends = m })
-    met = told-met (searching P s room) (sumsOf P) _ (sym told ∙ ap toldSearched e)
+    met : (t : Text) × (searching P s room ≡ ok t) × (sumsOn S P t ≡ record { segments = n; size = z; ends = m })
+    met = told-met (searching P s room) (sumsOn S P) _ (sym told ∙ ap toldSearched e)
 
-    count : length (marks P (met .0)) ≡ n
-    unfolding sumsOf seenFrom marks
-    count = marks-length P fresh (met .0) ∙ ap (λ (x : Sums). x .segments) (met .2)
+    count : length (marksOn S P (met .0)) ≡ n
+    count = on-length P (met .0) S ∙ ap (λ (x : Sums). x .segments) (on-sums P (met .0) S ∙ met .2)
 
     further : List ℕ
-    further = drop (0 + length (marks P (met .0))) d
+    further = drop (0 + length (marksOn S P (met .0))) d
 
-    front : left ≡ marks P (met .0) ++ further
+    front : left ≡ marksOn S P (met .0) ++ further
     unfolding over further
-    front = wrote ∙ ap (λ (o : Outcome Text). leftBy (marked P) o d) (met .1)
+    front = wrote ∙ ap (λ (o : Outcome Text). leftBy (marksOn S P) o d) (met .1)
 
     -- there are as many marks as it tells segments
     pub answered-long : n ≤ length left
-    answered-long = omega (arith, count, ap length front ∙ length-append (marks P (met .0)) further)
+    answered-long = omega (arith, count, ap length front ∙ length-append (marksOn S P (met .0)) further)
 
-    pub answered-marked : textLines (record { segments = n; size = z; ends = m }) (take n left) ≡ answerLines P (searching P s room)
+    pub answered-marked : textLines (record { segments = n; size = z; ends = m }) (take n left) ≡ answerLines S P (searching P s room)
     answered-marked =
-        let own : take n left ≡ marks P (met .0) = ap (take n) front ∙ take-at (marks P (met .0)) further n count in
-        ap₂ textLines (sym (met .2)) own ∙ sym (ap (answerLines P) (met .1))
+        let own : take n left ≡ marksOn S P (met .0) = ap (take n) front ∙ take-at (marksOn S P (met .0)) further n count in
+        ap₂ textLines (sym (met .2)) own ∙ sym (ap (answerLines S P) (met .1))
 
 -- what is put are the lines of an input with this pattern and this stretch
 pub lines-put :
-    {d out xs : List ℕ} {next : ℕ} (input P s : List ℕ) → P ≡ patternIn input → s ≡ stretchIn input →
-    xs ≡ answerLines P (searching P s mostInStretch) → Put d 0 xs out next → Put d 0 (linesOf input) out next
+    {d out xs : List ℕ} {next : ℕ} (S : Strands) (input P s : List ℕ) → P ≡ patternIn input → s ≡ stretchIn input →
+    xs ≡ answerLines S P (searching P s mostInStretch) → Put d 0 xs out next → Put d 0 (linesOf S input) out next
 unfolding linesOf
-lines-put input P s p q e put = rw (← p, ← q, ← e) put
+lines-put S input P s p q e put = rw (← p, ← q, ← e) put

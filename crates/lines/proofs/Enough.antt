@@ -9,10 +9,8 @@ use lib.Dec.{leb, ltb, eqb}
 use lib.ListN.{length, length-append}
 use Rattle.text.specs.Letter.{base, every, firstNot}
 use Rattle.text.specs.Text.{Text, total, weight, size}
-use Rattle.text.specs.State.{fresh, ends, next, marks, marksFrom}
 use Rattle.text.specs.Refusal.{Outcome, ok, refused, demand, after, pattern, greatestPattern}
 use Rattle.text.proofs.Letters.{first-le}
-use Rattle.text.proofs.Marks.{marks-length}
 use Rattle.text.proofs.Outcomes.{demand-met, after-met}
 use Rattle.text.proofs.Patterns.{SoundPattern, pattern-sound, pattern-after}
 use Rattle.stretch.specs.Bytes.{greatestStretch}
@@ -23,13 +21,16 @@ use Rattle.stretch.proofs.Rows.{row-many}
 use Rattle.stretch.proofs.Decoding.{stretch-read}
 use Rattle.stretch.proofs.Stretches.{segment-steps, stretch-most}
 use Rattle.stretch.proofs.Refusals.{stretch-low}
-use Rattle.search.specs.Answers.{sumsOf, seenFrom, into, stretchInto, searching}
+use Rattle.search.specs.Answers.{into, stretchInto, searching}
 use Rattle.input.specs.Input.{patternIn, stretchIn}
 use Rattle.lines.specs.Decimal.{digits, line}
 use Rattle.lines.specs.Answer.{segmentsWord, sizeWord, endsWord, endWord, firstWord, atWord, markedFrom, endLines, firstLine}
 use Rattle.lines.specs.Answer.{textLines, refusalLine, answerLines, screening, linesOf, mostBytes}
+use Rattle.lines.specs.Screening.{marksOn}
+use Rattle.lines.specs.declared.strands.Strands.{Strands}
 use Rattle.lines.proofs.Digits.{digits-few}
 use Rattle.lines.proofs.Marked.{either}
+use Rattle.lines.proofs.Screens.{Row, on-length, on-row, on-sums}
 
 -- what an accepted search has found of its pattern and its stretch
 pub searched-sound : (P s : List ℕ) (room : ℕ) (t : Text) → searching P s room ≡ ok t → SoundPattern P × (stretchOf s ≡ ok t)
@@ -50,14 +51,10 @@ stretch-size s t e =
     omega (arith, m .0, r .short)
 
 -- each mark counts at most 1
-mark-few : (b : Bool) (k n : ℕ) → k ≤ n → cond b 1 0 + k ≤ suc n
-mark-few true k n l = omega arith
-mark-few false k n l = omega arith
-
-ends-few : (P : List ℕ) (st : ℕ) (T : Text) → total (λ x. x) (marksFrom P st T) ≤ length T
-unfolding marksFrom total
-ends-few P st [] = omega arith
-ends-few P st (g ∷ T) = mark-few (ends P st g) _ (length T) (ends-few P (next P st g) T)
+ends-few : (marks : List ℕ) → Row marks → total (λ x. x) marks ≤ length marks
+unfolding total
+ends-few [] r = omega arith
+ends-few (x ∷ xs) r = omega (arith, r .0, ends-few xs (r .1))
 
 -- a line of a word and a number of at most five digits
 line-few : (word : List ℕ) (n : ℕ) → n < 100000 → length (line word n) ≤ length word + 6
@@ -112,28 +109,29 @@ searching-five P s room =
     after-five (stretchOf s) _ (stretch-five s (stretchOf s) refl) λ t.
     demand-five (leb (length t) room) 10 0 (ok t) (omega arith) (omega arith) (λ _. tt)
 
-module _ (P s : List ℕ) (room : ℕ) where
-  answer-long : (o : Outcome Text) → searching P s room ≡ o → Five o → length (answerLines P o) ≤ mostBytes
-  unfolding textLines refusalLine sumsOf seenFrom marks
+module _ (S : Strands) (P s : List ℕ) (room : ℕ) where
+  answer-long : (o : Outcome Text) → searching P s room ≡ o → Five o → length (answerLines S P o) ≤ mostBytes
+  unfolding textLines refusalLine
   answer-long (ok t) e f =
+      let ms : List ℕ = marksOn S P t in
       let (_, g) = searched-sound P s room t e in
       let few : length t ≤ mostInStretch = stretch-most s t g in
-      let long : length (marks P t) ≡ length t = marks-length P fresh t in
+      let long : length ms ≡ length t = on-length P t S in
       let n = line-few segmentsWord (length t) (omega arith) in
       let z = line-few sizeWord (size t) (omega (arith, stretch-size s t g)) in
-      let m = line-few endsWord (total (λ x. x) (marks P t)) (omega (arith, ends-few P fresh t)) in
-      let all = ends-long 0 (marks P t) (omega arith) in
-      let first = first-long 0 (marks P t) (omega arith) in
-      simp length-append (omega arith)
+      let m = line-few endsWord (total (λ x. x) ms) (omega (arith, ends-few ms (on-row P t S))) in
+      let all = ends-long 0 ms (omega arith) in
+      let first = first-long 0 ms (omega arith) in
+      rw (← on-sums P t S) (simp length-append (omega arith))
   answer-long (refused n p) e f =
       let number : length (digits n) ≤ 5 = digits-few 4 n (f .0) in
       let place = line-few atWord p (f .1) in
       simp length-append (omega arith)
 
--- the lines of every input
-pub enough : (input : List ℕ) → length (linesOf input) ≤ mostBytes
+-- the lines of every input, on any strands
+pub enough : (S : Strands) (input : List ℕ) → length (linesOf S input) ≤ mostBytes
 unfolding linesOf
-enough input =
+enough S input =
     let P : List ℕ = patternIn input in
     let s : List ℕ = stretchIn input in
-    answer-long P s mostInStretch (screening input) refl (searching-five P s mostInStretch)
+    answer-long S P s mostInStretch (screening input) refl (searching-five P s mostInStretch)

@@ -2,6 +2,7 @@
 pub mod Putting
 pub mod Digits
 pub mod Marked
+pub mod Screens
 pub mod Named
 pub mod Answering
 pub mod Enough

@@ -9,10 +9,10 @@ use mathlib.Core.List.{List·Memᴰ, List·Memᴰ·head, List·Memᴰ·tail, Lis
 use borrow.Author.Tests.{eqb-true, eq-eqb}
 use lib.Dec.{eqb}
 use lib.ListN.{length, getD}
-use Rattle.text.specs.Text.{Text, total}
-use Rattle.text.specs.State.{ends, next, marksFrom}
+use Rattle.text.specs.Text.{total}
 use Rattle.lines.specs.Answer.{markedFrom}
 use Rattle.lines.proofs.Marked.{either}
+use Rattle.lines.proofs.Screens.{Row}
 
 -- rising order: each number is below all those behind it
 abbrev pub Rising : List ℕ → Type 0
@@ -53,11 +53,11 @@ named-rising j (x ∷ xs) =
     either (eqb x 1) j js Rising (above, rest) rest
 
 -- as many as the ones among the marks
-one-more : (b : Bool) (j n : ℕ) (js : List ℕ) → n ≡ length js → cond b 1 0 + n ≡ length (cond (eqb (cond b 1 0) 1) (j ∷ js) js)
-one-more true j n js e = omega arith
-one-more false j n js e = omega arith
-
-pub named-count : (P : List ℕ) (st : ℕ) (T : Text) (j : ℕ) → total (λ x. x) (marksFrom P st T) ≡ length (markedFrom j (marksFrom P st T))
-unfolding markedFrom marksFrom total
-named-count P st [] j = refl
-named-count P st (g ∷ T) j = one-more (ends P st g) j _ _ (named-count P (next P st g) T (suc j))
+pub named-count : (j : ℕ) (marks : List ℕ) → Row marks → total (λ x. x) marks ≡ length (markedFrom j marks)
+unfolding markedFrom total
+named-count j [] r = refl
+named-count j (zero ∷ xs) r =
+    let z : 0 + total (λ x. x) xs ≡ length (markedFrom (suc j) xs) = omega (arith, named-count (suc j) xs (r .1)) in z
+named-count j (suc zero ∷ xs) r =
+    let z : 1 + total (λ x. x) xs ≡ suc (length (markedFrom (suc j) xs)) = omega (arith, named-count (suc j) xs (r .1)) in z
+named-count j (suc (suc x) ∷ xs) r = absurd (let z : ⊥ = omega (arith, r .0) in z)

@@ -9,18 +9,18 @@ use mathlib.Core.List.{List, [], _∷_, _++_, append-assoc, append-cancel-left}
 use mathlib.Core.List.{List·Memᴰ, List·Memᴰ·head, List·Memᴰ·cases-cons, List·Memᴰ·not-nil, Memᴰ·cast}
 use lib.ListN.{length, getD, List·getD-append}
 use Rattle.text.specs.Text.{Text, size}
-use Rattle.text.specs.State.{fresh, marks}
 use Rattle.text.specs.Refusal.{ok, refused}
-use Rattle.text.specs.Occurrence.{EndsIn}
-use Rattle.text.proofs.Occurrences.{marks-ends}
 use Rattle.stretch.specs.Pieces.{mostInStretch}
-use Rattle.search.specs.Answers.{sumsOf, seenFrom}
+use Rattle.search.specs.Answers.{Sums}
 use Rattle.input.specs.Input.{patternIn, stretchIn}
 use Rattle.lines.specs.Decimal.{digit, digits, line}
 use Rattle.lines.specs.Answer.{segmentsWord, sizeWord, endsWord, noneLine, markedFrom, endLines, firstLine, textLines}
 use Rattle.lines.specs.Answer.{refusalLine, answerLines, screening, linesOf}
 use Rattle.lines.proofs.Digits.{digits-one, digits-more, digits-some, digits-front}
 use Rattle.lines.proofs.Named.{Rising, named-is, is-named, named-rising, named-count}
+use Rattle.lines.specs.Screening.{marksOn, EndsOn}
+use Rattle.lines.specs.declared.strands.Strands.{Strands}
+use Rattle.lines.proofs.Screens.{on-row, on-sums, on-ends}
 use Rattle.lines.proofs.Enough.{searched-sound}
 
 -- the lines of a text, where the segments of this list are named
@@ -28,43 +28,45 @@ unfoldable pub naming : Text → List ℕ → List ℕ
 naming t js =
     line segmentsWord (length t) ++ line sizeWord (size t) ++ line endsWord (length js) ++ endLines js ++ firstLine js
 
--- the lines of a text in which occurrences of P end: they name exactly these segments
-pub record Printed (P : List ℕ) (t : Text) (lines : List ℕ) : Type 0 where
+-- the lines of a text in which occurrences of P on these strands end: they name exactly these segments
+pub record Printed (S : Strands) (P : List ℕ) (t : Text) (lines : List ℕ) : Type 0 where
   pub named : List ℕ
   pub are : lines ≡ naming t named
   pub rising : Rising named
-  pub exactly : (j : ℕ) → List·Memᴰ j named ↔ EndsIn P t j
+  pub exactly : (j : ℕ) → List·Memᴰ j named ↔ EndsOn S P t j
 
 -- the lines of an accepted input
-pub accepted : (input : List ℕ) (t : Text) → screening input ≡ ok t → Printed (patternIn input) t (linesOf input)
-unfolding linesOf textLines naming sumsOf seenFrom marks
-accepted input t e =
+pub accepted : (S : Strands) (input : List ℕ) (t : Text) → screening input ≡ ok t → Printed S (patternIn input) t (linesOf S input)
+unfolding linesOf textLines naming
+accepted S input t e =
     let P : List ℕ = patternIn input in
-    let all : List ℕ = markedFrom 0 (marks P t) in
+    let ms : List ℕ = marksOn S P t in
+    let all : List ℕ = markedFrom 0 ms in
     let (sound, _) = searched-sound P (stretchIn input) mostInStretch t e in
     record {
       named = all;
       are =
-          ap (answerLines P) e
+          ap (answerLines S P) e
+          ∙ ap (λ (x : Sums). textLines x ms) (sym (on-sums P t S))
           ∙ ap
           (λ (n : ℕ). line segmentsWord (length t) ++ line sizeWord (size t) ++ line endsWord n ++ endLines all ++ firstLine all)
-          (named-count P fresh t 0);
-      rising = named-rising 0 (marks P t);
+          (named-count 0 ms (on-row P t S));
+      rising = named-rising 0 ms;
       exactly = λ j. (
         λ m.
-            let h = named-is 0 (marks P t) j m in
+            let h = named-is 0 ms j m in
             let same : j ≡ h .0 = omega (arith, h .1) in
-            marks-ends P t j (sound .some) .0 (rw same (h .2)),
+            on-ends P t S j (sound .some) .0 (rw same (h .2)),
         λ h.
             let same : j ≡ 0 + j = omega arith in
-            Memᴰ·cast same (is-named 0 (marks P t) j (marks-ends P t j (sound .some) .1 h)),
+            Memᴰ·cast same (is-named 0 ms j (on-ends P t S j (sound .some) .1 h)),
       );
     }
 
 -- the line of a refused one
-pub turned-down : (input : List ℕ) (n p : ℕ) → screening input ≡ refused n p → linesOf input ≡ refusalLine n p
+pub turned-down : (S : Strands) (input : List ℕ) (n p : ℕ) → screening input ≡ refused n p → linesOf S input ≡ refusalLine n p
 unfolding linesOf
-turned-down input n p e = ap (answerLines (patternIn input)) e
+turned-down S input n p e = ap (answerLines S (patternIn input)) e
 
 -- the first one named is the least
 pub first-least : (j : ℕ) (js : List ℕ) → Rising (j ∷ js) → (i : ℕ) → List·Memᴰ i (j ∷ js) → j ≤ i
@@ -115,17 +117,17 @@ none-ends : (js : List ℕ) → ((j : ℕ) → List·Memᴰ j js → ⊥) → js
 none-ends [] h = refl
 none-ends (j ∷ js) h = absurd (h j (List·Memᴰ·head refl))
 
--- no segment is named, with `ends 0` and `first none`, exactly when no occurrence ends anywhere
+-- no segment is named, with `ends 0` and `first none`, exactly when no occurrence on these strands ends anywhere
 pub clear :
-    (input : List ℕ) (t : Text) → screening input ≡ ok t →
-    (linesOf input ≡ naming t []) ↔ ((j : ℕ) → EndsIn (patternIn input) t j → ⊥)
-clear input t e = (
+    (S : Strands) (input : List ℕ) (t : Text) → screening input ≡ ok t →
+    (linesOf S input ≡ naming t []) ↔ ((j : ℕ) → EndsOn S (patternIn input) t j → ⊥)
+clear S input t e = (
   λ is j h. none-listed (none-named t (p .named) (sym (p .are) ∙ is)) (p .exactly j .1 h),
   λ none. p .are ∙ ap (naming t) (none-ends (p .named) (λ j m. none j (p .exactly j .0 m))),
 )
   where
-    p : Printed (patternIn input) t (linesOf input)
-    p = accepted input t e
+    p : Printed S (patternIn input) t (linesOf S input)
+    p = accepted S input t e
 
 -- the number that digits tell, from the highest on, behind those that told n
 unfoldable pub value : ℕ → List ℕ → ℕ

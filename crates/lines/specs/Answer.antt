@@ -4,12 +4,13 @@ use mathlib.Core.Bool.{cond}
 use mathlib.Core.List.{List, [], _∷_, _++_}
 use lib.Dec.{eqb}
 use Rattle.text.specs.Text.{Text}
-use Rattle.text.specs.State.{marks}
 use Rattle.text.specs.Refusal.{Outcome, ok, refused}
 use Rattle.stretch.specs.Pieces.{mostInStretch}
-use Rattle.search.specs.Answers.{Sums, sumsOf, searching}
+use Rattle.search.specs.Answers.{Sums, searching}
 use Rattle.input.specs.Input.{patternIn, stretchIn}
 use Rattle.lines.specs.Decimal.{digits, line}
+use Rattle.lines.specs.Screening.{sumsOn, marksOn}
+use Rattle.lines.specs.declared.strands.Strands.{Strands}
 
 -- `segments `
 abbrev pub segmentsWord : List ℕ
@@ -71,18 +72,18 @@ textLines sums marks =
 unfoldable pub refusalLine : ℕ → ℕ → List ℕ
 refusalLine n p = refusedWord ++ digits n ++ line atWord p
 
--- the lines of what a search of the pattern P answers
-abbrev pub answerLines : List ℕ → Outcome Text → List ℕ
-answerLines P (ok t) = textLines (sumsOf P t) (marks P t)
-answerLines P (refused n p) = refusalLine n p
+-- the lines of what a search of the pattern P on these strands answers
+abbrev pub answerLines : Strands → List ℕ → Outcome Text → List ℕ
+answerLines strands P (ok t) = textLines (sumsOn strands P t) (marksOn strands P t)
+answerLines strands P (refused n p) = refusalLine n p
 
 -- a search of the input's pattern in its stretch, with room for the marks of the most segments
 abbrev pub screening : List ℕ → Outcome Text
 screening input = searching (patternIn input) (stretchIn input) mostInStretch
 
--- the lines that the program prints for an input
-unfoldable pub linesOf : List ℕ → List ℕ
-linesOf input = answerLines (patternIn input) (screening input)
+-- the lines that the program prints for an input, screened on these strands
+unfoldable pub linesOf : Strands → List ℕ → List ℕ
+linesOf strands input = answerLines strands (patternIn input) (screening input)
 
 -- the most bytes of them: ten for each `end` line of the most segments, and 49 for the four other lines
 abbrev pub mostBytes : ℕ

@@ -2,10 +2,11 @@
 use crate::put::put_bytes;
 use crate::put::put_line;
 use crate::put::put_number;
+use crate::strands::Strands;
+use crate::strands::search_on;
 use input::pattern_in;
 use input::stretch_in;
 use search::Searched;
-use search::by_bits;
 use text::Refusal;
 use text::refusal;
 ghost use Rattle.lines.specs.Puts.{Put};
@@ -64,14 +65,15 @@ fn put_text(segments: usize, size: usize, ends: usize, marks: &[u8], out: &mut [
     put_first(marks, &mut *out, four)
 }
 
-// Searches an input's pattern in its stretch, and puts the lines of the answer in front of the buffer. The place behind them.
-pub fn screened(input: &[u8], out: &mut [u8]) -> usize
-    ensures { λ r. ⌜ Put (now (out .entry)) 0 (linesOf (now (input .entry))) (now (out .exit)) r ⌝ }
+// Searches an input's pattern in its stretch on these strands, and puts the lines of the answer in front of the buffer. The place
+// behind them.
+pub fn screened(strands: Strands, input: &[u8], out: &mut [u8]) -> usize
+    ensures { λ r. ⌜ Put (now (out .entry)) 0 (linesOf strands (now (input .entry))) (now (out .exit)) r ⌝ }
 {
     let mut marks = [0u8; refusal::MOST_IN_STRETCH];
     let pattern = pattern_in(input);
     let stretch = stretch_in(input);
-    match by_bits(pattern, stretch, &mut marks) {
+    match search_on(strands, pattern, stretch, &mut marks) {
         Searched::Refused(wrong) => put_refusal(wrong, &mut *out, 0),
         Searched::Marked {
             segments,

@@ -1,6 +1,7 @@
 // The lines that programs print, put into a buffer: bytes, numbers, lines of a word and a number, and the lines of a search's answer.
 mod answer;
 mod put;
+pub mod strands;
 
 pub use answer::MOST_BYTES;
 pub use answer::put_refusal;

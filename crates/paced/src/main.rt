@@ -7,6 +7,7 @@ use input::pattern_in;
 use input::stretch_in;
 use search::State;
 use stretch::Checked;
+use text::strand::Strand;
 
 // 1: the check of the stretch. Its size.
 fn checked(stretch: &[u8]) -> u64 {
@@ -34,7 +35,7 @@ fn asked(made: Made) -> u64 {
 
 // 2, or more with the card: its segments.
 fn carded(call: u8, pattern: &[u8], stretch: &[u8]) -> u64 {
-    let made = Card::of(pattern, stretch);
+    let made = Card::of(pattern, Strand::Given, stretch);
     match call {
         3 => joined(made),
         4 => asked(made),

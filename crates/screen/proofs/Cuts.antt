@@ -16,6 +16,7 @@ use Rattle.lines.specs.Puts.{Put}
 use Rattle.lines.specs.Answer.{answerLines, linesOf, mostBytes}
 use Rattle.lines.proofs.Putting.{put-all}
 use Rattle.lines.proofs.Enough.{enough}
+use Rattle.lines.specs.declared.strands.Strands.{Strands}
 use Rattle.screen.specs.Screened.{Read, Screened}
 
 -- how a stretch is searched, if it is too long
@@ -25,9 +26,9 @@ unfolding searching into
 long P s u room l k = rw (stretch-long s l, stretch-long u k)
 
 -- behind the first byte
-cut-behind : (x : ℕ) (xs : List ℕ) (k : ℕ) → x < 256 → mostRead ≤ suc k → linesOf (x ∷ take k xs) ≡ linesOf (x ∷ xs)
+cut-behind : (S : Strands) (x : ℕ) (xs : List ℕ) (k : ℕ) → x < 256 → mostRead ≤ suc k → linesOf S (x ∷ take k xs) ≡ linesOf S (x ∷ xs)
 unfolding announced patternIn stretchIn linesOf
-cut-behind x xs k small most =
+cut-behind S x xs k small most =
     let pattern : take x (take k xs) ≡ take x xs = take-take x k xs (omega arith) in
     let next : 1 + x ≡ suc x = omega arith in
     by-cases (decLt k (length xs))
@@ -35,34 +36,34 @@ cut-behind x xs k small most =
     let read : length (take k xs) ≡ k = length-take-le k xs (omega arith) in
     let one : greatestStretch < length (drop x (take k xs)) = omega (arith, length-drop x (take k xs)) in
     let all : greatestStretch < length (drop x xs) = omega (arith, length-drop x xs) in
-    rw (pattern, next) (ap (answerLines (take x xs)) (long (take x xs) (drop x (take k xs)) (drop x xs) mostInStretch one all)))
+    rw (pattern, next) (ap (answerLines S (take x xs)) (long (take x xs) (drop x (take k xs)) (drop x xs) mostInStretch one all)))
     (λ (l : k < length xs → ⊥). rw (take-all k xs (omega arith)) refl)
 
 -- a front that has the bytes that count
-cut : (k : ℕ) (input : List ℕ) → getD input 0 0 < 256 → mostRead ≤ k → linesOf (take k input) ≡ linesOf input
-cut k [] small most = ap linesOf (take-nil k)
-cut zero (x ∷ xs) small most = absurd (let z : ⊥ = omega arith in z)
-cut (suc k) (x ∷ xs) small most = cut-behind x xs k small most
+cut : (S : Strands) (k : ℕ) (input : List ℕ) → getD input 0 0 < 256 → mostRead ≤ k → linesOf S (take k input) ≡ linesOf S input
+cut S k [] small most = ap (linesOf S) (take-nil k)
+cut S zero (x ∷ xs) small most = absurd (let z : ⊥ = omega arith in z)
+cut S (suc k) (x ∷ xs) small most = cut-behind S x xs k small most
 
-module _ (buffer : List ℕ) (n : ℕ) (bytes : (i : ℕ) → getD buffer i 0 < 256) (most : mostRead ≤ length buffer) where
+module _ (S : Strands) (buffer : List ℕ) (n : ℕ) (bytes : (i : ℕ) → getD buffer i 0 < 256) (most : mostRead ≤ length buffer) where
   -- what is read begins with a byte
   first-byte : (n : ℕ) → getD (take n buffer) 0 0 < 256
   first-byte zero = omega arith
   first-byte (suc n) = rw (getD-take (suc n) buffer 0 0 (omega arith)) (bytes 0)
 
-  cut-read : (input : List ℕ) → Read input buffer n → linesOf (take n buffer) ≡ linesOf input
+  cut-read : (input : List ℕ) → Read input buffer n → linesOf S (take n buffer) ≡ linesOf S input
   cut-read input read =
       let same : getD input 0 0 ≡ getD (take n buffer) 0 0 =
       sym (getD-take (length buffer) input 0 0 (omega arith)) ∙ ap (λ (l : List ℕ). getD l 0 0) read in
       let small : getD input 0 0 < 256 = rw same (first-byte n) in
-      ap linesOf (sym read) ∙ cut (length buffer) input small most
+      ap (linesOf S) (sym read) ∙ cut S (length buffer) input small most
 
   pub screened-is :
-      (d out : List ℕ) (r : ℕ) → mostBytes ≤ length d → length out ≡ length d → Put d 0 (linesOf (take n buffer)) out r →
-      Screened buffer n out r
+      (d out : List ℕ) (r : ℕ) → mostBytes ≤ length d → length out ≡ length d → Put d 0 (linesOf S (take n buffer)) out r →
+      Screened S buffer n out r
   screened-is d out r room same p =
-      let few : length (linesOf (take n buffer)) ≤ mostBytes = enough (take n buffer) in
-      let fits : length (linesOf (take n buffer)) ≤ length d = omega arith in
-      let (far, front) = put-all d (linesOf (take n buffer)) out r p fits in
+      let few : length (linesOf S (take n buffer)) ≤ mostBytes = enough S (take n buffer) in
+      let fits : length (linesOf S (take n buffer)) ≤ length d = omega arith in
+      let (far, front) = put-all d (linesOf S (take n buffer)) out r p fits in
       let inside : r ≤ length out = omega arith in
       record { counts = (inside, sym (length-take-le r out inside)); lines = λ input read. front ∙ cut-read input read }

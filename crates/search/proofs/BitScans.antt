@@ -67,9 +67,13 @@ pub record Filling (P table : List ℕ) (k : ℕ) : Type 0 where
   pub full : length table ≡ 256
   pub each : (c : ℕ) → c < 256 → getD table c 0 ≡ fromBits (λ j. eqb (getD P j 0) c) k
 
-pub filling-none : (P : List ℕ) → Filling P (replicate 256 0) 0
+-- none in a table of zeros
+pub filling-zeros : (P table : List ℕ) → length table ≡ 256 → ((c : ℕ) → c < 256 → getD table c 0 ≡ 0) → Filling P table 0
 unfolding fromBits
-filling-none P = record { most = omega arith; full = length-replicate {A = ℕ} 256 0; each = λ c l. getD-replicate {A = ℕ} 256 c 0 0 l }
+filling-zeros P table full zeros = record { most = omega arith; full = full; each = zeros }
+
+pub filling-none : (P : List ℕ) → Filling P (replicate 256 0) 0
+filling-none P = filling-zeros P _ (length-replicate {A = ℕ} 256 0) (λ c l. getD-replicate {A = ℕ} 256 c 0 0 l)
 
 -- base k is entered at its byte b
 pub filling-more : (P table : List ℕ) (k b : ℕ) → Filling P table k → k < length P → k < 64 → b ≡ getD P k 0 → b < 256

@@ -9,6 +9,8 @@ use Rattle.text.specs.State.{next, ends, run, marksFrom}
 use Rattle.text.specs.Refusal.{ok, refused, after}
 use Rattle.text.proofs.Outcomes.{told-met, told-refused}
 use Rattle.text.specs.declared.refusal.Refusal.{Refusal}
+use Rattle.text.specs.Strand.{onStrand}
+use Rattle.text.specs.declared.strand.Strand.{Strand}
 use Rattle.stretch.specs.Pieces.{closedAt, toldVerdict}
 use Rattle.stretch.specs.Reading.{Taken, many, segmentAt}
 use Rattle.stretch.specs.declared.pieces.Verdict.{Verdict}
@@ -52,29 +54,30 @@ module _ (P s : List ℕ) (st : ℕ) where
       counts true = refl
       counts false = refl
 
-module _ (P s : List ℕ) (st : ℕ) where
-  pub fed-not : (j p : ℕ) → entering P st s (ok (tt {0})) ≡ refused j p → feeding P st s ≡ refused j p
+-- what a feed answers, from what a run over the segment tells of R, the pattern as the strand reads it
+module _ (P : List ℕ) (strand : Strand) (s : List ℕ) (st : ℕ) where
+  pub fed-not : (j p : ℕ) → entering P st s (ok (tt {0})) ≡ refused j p → feeding P strand st s ≡ refused j p
   unfolding feeding
   fed-not j p e = entering-refused P st s j p e _
 
-  module _ (y : Entered P st s) where
-    pub fed-refused : (j p : ℕ) → after (many (λ _. segmentAt s) 1 [] 0) (λ x. ok (courseOf P st x)) ≡ refused j p → feeding P st s ≡ refused j p
+  module _ (R : List ℕ) (is : R ≡ onStrand strand P) (y : Entered P st s) where
+    pub fed-refused : (j p : ℕ) → after (many (λ _. segmentAt s) 1 [] 0) (λ x. ok (courseOf R st x)) ≡ refused j p → feeding P strand st s ≡ refused j p
     unfolding feeding
-    fed-refused j p e = entering-sound P st s y _ ∙ rw (lone-refused-inside s (lone-not P s st j p e))
+    fed-refused j p e = entering-sound P st s y _ ∙ rw (lone-refused-inside s (lone-not R s st j p e))
 
     module _ (behind size bits hits : ℕ)
-        (e : after (many (λ _. segmentAt s) 1 [] 0) (λ x. ok (courseOf P st x)) ≡ ok (record { next = behind; size = size; state = bits; ends = hits }))
+        (e : after (many (λ _. segmentAt s) 1 [] 0) (λ x. ok (courseOf R st x)) ≡ ok (record { next = behind; size = size; state = bits; ends = hits }))
         (v : Verdict) (told : toldVerdict v ≡ closedAt s behind 1) where
-      met : Lone P s st behind bits hits
-      met = lone-met P s st behind size bits hits e
+      met : Lone R s st behind bits hits
+      met = lone-met R s st behind size bits hits e
 
-      pub fed-left : {w : Refusal} → v ≡ Verdict.Refused w → feeding P st s ≡ refused (w .number) (w .place)
+      pub fed-left : {w : Refusal} → v ≡ Verdict.Refused w → feeding P strand st s ≡ refused (w .number) (w .place)
       unfolding feeding
-      fed-left is = entering-sound P st s y _ ∙ rw (lone-refused-closed s (met .read) told is)
+      fed-left g = entering-sound P st s y _ ∙ rw (lone-refused-closed s (met .read) told g)
 
-      pub fed-next : v ≡ Sound → feeding P st s ≡ ok (record { state = bits; ends = not (eqb hits 0) })
+      pub fed-next : v ≡ Sound → feeding P strand st s ≡ ok (record { state = bits; ends = not (eqb hits 0) })
       unfolding feeding
-      fed-next is =
+      fed-next g =
           entering-sound P st s y _
-          ∙ rw (lone-sound s (met .read) told is)
+          ∙ rw (← is, lone-sound s (met .read) told g)
           (ap₂ (λ (n : ℕ) (b : Bool). ok (record { state = n; ends = b })) (met .state) (met .end))

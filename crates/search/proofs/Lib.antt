@@ -4,7 +4,11 @@ pub mod Words
 pub mod Carrieds
 pub mod Passes
 pub mod Entries
+pub mod ReadOns
+pub mod Markings
 pub mod Searches
+pub mod Pairs
+pub mod Eithers
 pub mod Methods
 pub mod Feeds
 pub mod BorderStrings

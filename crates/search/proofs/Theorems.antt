@@ -2,17 +2,21 @@
 -- are what the contracts say of the calls' answers.
 use Prim.Native.Nat.{ℕ, suc, _+_, _≤_, _<_}
 use mathlib.Core.Path.{_≡_, refl, sym, ap, ap₂, _∙_}
-use mathlib.Core.Logic.{_↔_}
+use mathlib.Core.Logic.{_⊎_, inl, inr, ⊎-elim, _↔_}
 use mathlib.Core.Bool.{Bool, true, false, cond}
 use mathlib.Core.List.{List, [], _∷_, map}
 use native.Mathlib.Omega.{arith}
 use lib.ListN.{length, getD, drop, take, List·getD-append, List·getD-map, length-map}
-use Rattle.text.specs.Text.{Text}
+use Rattle.text.specs.Text.{Text, total}
 use Rattle.text.specs.Occurrence.{EndsIn, CarriedOut}
 use Rattle.text.specs.Bits.{bit}
 use Rattle.text.specs.State.{isState, fresh, run, marksFrom, marks}
-use Rattle.text.specs.Refusal.{ok, after}
+use Rattle.text.specs.Refusal.{Outcome, ok, refused, after}
+use Rattle.text.specs.Strand.{opposite, onStrand}
+use Rattle.text.specs.declared.strand.Strand.{Strand}
+use Rattle.text.specs.declared.strand.Strand.the-variants.{Given, Opposite}
 use Rattle.text.proofs.Patterns.{SoundPattern}
+use Rattle.text.proofs.Strands.{opposite-length, strand-length, strand-sound}
 use Rattle.text.proofs.Outcomes.{ok-inj}
 use Rattle.text.proofs.Marks.{marks-length}
 use Rattle.text.proofs.Occurrences.{marks-ends, state-carried}
@@ -20,59 +24,127 @@ use Rattle.stretch.specs.Bytes.{over}
 use Rattle.stretch.specs.Pieces.{mostInStretch}
 use Rattle.stretch.specs.Answers.{leftBy}
 use Rattle.search.specs.Answers.{Next, sumsOf, searching, toldSearched}
+use Rattle.search.specs.Either.{eitherMarks, eitherSums}
 use Rattle.search.specs.Chain.{segmentsText, feeds, markOf, stretchesText, Trail, seeks}
 use Rattle.search.specs.declared.searching.Searched.{Searched}
 use Rattle.search.proofs.Entries.{fresh-state}
 use Rattle.search.proofs.Told.{searched-once}
+use Rattle.search.proofs.Eithers.{one, either-length, either-ones, either-at}
 use Rattle.search.proofs.Chains.{steps, feeds-steps, steps-marks, steps-states, seeks-text}
 
+-- the byte that a search of an accepted text leaves for segment j is its mark
+left-at : (f : Text → List ℕ) (o : Outcome Text) (out : List ℕ) (t : Text) (j : ℕ) → o ≡ ok t → j < length (f t)
+    → getD (leftBy f o out) j 0 ≡ getD (f t) j 0
+unfolding over
+left-at f o out t j e l = rw e (List·getD-append (f t) (drop (0 + length (f t)) out) 0 j l)
+
 -- the byte that an accepted search leaves for segment j is 1 exactly when an occurrence ends there
-pub search-marks : (P s out : List ℕ) (t : Text) (j : ℕ) → 0 < length P → searching P s (length out) ≡ ok t → j < length t
-    → (getD (leftBy (marks P) (searching P s (length out)) out) j 0 ≡ 1) ↔ EndsIn P t j
-unfolding over marks
-search-marks P s out t j some e l =
-    let inside : j < length (marks P t) = rw (marks-length P fresh t) l in
-    rw e (rw (List·getD-append (marks P t) (drop (0 + length (marks P t)) out) 0 j inside) (marks-ends P t j some))
+pub search-marks : (P : List ℕ) (strand : Strand) (s out : List ℕ) (t : Text) (j : ℕ) → 0 < length P → searching P s (length out) ≡ ok t → j < length t
+    → (getD (leftBy (marks (onStrand strand P)) (searching P s (length out)) out) j 0 ≡ 1) ↔ EndsIn (onStrand strand P) t j
+unfolding marks
+search-marks P strand s out t j some e l =
+    let Q : List ℕ = onStrand strand P in
+    let inside : j < length (marks Q t) = rw (marks-length Q fresh t) l in
+    let more : 0 < length Q = rw (strand-length strand P) some in
+    rw (left-at (marks Q) (searching P s (length out)) out t j e inside) (marks-ends Q t j more)
 
 -- what both searches promise of their answer and of the buffer that they leave
-abbrev pub Promised : List ℕ → List ℕ → List ℕ → Searched → List ℕ → Type 0
-Promised P s out answer left =
-    (toldSearched answer ≡ after (searching P s (length out)) (λ t. ok (sumsOf P t)))
-    × (left ≡ leftBy (marks P) (searching P s (length out)) out)
+abbrev pub Promised : List ℕ → Strand → List ℕ → List ℕ → Searched → List ℕ → Type 0
+Promised P strand s out answer left =
+    (toldSearched answer ≡ after (searching P s (length out)) (λ t. ok (sumsOf (onStrand strand P) t)))
+    × (left ≡ leftBy (marks (onStrand strand P)) (searching P s (length out)) out)
 
 -- so they give the same answer and the same marks on every input
-pub searches-agree : (P s out : List ℕ) (a b : Searched) (left left′ : List ℕ) → Promised P s out a left → Promised P s out b left′
-    → (a ≡ b) × (left ≡ left′)
-searches-agree P s out a b left left′ p q = (searched-once a b (p .0 ∙ sym (q .0)), p .1 ∙ sym (q .1))
+pub searches-agree : (P : List ℕ) (strand : Strand) (s out : List ℕ) (a b : Searched) (left left′ : List ℕ) → Promised P strand s out a left
+    → Promised P strand s out b left′ → (a ≡ b) × (left ≡ left′)
+searches-agree P strand s out a b left left′ p q = (searched-once a b (p .0 ∙ sym (q .0)), p .1 ∙ sym (q .1))
+
+-- what the search on both strands promises of its answer and of the buffer that it leaves
+abbrev pub PromisedEither : List ℕ → List ℕ → List ℕ → Searched → List ℕ → Type 0
+PromisedEither P s out answer left =
+    (toldSearched answer ≡ after (searching P s (length out)) (λ t. ok (eitherSums P t)))
+    × (left ≡ leftBy (eitherMarks P) (searching P s (length out)) out)
+
+-- it refuses where the searches of the two strands refuse, with the same number and place, and changes nothing
+pub either-refuses : (P : List ℕ) (strand : Strand) (s out : List ℕ) (a c : Searched) (left both : List ℕ) → Promised P strand s out a left
+    → PromisedEither P s out c both → (n p : ℕ) → searching P s (length out) ≡ refused n p → (c ≡ a) × (both ≡ out)
+either-refuses P strand s out a c left both p q n k e =
+    let one : toldSearched a ≡ refused n k = rw e at (p .0) in
+    let two : toldSearched c ≡ refused n k = rw e at (q .0) in
+    let same : both ≡ out = rw e at (q .1) in
+    (searched-once c a (two ∙ sym one), same)
+
+-- else the marks that it leaves are the union of those that the search leaves on the strand as given and on the opposite one
+pub either-unites : (P s out : List ℕ) (a b c : Searched) (given turned both : List ℕ) → Promised P Given s out a given
+    → Promised P Opposite s out b turned → PromisedEither P s out c both → (t : Text) → searching P s (length out) ≡ ok t → (j : ℕ) → j < length t
+    → (getD both j 0 ≡ 1) ↔ ((getD given j 0 ≡ 1) ⊎ (getD turned j 0 ≡ 1))
+unfolding marks
+either-unites P s out a b c given turned both p q r t e j l =
+    let o = searching P s (length out) in
+    let own : j < length (marks P t) = rw (marks-length P fresh t) l in
+    let other : j < length (marks (opposite P) t) = rw (marks-length (opposite P) fresh t) l in
+    let all : j < length (eitherMarks P t) = rw (either-length P t) l in
+    rw (
+      p .1,
+      q .1,
+      r .1,
+      left-at (marks P) o out t j e own,
+      left-at (marks (opposite P)) o out t j e other,
+      left-at (eitherMarks P) o out t j e all,
+    )
+    (either-at P t j l)
+
+-- so the byte for segment j is 1 exactly when an occurrence of the pattern or of its opposite ends there
+pub either-marks : (P s out : List ℕ) (t : Text) (j : ℕ) → 0 < length P → searching P s (length out) ≡ ok t → j < length t
+    → (getD (leftBy (eitherMarks P) (searching P s (length out)) out) j 0 ≡ 1) ↔ (EndsIn P t j ⊎ EndsIn (opposite P) t j)
+either-marks P s out t j some e l =
+    let all : j < length (eitherMarks P t) = rw (either-length P t) l in
+    let more : 0 < length (opposite P) = rw (opposite-length P) some in
+    let own : (getD (marks P t) j 0 ≡ 1) ↔ EndsIn P t j = marks-ends P t j some in
+    let other : (getD (marks (opposite P) t) j 0 ≡ 1) ↔ EndsIn (opposite P) t j = marks-ends (opposite P) t j more in
+    let at = either-at P t j l in
+    rw (left-at (eitherMarks P) (searching P s (length out)) out t j e all) (
+      λ h. ⊎-elim (λ x. inl (own .0 x)) (λ x. inr (other .0 x)) (at .0 h),
+      λ h. at .1 (⊎-elim (λ x. inl (own .1 x)) (λ x. inr (other .1 x)) h),
+    )
+
+-- the number that it tells is the number of segments marked 1: one in which both strands end counts once
+pub either-ends : (P : List ℕ) (t : Text) → eitherSums P t .ends ≡ total one (eitherMarks P t)
+unfolding eitherSums
+either-ends P t = either-ones P t
 
 -- what feeding lone segments one by one from the fresh state gives, for a text T of any length
-pub record Feeds (P : List ℕ) (ss : List (List ℕ)) (T : Text) : Type 0 where
+pub record Feeds (P : List ℕ) (strand : Strand) (ss : List (List ℕ)) (T : Text) : Type 0 where
   pub answers : List Next
-  pub accepted : feeds P fresh ss ≡ ok answers
-  pub ends : (j : ℕ) → j < length T → (getD (map markOf answers) j 0 ≡ 1) ↔ EndsIn P T j
-  pub carried : (j r : ℕ) → j < length T → 0 < r → r < length P → (bit (getD (map (λ x. x .state) answers) j 0) r ≡ true) ↔ CarriedOut P T j r
+  pub accepted : feeds P strand fresh ss ≡ ok answers
+  pub ends : (j : ℕ) → j < length T → (getD (map markOf answers) j 0 ≡ 1) ↔ EndsIn (onStrand strand P) T j
+  pub carried : (j r : ℕ) → j < length T → 0 < r → r < length P
+      → (bit (getD (map (λ x. x .state) answers) j 0) r ≡ true) ↔ CarriedOut (onStrand strand P) T j r
 
 -- feeding any row of sound lone segments, of any number, gives exactly Grossi's ends and the lengths carried out
-pub feeds-text : (P : List ℕ) (ss : List (List ℕ)) (T : Text) → SoundPattern P → segmentsText ss ≡ ok T → Feeds P ss T
+pub feeds-text : (P : List ℕ) (strand : Strand) (ss : List (List ℕ)) (T : Text) → SoundPattern P → segmentsText ss ≡ ok T → Feeds P strand ss T
 unfolding marks
-feeds-text P ss T y e =
+feeds-text P strand ss T y e =
+    let Q : List ℕ = onStrand strand P in
+    let z : SoundPattern Q = strand-sound strand P y in
     record {
-      answers = steps P y fresh T;
-      accepted = feeds-steps P y fresh ss T (fresh-state P (y .some)) e;
-      ends = λ j l. rw (steps-marks P y fresh T) (marks-ends P T j (y .some));
-      carried = λ j r l some short. rw (steps-states P y fresh T j l) (state-carried P T j r some short l);
+      answers = steps Q z fresh T;
+      accepted = feeds-steps P strand y fresh ss T (fresh-state P (y .some)) e;
+      ends = λ j l. rw (steps-marks Q z fresh T) (marks-ends Q T j (z .some));
+      carried = λ j r l some short. rw (steps-states Q z fresh T j l) (state-carried Q T j r some (rw (strand-length strand P) short) l);
     }
 
 -- stretches of any number, searched one after another with the state handed on: their marks laid end to end are the marks of their
 -- texts laid end to end, and the state is that behind them all; from the fresh state these are Grossi's ends, across every cut
-pub seeks-stretches : (P : List ℕ) (st room : ℕ) (ss : List (List ℕ)) (T : Text) → SoundPattern P → isState (length P) st ≡ true
-    → mostInStretch ≤ room → stretchesText ss ≡ ok T → seeks P st room ss ≡ ok (record { marks = marksFrom P st T; state = run P st T })
-seeks-stretches P st room ss T y i roomy e = seeks-text P y room roomy st ss T i e
+pub seeks-stretches : (P : List ℕ) (strand : Strand) (st room : ℕ) (ss : List (List ℕ)) (T : Text) → SoundPattern P → isState (length P) st ≡ true
+    → mostInStretch ≤ room → stretchesText ss ≡ ok T
+    → seeks P strand st room ss ≡ ok (record { marks = marksFrom (onStrand strand P) st T; state = run (onStrand strand P) st T })
+seeks-stretches P strand st room ss T y i roomy e = seeks-text P strand y room roomy st ss T i e
 
 -- so mark j of the searches is 1 exactly when an occurrence ends in segment j of the whole text
-pub seeks-ends : (P : List ℕ) (room : ℕ) (ss : List (List ℕ)) (T : Text) (x : Trail) (j : ℕ) → SoundPattern P → mostInStretch ≤ room
-    → stretchesText ss ≡ ok T → seeks P fresh room ss ≡ ok x → (getD (x .marks) j 0 ≡ 1) ↔ EndsIn P T j
+pub seeks-ends : (P : List ℕ) (strand : Strand) (room : ℕ) (ss : List (List ℕ)) (T : Text) (x : Trail) (j : ℕ) → SoundPattern P
+    → mostInStretch ≤ room → stretchesText ss ≡ ok T → seeks P strand fresh room ss ≡ ok x → (getD (x .marks) j 0 ≡ 1) ↔ EndsIn (onStrand strand P) T j
 unfolding marks
-seeks-ends P room ss T x j y roomy e f =
-    let all = seeks-stretches P fresh room ss T y (fresh-state P (y .some)) roomy e in
-    rw (ap (λ (z : Trail). z .marks) (ok-inj (sym f ∙ all))) (marks-ends P T j (y .some))
+seeks-ends P strand room ss T x j y roomy e f =
+    let all = seeks-stretches P strand fresh room ss T y (fresh-state P (y .some)) roomy e in
+    rw (ap (λ (z : Trail). z .marks) (ok-inj (sym f ∙ all))) (marks-ends (onStrand strand P) T j (strand-sound strand P y .some))

@@ -1,14 +1,16 @@
 -- What a search and a feed answer, in document 01's numbers and values.
 use Prim.Native.Nat.{ℕ, _+_, _-_, _*_, _/_, _≤_, min}
 use mathlib.Core.Path.{_≡_}
-use mathlib.Core.Bool.{Bool}
+use mathlib.Core.Bool.{Bool, cond}
 use mathlib.Core.List.{List}
 use lib.Dec.{leb}
 use lib.ListN.{length, take}
 use Rattle.text.specs.Text.{Text, total, size}
 use Rattle.text.specs.State.{isState, fresh, next, ends, run, marksFrom, marks}
 use Rattle.text.specs.Refusal.{Outcome, ok, refused, demand, after, pattern}
-use Rattle.stretch.specs.Bytes.{greatestStretch}
+use Rattle.text.specs.Strand.{onStrand}
+use Rattle.text.specs.declared.strand.Strand.{Strand}
+use Rattle.stretch.specs.Bytes.{greatestStretch, over}
 use Rattle.stretch.specs.Pieces.{fits}
 use Rattle.stretch.specs.Reading.{Taken, loneSegment, stretchOf}
 use Rattle.search.specs.declared.entry.Entry.{Entry}
@@ -76,9 +78,13 @@ abbrev pub toldSearched : Searched → Outcome Sums
 toldSearched (Marked segments size ends) = ok (record { segments = segments; size = size; ends = ends })
 toldSearched (Searched.Refused r) = refused (r .number) (r .place)
 
--- a buffer that holds the marks of an accepted text in front; after a refusal it may hold anything
-abbrev pub MarksOf : List ℕ → ℕ → Outcome Text → List ℕ → Type 0
-MarksOf P st o buffer = (t : Text) → o ≡ ok t → take (length t) buffer ≡ marksFrom P st t
+-- a buffer that holds the marks of an accepted text in front, as f gives them; after a refusal it may hold anything
+abbrev pub MarksOf : (Text → List ℕ) → Outcome Text → List ℕ → Type 0
+MarksOf f o buffer = (t : Text) → o ≡ ok t → take (length t) buffer ≡ f t
+
+-- what a search leaves in the caller's buffer: the first n of the marks that it found, where there is room for them
+abbrev pub handed : ℕ → List ℕ → List ℕ → List ℕ
+handed n found out = cond (leb n (length out)) (over out 0 (take n found)) out
 
 -- what a run over segments tells: the place behind them, their size, the state there, and the number of ones among their marks
 pub record Course : Type 0 where
@@ -100,9 +106,9 @@ abbrev pub toldRan : Ran → Outcome Course
 toldRan (To next size state ends) = ok (record { next = next; size = size; state = state .bits; ends = ends })
 toldRan (Ran.Refused r) = refused (r .number) (r .place)
 
--- a buffer that holds the marks of accepted segments in front; after a refusal it may hold anything
-abbrev pub MarksFrom : List ℕ → ℕ → Outcome (Taken Text ℕ) → List ℕ → Type 0
-MarksFrom P st o buffer = (x : Taken Text ℕ) → o ≡ ok x → take (length (x .value)) buffer ≡ marksFrom P st (x .value)
+-- a buffer that holds the marks of accepted segments in front, as f gives them; after a refusal it may hold anything
+abbrev pub MarksFrom : (Text → List ℕ) → Outcome (Taken Text ℕ) → List ℕ → Type 0
+MarksFrom f o buffer = (x : Taken Text ℕ) → o ≡ ok x → take (length (x .value)) buffer ≡ f (x .value)
 
 -- a buffer with a byte for each of n segments that stand from `at` on: a segment has at least 3 bytes
 abbrev pub RoomyFrom : List ℕ → ℕ → ℕ → List ℕ → Type 0
@@ -121,9 +127,13 @@ pub record Next : Type 0 where
   pub state : ℕ
   pub ends : Bool
 
--- a feed: 1, 2, 3, 4, 17, then 5 to 9
-unfoldable pub feeding : List ℕ → ℕ → List ℕ → Outcome Next
-feeding P st s = entering P st s (after (loneSegment s) λ g. ok (record { state = next P st g; ends = ends P st g }))
+-- a step of P over a lone segment
+abbrev pub stepped : List ℕ → ℕ → List ℕ → Outcome Next
+stepped P st s = after (loneSegment s) λ g. ok (record { state = next P st g; ends = ends P st g })
+
+-- a feed of the pattern as a strand reads it: 1, 2, 3 of the pattern as given, 4, 17, then 5 to 9
+unfoldable pub feeding : List ℕ → Strand → ℕ → List ℕ → Outcome Next
+feeding P strand st s = entering P st s (stepped (onStrand strand P) st s)
 
 abbrev pub toldFed : Fed → Outcome Next
 toldFed (Fed.Next state ends) = ok (record { state = state .bits; ends = ends })

@@ -5,6 +5,8 @@ use mathlib.Core.List.{List, [], _∷_, _++_, map}
 use Rattle.text.specs.Text.{Text}
 use Rattle.text.specs.State.{marksFrom}
 use Rattle.text.specs.Refusal.{Outcome, ok, after}
+use Rattle.text.specs.Strand.{onStrand}
+use Rattle.text.specs.declared.strand.Strand.{Strand}
 use Rattle.stretch.specs.Reading.{segmentOf, stretchOf}
 use Rattle.search.specs.Answers.{Next, feeding, seeking, seenFrom}
 
@@ -13,10 +15,10 @@ unfoldable pub segmentsText : List (List ℕ) → Outcome Text
 segmentsText [] = ok []
 segmentsText (s ∷ ss) = after (segmentOf s) λ g. after (segmentsText ss) λ T. ok (g ∷ T)
 
--- lone segments fed one by one
-unfoldable pub feeds : List ℕ → ℕ → List (List ℕ) → Outcome (List Next)
-feeds P st [] = ok []
-feeds P st (s ∷ ss) = after (feeding P st s) λ x. after (feeds P (x .state) ss) λ xs. ok (x ∷ xs)
+-- lone segments fed one by one, of the pattern as a strand reads it
+unfoldable pub feeds : List ℕ → Strand → ℕ → List (List ℕ) → Outcome (List Next)
+feeds P strand st [] = ok []
+feeds P strand st (s ∷ ss) = after (feeding P strand st s) λ x. after (feeds P strand (x .state) ss) λ xs. ok (x ∷ xs)
 
 -- whether an occurrence ends, as a mark
 abbrev pub markOf : Next → ℕ
@@ -32,10 +34,10 @@ pub record Trail : Type 0 where
   pub marks : List ℕ
   pub state : ℕ
 
--- stretches searched one by one, each into a buffer of so many bytes
-unfoldable pub seeks : List ℕ → ℕ → ℕ → List (List ℕ) → Outcome Trail
-seeks P st room [] = ok (record { marks = []; state = st })
-seeks P st room (s ∷ ss) =
+-- stretches searched one by one, each into a buffer of so many bytes, of the pattern as a strand reads it
+unfoldable pub seeks : List ℕ → Strand → ℕ → ℕ → List (List ℕ) → Outcome Trail
+seeks P strand st room [] = ok (record { marks = []; state = st })
+seeks P strand st room (s ∷ ss) =
     after (seeking P st s room) λ t.
-    after (seeks P (seenFrom P st t .state) room ss) λ x.
-    ok (record { marks = marksFrom P st t ++ x .marks; state = x .state })
+    after (seeks P strand (seenFrom (onStrand strand P) st t .state) room ss) λ x.
+    ok (record { marks = marksFrom (onStrand strand P) st t ++ x .marks; state = x .state })

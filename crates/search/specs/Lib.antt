@@ -6,5 +6,6 @@ pub mod Border
 pub mod BorderStep
 pub mod Method
 pub mod Answers
+pub mod Either
 pub mod Chain
 pub mod Carried

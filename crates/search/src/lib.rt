@@ -1,6 +1,7 @@
 // States, and the search of a pattern in a stretch by two methods.
 mod bits;
 mod borders;
+mod both;
 mod entry;
 mod marking;
 mod method;
@@ -10,6 +11,7 @@ mod segment;
 mod state;
 mod vectors;
 
+pub use both::either;
 pub use searching::Searched;
 pub use searching::by_bits;
 pub use searching::by_borders;

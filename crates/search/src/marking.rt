@@ -8,12 +8,13 @@ use text::Refusal;
 use text::refusal;
 ghost use mathlib.Core.Path.{_≡_};
 ghost use Prim.Native.Nat.{_≤_};
+ghost use lib.Dec.{leb};
 ghost use lib.ListN.{length};
 ghost use Rattle.text.specs.Refusal.{ok, after};
 ghost use Rattle.text.specs.State.{marksFrom};
 ghost use Rattle.stretch.specs.Bytes.{over};
 ghost use Rattle.stretch.specs.Answers.{leftBy};
-ghost use Rattle.search.specs.Answers.{stretchInto, seenFrom, toldSought, Roomy};
+ghost use Rattle.search.specs.Answers.{stretchInto, seenFrom, toldSought, Roomy, handed};
 ghost use Rattle.search.specs.Masks.{StateOf};
 ghost use Rattle.search.specs.Method.{Founded};
 
@@ -27,6 +28,19 @@ fn copy(from: &[u8], to: &mut [u8])
         to[i] = from[i];
         i += 1;
     }
+}
+
+// Hands over the marks of so many segments once all is accepted, and says whether there was room for them.
+pub fn handed(segments: usize, found: &[u8], marks: &mut [u8]) -> bool
+    requires { ⌜ segments ≤ length (now found) ⌝ }
+    ensures { λ r. ⌜ r ≡ leb segments (length (now (marks .entry))) ⌝ }
+    ensures { λ r. ⌜ now (marks .exit) ≡ handed segments (now (found .entry)) (now (marks .entry)) ⌝ }
+{
+    if marks.len() < segments {
+        return false;
+    }
+    copy(&found[..segments], &mut *marks);
+    true
 }
 
 // Runs over the stretch into `found`, and copies what it found to the caller's marks once all is accepted: refusal 10.
@@ -63,13 +77,12 @@ fn mark_by_way_of(
             ends,
             state: reached,
         } => {
-            if marks.len() < segments {
+            if !handed(segments, found, &mut *marks) {
                 return Sought::Refused(Refusal {
                     number: refusal::BUFFER_SHORT,
                     place: 0,
                 });
             }
-            copy(&found[..segments], &mut *marks);
             Sought::Marked {
                 segments,
                 size,

@@ -13,6 +13,7 @@ ghost use mathlib.Core.List.{[]};
 ghost use Prim.Native.Nat.{_≤_};
 ghost use lib.ListN.{length};
 ghost use Rattle.text.specs.Refusal.{ok, after};
+ghost use Rattle.text.specs.State.{marksFrom};
 ghost use Rattle.stretch.specs.Reading.{segmentAt, many, stretchOf};
 ghost use Rattle.search.specs.Answers.{courseOf, toldRan, MarksFrom, RoomyFrom, seenFrom, toldSought, MarksOf, Roomy};
 ghost use Rattle.search.specs.Masks.{StateOf};
@@ -46,7 +47,7 @@ pub fn run(
     requires { ⌜ (at ≤ length (now stretch)) × RoomyFrom (now stretch) at segments (now marks) ⌝ }
     ensures { λ r. ⌜ toldRan r
         ≡ after (many (λ _. segmentAt (now (stretch .entry))) segments [] at) (λ x. ok (courseOf (now (pattern .entry)) (state .bits) x)) ⌝ }
-    ensures { λ r. ⌜ MarksFrom (now (pattern .entry)) (state .bits)
+    ensures { λ r. ⌜ MarksFrom (marksFrom (now (pattern .entry)) (state .bits))
         (many (λ _. segmentAt (now (stretch .entry))) segments [] at) (now (marks .exit)) ⌝ }
 {
     let mut next = at;
@@ -97,7 +98,7 @@ pub fn run_stretch(
     requires { ⌜ Tools method (now pattern) (now table) (now classes) × StateOf (now pattern) (state .bits) ⌝ }
     requires { ⌜ Roomy (now stretch) (now marks) ⌝ }
     ensures { λ r. ⌜ toldSought r ≡ after (stretchOf (now (stretch .entry))) (λ t. ok (seenFrom (now (pattern .entry)) (state .bits) t)) ⌝ }
-    ensures { λ r. ⌜ MarksOf (now (pattern .entry)) (state .bits) (stretchOf (now (stretch .entry))) (now (marks .exit)) ⌝ }
+    ensures { λ r. ⌜ MarksOf (marksFrom (now (pattern .entry)) (state .bits)) (stretchOf (now (stretch .entry))) (now (marks .exit)) ⌝ }
 {
     let segments = match open(stretch) {
         Opened::Refused(wrong) => {

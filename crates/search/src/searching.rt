@@ -7,9 +7,12 @@ use crate::state::State;
 use text::Refusal;
 use text::pattern::PatternIs;
 use text::pattern::check;
+use text::strand::Strand;
+use text::strand::read_on;
 ghost use mathlib.Core.Path.{_≡_};
 ghost use lib.ListN.{length};
 ghost use Rattle.text.specs.Refusal.{ok, after};
+ghost use Rattle.text.specs.Strand.{onStrand};
 ghost use Rattle.stretch.specs.Answers.{leftBy};
 ghost use Rattle.search.specs.Answers.{searching, sumsOf, toldSearched, toldSought, sums, marked};
 
@@ -42,33 +45,36 @@ fn summed(sought: Sought) -> Searched
     }
 }
 
-// The search by bit-vectors: refusals 1, 2, 3, those of the stretch, then 10. It writes 1 or 0 for each segment; further bytes
+// The search by bit-vectors, of the pattern as the strand reads it: refusals 1, 2, 3, those of the stretch, then 10. It writes 1 or 0 for each segment; further bytes
 // stay, and a refusal changes nothing.
-pub fn by_bits(pattern: &[u8], stretch: &[u8], marks: &mut [u8]) -> Searched
+pub fn by_bits(pattern: &[u8], strand: Strand, stretch: &[u8], marks: &mut [u8]) -> Searched
     ensures { λ r. ⌜ toldSearched r ≡ after (searching (now (pattern .entry)) (now (stretch .entry)) (length (now (marks .entry))))
-        (λ t. ok (sumsOf (now (pattern .entry)) t)) ⌝ }
-    ensures { λ r. ⌜ now (marks .exit) ≡ leftBy (marked (now (pattern .entry)))
+        (λ t. ok (sumsOf (onStrand strand (now (pattern .entry))) t)) ⌝ }
+    ensures { λ r. ⌜ now (marks .exit) ≡ leftBy (marked (onStrand strand (now (pattern .entry))))
         (searching (now (pattern .entry)) (now (stretch .entry)) (length (now (marks .entry)))) (now (marks .entry)) ⌝ }
 {
     let fresh = State::FRESH;
-    let sought = fresh.through(pattern, stretch, &mut *marks);
+    let sought = fresh.through(pattern, strand, stretch, &mut *marks);
     summed(sought)
 }
 
 // The search by border tables: the same promise.
-pub fn by_borders(pattern: &[u8], stretch: &[u8], marks: &mut [u8]) -> Searched
+pub fn by_borders(pattern: &[u8], strand: Strand, stretch: &[u8], marks: &mut [u8]) -> Searched
     ensures { λ r. ⌜ toldSearched r ≡ after (searching (now (pattern .entry)) (now (stretch .entry)) (length (now (marks .entry))))
-        (λ t. ok (sumsOf (now (pattern .entry)) t)) ⌝ }
-    ensures { λ r. ⌜ now (marks .exit) ≡ leftBy (marked (now (pattern .entry)))
+        (λ t. ok (sumsOf (onStrand strand (now (pattern .entry))) t)) ⌝ }
+    ensures { λ r. ⌜ now (marks .exit) ≡ leftBy (marked (onStrand strand (now (pattern .entry))))
         (searching (now (pattern .entry)) (now (stretch .entry)) (length (now (marks .entry)))) (now (marks .entry)) ⌝ }
 {
     match check(pattern) {
         PatternIs::Refused(refused) => Searched::Refused(refused),
         PatternIs::Sound => {
-            let table = border_table(pattern);
+            let m = pattern.len();
+            let bytes = read_on(strand, pattern);
+            let read = &bytes[..m];
+            let table = border_table(read);
             let sought = mark(
                 Method::Borders,
-                pattern,
+                read,
                 &table,
                 State::FRESH,
                 stretch,

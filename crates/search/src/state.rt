@@ -11,11 +11,14 @@ use crate::vectors::masks;
 use stretch::pieces::Verdict;
 use stretch::pieces::closed;
 use text::Refusal;
+use text::strand::Strand;
+use text::strand::read_on;
 ghost use mathlib.Core.Path.{_≡_};
 ghost use mathlib.Core.List.{[]};
 ghost use lib.ListN.{length};
 ghost use Rattle.text.specs.Refusal.{ok, after};
 ghost use Rattle.text.specs.State.{marksFrom};
+ghost use Rattle.text.specs.Strand.{onStrand};
 ghost use Rattle.stretch.specs.Reading.{segmentAt, many};
 ghost use Rattle.stretch.specs.Answers.{leftBy};
 ghost use Rattle.search.specs.Masks.{StateOf};
@@ -56,14 +59,16 @@ impl State {
     // Nothing is carried.
     pub const FRESH: State = State { bits: 1 };
 
-    // The state after a lone segment: refusals 1, 2, 3, 4, 17, then 5 to 9.
-    pub fn feed(self, pattern: &[u8], segment: &[u8]) -> Fed
-        ensures { λ r. ⌜ toldFed r ≡ feeding (now (pattern .entry)) (self .bits) (now (segment .entry)) ⌝ }
+    // The state after a lone segment, of the pattern as the strand reads it: refusals 1, 2, 3, 4, 17, then 5 to 9.
+    pub fn feed(self, pattern: &[u8], strand: Strand, segment: &[u8]) -> Fed
+        ensures { λ r. ⌜ toldFed r ≡ feeding (now (pattern .entry)) strand (self .bits) (now (segment .entry)) ⌝ }
     {
         if let Entry::Refused(refused) = enter(pattern, self, segment) {
             return Fed::Refused(refused);
         }
-        match alone(pattern, self, segment) {
+        let m = pattern.len();
+        let bytes = read_on(strand, pattern);
+        match alone(&bytes[..m], self, segment) {
             Ran::Refused(refused) => Fed::Refused(refused),
             Ran::To {
                 next,
@@ -80,21 +85,24 @@ impl State {
         }
     }
 
-    // The search of a whole stretch from this state, by bit-vectors: refusals 1, 2, 3, 4, 17, those of the stretch, then 10. It
-    // writes 1 or 0 for each segment; further bytes stay, and a refusal changes nothing. The state behind the stretch is where the
-    // search of the next one begins, so that nothing is lost at a cut.
-    pub fn through(self, pattern: &[u8], stretch: &[u8], marks: &mut [u8]) -> Sought
+    // The search of a whole stretch from this state, by bit-vectors, of the pattern as the strand reads it: refusals 1, 2, 3, 4, 17,
+    // those of the stretch, then 10. It writes 1 or 0 for each segment; further bytes stay, and a refusal changes nothing. The state
+    // behind the stretch is where the search of the next one begins, so that nothing is lost at a cut.
+    pub fn through(self, pattern: &[u8], strand: Strand, stretch: &[u8], marks: &mut [u8]) -> Sought
         ensures { λ r. ⌜ toldSought r
             ≡ after (seeking (now (pattern .entry)) (self .bits) (now (stretch .entry)) (length (now (marks .entry))))
-            (λ t. ok (seenFrom (now (pattern .entry)) (self .bits) t)) ⌝ }
-        ensures { λ r. ⌜ now (marks .exit) ≡ leftBy (marksFrom (now (pattern .entry)) (self .bits))
+            (λ t. ok (seenFrom (onStrand strand (now (pattern .entry))) (self .bits) t)) ⌝ }
+        ensures { λ r. ⌜ now (marks .exit) ≡ leftBy (marksFrom (onStrand strand (now (pattern .entry))) (self .bits))
             (seeking (now (pattern .entry)) (self .bits) (now (stretch .entry)) (length (now (marks .entry)))) (now (marks .entry)) ⌝ }
     {
         match enter(pattern, self, stretch) {
             Entry::Refused(refused) => Sought::Refused(refused),
             Entry::Open => {
-                let table = masks(pattern);
-                mark(Method::Bits, pattern, &table, self, stretch, &mut *marks)
+                let m = pattern.len();
+                let bytes = read_on(strand, pattern);
+                let read = &bytes[..m];
+                let table = masks(read);
+                mark(Method::Bits, read, &table, self, stretch, &mut *marks)
             }
         }
     }

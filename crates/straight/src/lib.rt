@@ -4,6 +4,7 @@ mod apart;
 mod occurrences;
 mod parts;
 mod reader;
+mod strands;
 
 pub use apart::counts;
 pub use apart::lengths;
@@ -27,3 +28,5 @@ pub use reader::Verdict;
 pub use reader::pattern;
 pub use reader::repeats;
 pub use reader::stretch;
+pub use strands::turned;
+pub use strands::unite;

@@ -23,3 +23,7 @@ pub mod Cards
 pub mod TextCards
 pub mod Folds
 pub mod States
+pub mod Turned
+pub mod Padding
+pub mod Strands
+pub mod Opposites

@@ -53,7 +53,7 @@ mark-ends P st T j e =
     absurd (let z : ⊥ = omega (arith, sym (List·getD-eq-default (marksFrom P st T) 0 far) ∙ e) in z))
 
 -- what is listed somewhere is in the text
-listed-within : (T : Text) (j : ℕ) (A : Variant → Type 0) → Some (segment T j) A → j < length T
+pub listed-within : (T : Text) (j : ℕ) (A : Variant → Type 0) → Some (segment T j) A → j < length T
 listed-within T j A h =
     by-cases (decLt j (length T))
     (λ (l : j < length T). l)

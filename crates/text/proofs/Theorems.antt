@@ -7,11 +7,13 @@ use mathlib.Core.Bool.{true}
 use mathlib.Core.List.{List, [], _++_}
 use lib.ListN.{length, take, getD}
 use Rattle.text.specs.Text.{Text}
-use Rattle.text.specs.Occurrence.{EndsIn, CarriedOut, Passes, Finishes}
+use Rattle.text.specs.Occurrence.{EndsIn, Occurs, BeginsIn, CarriedOut, Passes, Finishes}
 use Rattle.text.specs.Bits.{bit}
 use Rattle.text.specs.State.{isState, fresh, run, marksFrom, marks}
-use Rattle.text.specs.Refusal.{ok, after, greatestPattern}
+use Rattle.text.specs.Refusal.{Outcome, ok, after, greatestPattern, pattern}
 use Rattle.text.specs.Card.{Card, mostSegments, row, padded, ran, cardOf, emptyCard, wellFormed, joined, samePattern, join, ask}
+use Rattle.text.specs.Strand.{opposite, oppositeText, facing, onStrand, readOn}
+use Rattle.text.specs.declared.strand.Strand.{Strand}
 use Rattle.text.proofs.Outcomes.{SameFate}
 use Rattle.text.proofs.Patterns.{SoundPattern}
 use Rattle.text.proofs.Runs.{Begun}
@@ -19,12 +21,18 @@ use Rattle.text.proofs.Marks
 use Rattle.text.proofs.Occurrences
 use Rattle.text.proofs.Cards
 use Rattle.text.proofs.Cards.{WellFormed}
+use Rattle.text.proofs.Strands
+use Rattle.text.proofs.Opposites
 use Rattle.text.proofs.TextCards
 use Rattle.text.proofs.TextCards.{IsFirst}
 
 -- mark j of a text is 1 exactly when an occurrence ends in segment j
 pub marks-ends : (P : List ℕ) (T : Text) (j : ℕ) → 0 < length P → (getD (marks P T) j 0 ≡ 1) ↔ EndsIn P T j
 marks-ends = Occurrences.marks-ends
+
+-- an occurrence that ends in segment j is one from some segment up to j
+pub ends-occurs : (P : List ℕ) (T : Text) (j : ℕ) → EndsIn P T j ↔ ((i : ℕ) × (i ≤ j) × Occurs P T i j)
+ends-occurs = Opposites.ends-occurs
 
 -- bit r of the state after segment j is set exactly when length r is carried out of it
 pub state-carried : (P : List ℕ) (T : Text) (j r : ℕ) → 0 < r → r < length P → j < length T
@@ -87,3 +95,31 @@ empty-left = Cards.empty-left
 
 pub empty-right : (P : List ℕ) (a : Card) → wellFormed a ≡ true → a .pattern ≡ padded P → a .m ≡ length P → join a (emptyCard P) ≡ ok a
 empty-right = Cards.empty-right
+
+-- the opposite of the opposite is the pattern
+pub opposite-twice : (P : List ℕ) → opposite (opposite P) ≡ P
+opposite-twice = Strands.opposite-twice
+
+-- the opposite of P has an occurrence from i to j of T exactly when P has one from n - 1 - j to n - 1 - i of the opposite of T
+pub occurs-opposite : (P : List ℕ) (T : Text) (i j : ℕ) → i < length T → j < length T
+    → Occurs (opposite P) T i j ↔ Occurs P (oppositeText T) (facing T j) (facing T i)
+occurs-opposite = Opposites.occurs-opposite
+
+-- a segment is where an occurrence of the opposite ends, and is marked, exactly when an occurrence of P begins there in the opposite text
+pub ends-opposite : (P : List ℕ) (T : Text) (j : ℕ) → j < length T → EndsIn (opposite P) T j ↔ BeginsIn P (oppositeText T) (facing T j)
+ends-opposite = Opposites.ends-opposite
+
+pub marks-opposite : (P : List ℕ) (T : Text) (j : ℕ) → 0 < length P → j < length T
+    → (getD (marks (opposite P) T) j 0 ≡ 1) ↔ BeginsIn P (oppositeText T) (facing T j)
+marks-opposite = Opposites.marks-opposite
+
+-- what is asked of a pattern as given need not be asked of it as a strand reads it
+pub strand-asked : (strand : Strand) (P : List ℕ) {A : Type 0} (o : Outcome A) → pattern P (pattern (onStrand strand P) o) ≡ pattern P o
+strand-asked = Strands.strand-asked
+
+-- of a pattern of up to 64 bytes, the 64 bytes are those of the pattern as the strand reads it, and the first m of them are it
+pub read-padded : (strand : Strand) (P : List ℕ) → length P ≤ greatestPattern → readOn strand P ≡ padded (onStrand strand P)
+read-padded = Strands.read-padded
+
+pub read-front : (strand : Strand) (P : List ℕ) → length P ≤ greatestPattern → take (length P) (readOn strand P) ≡ onStrand strand P
+read-front = Strands.read-front

@@ -117,3 +117,7 @@ and-assoc false b c = refl
 pub and-false : (a : Bool) → (a && false) ≡ false
 and-false true = refl
 and-false false = refl
+
+pub and-comm : (a b : Bool) → (a && b) ≡ (b && a)
+and-comm true b = sym (and-true b)
+and-comm false b = sym (and-false b)

@@ -7,3 +7,4 @@ pub mod Bits
 pub mod State
 pub mod Refusal
 pub mod Card
+pub mod Strand

@@ -59,6 +59,14 @@ pub record Across (P : List ℕ) (T : Text) (i j : ℕ) : Type 0 where
 abbrev pub EndsIn : List ℕ → Text → ℕ → Type 0
 EndsIn P T j = Some (segment T j) (Inside P) ⊎ ((i : ℕ) × (i < j) × Across P T i j)
 
+-- P has an occurrence from segment i to segment j: inside one variant of a single segment, or across from i to a later j
+abbrev pub Occurs : List ℕ → Text → ℕ → ℕ → Type 0
+Occurs P T i j = ((i ≡ j) × Some (segment T j) (Inside P)) ⊎ ((i < j) × Across P T i j)
+
+-- P has an occurrence beginning in segment i
+abbrev pub BeginsIn : List ℕ → Text → ℕ → Type 0
+BeginsIn P T i = (j : ℕ) × Occurs P T i j
+
 -- length r of P is carried out of segment j
 abbrev pub CarriedOut : List ℕ → Text → ℕ → ℕ → Type 0
 CarriedOut P T j r =

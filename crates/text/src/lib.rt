@@ -5,5 +5,6 @@ pub mod pattern;
 pub mod refusal;
 pub mod size;
 pub mod state;
+pub mod strand;
 
 pub use refusal::Refusal;

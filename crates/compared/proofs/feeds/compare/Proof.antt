@@ -5,10 +5,10 @@ use Rattle.compared.proofs.feeds.compare.Statement.{statement}
 use Rattle.compared.proofs.feeds.compare.Tie as tie
 
 abbrev Inv-loop : tie.InvT-loop
-Inv-loop p bytes verdict t₀ bits₀ j₀ t bits j = j ≤ verdict .segments
+Inv-loop p given strand bytes verdict t₀ bits₀ j₀ t bits j = j ≤ verdict .segments
 
 abbrev μ-loop : tie.MeasureT-loop
-μ-loop p bytes verdict t₀ bits₀ j₀ t bits j = verdict .segments - j
+μ-loop p given strand bytes verdict t₀ bits₀ j₀ t bits j = verdict .segments - j
 
 pub compare-spec : {M : Type 1} → statement M
 compare-spec =

@@ -9,7 +9,7 @@ use Rattle.lines.proofs.answer.screened.Tie as tie
 array-share-prefix-marks : tie.Need-array-share-prefix-marks
 array-share-prefix-marks c =
     let d = c .before .before .before .before in
-    answered-long _ _ _ _ _ _ (d .by-bits .ensures .0) (d .by-bits .ensures .1) _ _ _ (c .before .segments .given .1)
+    answered-long (d .before .before .before .before .before .before .args .strands) _ _ _ _ _ _ (d .search-on .ensures .0) (d .search-on .ensures .1) _ _ _ (c .before .segments .given .1)
 
 slice-aggregate-put-text : tie.Need-slice-aggregate-put-text
 slice-aggregate-put-text c = simp length-take (omega (arith, array-share-prefix-marks (c .before)))
@@ -19,16 +19,18 @@ returns c =
     let d = c .before .before in
     let w = d .before .before .before in
     let b = w .before .before .before in
-    let l = answered-refused _ _ _ _ _ _ (b .by-bits .ensures .0) (b .by-bits .ensures .1) _ (w .wrong .given .1) in
-    lines-put _ _ _ (b .before .before .before .pattern-in .ensures) (b .before .before .stretch-in .ensures) l (d .put-refusal .ensures)
+    let S = b .before .before .before .before .before .before .args .strands in
+    let l = answered-refused S _ _ _ _ _ _ (b .search-on .ensures .0) (b .search-on .ensures .1) _ (w .wrong .given .1) in
+    lines-put S _ _ _ (b .before .before .before .pattern-in .ensures) (b .before .before .stretch-in .ensures) l (d .put-refusal .ensures)
 
 returns-2 : tie.Need-returns-2
 returns-2 c =
     let d = c .before .before in
     let w = d .before .before .before .before in
     let b = w .before .before .before in
-    let l = answered-marked _ _ _ _ _ _ (b .by-bits .ensures .0) (b .by-bits .ensures .1) _ _ _ (w .segments .given .1) in
-    lines-put _ _ _ (b .before .before .before .pattern-in .ensures) (b .before .before .stretch-in .ensures) l (d .put-text .ensures)
+    let S = b .before .before .before .before .before .before .args .strands in
+    let l = answered-marked S _ _ _ _ _ _ (b .search-on .ensures .0) (b .search-on .ensures .1) _ _ _ (w .segments .given .1) in
+    lines-put S _ _ _ (b .before .before .before .pattern-in .ensures) (b .before .before .stretch-in .ensures) l (d .put-text .ensures)
 
 pub screened-spec : {M : Type 1} → statement M
 screened-spec =

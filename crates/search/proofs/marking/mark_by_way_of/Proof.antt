@@ -1,28 +1,40 @@
--- `search::marking::mark_by_way_of` meets its contract: what `run_stretch` tells of the stretch, and what `copy` does with the marks it found.
-use native.Mathlib.Omega.{arith}
-use mathlib.Core.Path.{sym, ap, _∙_}
-use lib.ListN.{length-take}
-use Rattle.search.specs.Answers.{toldSought}
-use Rattle.search.proofs.Searches.{into-not, into-short, into-marked, few-found}
+-- `search::marking::mark_by_way_of` meets its contract: what `run_stretch` tells of the stretch, and what is handed over of the marks it found.
 use borrow.Author.Needs.{needs}
+use Prim.Native.Nat.{ℕ}
+use mathlib.Core.Path.{_≡_, sym, ap, _∙_}
+use mathlib.Core.List.{List}
+use Rattle.text.specs.Refusal.{ok, after}
+use Rattle.text.proofs.Marks.{marks-length}
+use Rattle.stretch.specs.Reading.{stretchOf}
+use Rattle.search.specs.Answers.{seenFrom, toldSought}
+use Rattle.search.proofs.Markings.{into-not, into-short, into-marked, few-found}
+use Rattle.search.proofs.Searches.{seen-segments}
 use Rattle.search.proofs.marking.mark_by_way_of.Statement.{statement}
 use Rattle.search.proofs.marking.mark_by_way_of.Tie as tie
 
+-- the caller's buffer
+abbrev out : tie.After-segments → List ℕ
+out a = a .before .before .before .before .before .before .before .before .before .before .before .before .args .marks .now
+
+-- what the run told
+told : (a : tie.After-segments)
+    → let p = a .before .before .before .before .before .before .before .before .before .before .before .before .args in
+    after (stretchOf (p .stretch .now)) (λ t. ok (seenFrom (p .pattern .now) (p .state .bits) t))
+    ≡ ok (record { segments = a .segments .given .0 .0; size = a .segments .given .0 .1 .0; ends = a .segments .given .0 .1 .1 .0; state = a .segments .given .0 .1 .1 .1 .0 .bits })
+told a = sym (a .before .before .before .before .run-stretch .ensures .0) ∙ ap toldSought (a .segments .given .1)
+
+handed-requires : tie.Need-handed-requires
+handed-requires c κs =
+    let a = c .before .before .before in
+    let d = a .before .before .before .before in
+    few-found _ _ (out a) _ _ _ (told a) (seen-segments _ _ _) _ (d .run-stretch .ensures .1) (marks-length _ _)
+
 returns : tie.Need-returns
 returns c =
-    let d = c .before .before .before .before .before .before in
-    into-short _ _ _ _ _ _ _ _ (sym (d .run-stretch .ensures .0) ∙ ap toldSought (c .before .before .segments .given .1)) (c .if1 .taken)
-
-slice-reshare-prefix-copy : tie.Need-slice-reshare-prefix-copy
-slice-reshare-prefix-copy c =
-    let d = c .before .before .before .before .before .before in
-    few-found _ _ _ _ _ _ _ _ (sym (d .run-stretch .ensures .0) ∙ ap toldSought (c .before .before .segments .given .1)) (d .run-stretch .ensures .1)
-
-slice-aggregate-copy : tie.Need-slice-aggregate-copy
-slice-aggregate-copy c = simp length-take (omega (arith, slice-reshare-prefix-copy (c .before)))
-
-copy-requires : tie.Need-copy-requires
-copy-requires c κs = simp length-take (omega arith)
+    let h = c .before .before .before in
+    let a = h .before .before .before .before in
+    let d = a .before .before .before .before in
+    into-short _ _ (out a) _ _ _ (told a) (seen-segments _ _ _) _ (d .run-stretch .ensures .1) _ (h .handed .ensures .1) _ (h .handed .ensures .0) (c .if1 .taken)
 
 returns-2 : tie.Need-returns-2
 returns-2 c =
@@ -31,10 +43,10 @@ returns-2 c =
 
 returns-3 : tie.Need-returns-3
 returns-3 c =
-    let f = c .before .before in
-    let a = f .before .before .before .before .before in
+    let h = c .before .before .before in
+    let a = h .before .before .before .before in
     let d = a .before .before .before .before in
-    into-marked _ _ _ _ _ _ _ _ (sym (d .run-stretch .ensures .0) ∙ ap toldSought (a .segments .given .1)) _ _ (search needs) (d .run-stretch .ensures .1) (f .copy .ensures)
+    into-marked _ _ (out a) _ _ _ (told a) (seen-segments _ _ _) _ (d .run-stretch .ensures .1) _ (h .handed .ensures .1) _ (h .handed .ensures .0) (c .if1 .left)
 
 pub mark-by-way-of-spec : {M : Type 1} → statement M
 mark-by-way-of-spec =
@@ -44,11 +56,10 @@ mark-by-way-of-spec =
     (λ c κs. search needs)
     (λ c. search needs)
     (λ c. search needs)
+    handed-requires
+    (λ c. search needs)
     (λ c. search needs)
     returns
-    slice-reshare-prefix-copy
-    slice-aggregate-copy
-    copy-requires
     (λ c. search needs)
     returns-2
     (λ c. search needs)

@@ -26,7 +26,7 @@ over-requires : tie.Need-over-requires Inv-loop μ-loop
 over-requires c κs =
     let a = c .before in
     let p = a .before .before .before .before .pre .0 in
-    (p .0, searching-state _ _ _ _ _ _ _ _ _ _ (a .loop .inv .0) (p .0 .founded .some) (p .1))
+    (p .0, searching-state (a .loop .inv .0) (p .0 .founded .some) (p .1))
 
 same-length : tie.Need-same-length Inv-loop μ-loop
 same-length c = c .before .before .before .before .before .loop .inv .2
@@ -35,7 +35,7 @@ returns : tie.Need-returns Inv-loop μ-loop
 returns c =
     let d = c .before .before .before in
     let wrong = sym (d .over .ensures) ∙ ap toldPassed (c .before .refused .given .1) in
-    let told = searching-refused _ _ _ _ _ _ _ _ _ _ (d .before .before .loop .inv .0) _ (d .before .loop-test .taken) _ _ wrong in
+    let told = searching-refused (d .before .before .loop .inv .0) _ (d .before .loop-test .taken) _ _ wrong in
     (told .0, told .1)
 
 slice-write-marks : tie.Need-slice-write-marks Inv-loop μ-loop
@@ -43,7 +43,7 @@ slice-write-marks c =
     let d = c .before .before .before in
     let a = d .before .before in
     let on = sym (d .over .ensures) ∙ ap toldPassed (c .before .behind .given .1) in
-    searching-room _ _ _ _ _ _ _ _ _ _ (a .loop .inv .0) _ _ _ _ on _ (d .before .loop-test .taken) (roomy a)
+    searching-room (a .loop .inv .0) on _ (d .before .loop-test .taken) (roomy a)
   where
     -- the buffer has a byte for each segment
     roomy : (a : tie.At-loop Inv-loop μ-loop)
@@ -57,16 +57,16 @@ loop-again c =
     let a = d .before .before in
     let on = sym (d .over .ensures) ∙ ap toldPassed (c .before .behind .given .1) in
     let mark = byte-mark (c .before .behind .given .0 .1 .1 .1 .0) in (
-      searching-more _ _ _ _ _ _ _ _ _ _ (a .loop .inv .0) _ _ _ _ on _ mark (slice-write-marks c),
+      searching-more (a .loop .inv .0) on _ mark (slice-write-marks c),
       omega arith,
       length-set (a .loop .marks) (a .loop .k) _ ∙ a .loop .inv .2,
     )
 
 add-size : tie.Need-add-size Inv-loop μ-loop
-add-size c = let m = loop-again c .0 .sum in omega (arith, m .small, m .inside)
+add-size c = let m = loop-again c .0 .walk .sum in omega (arith, m .small, m .inside)
 
 add-ends : tie.Need-add-ends Inv-loop μ-loop
-add-ends c = let m = loop-again c .0 in omega (arith, m .few)
+add-ends c = let m = loop-again c .0 .walk in omega (arith, m .few)
 
 same-length-2 : tie.Need-same-length-2 Inv-loop μ-loop
 same-length-2 c = c .before .loop .inv .2
@@ -74,7 +74,7 @@ same-length-2 c = c .before .loop .inv .2
 returns-2 : tie.Need-returns-2 Inv-loop μ-loop
 returns-2 c =
     let a = c .before in
-    let told = searching-ran _ _ _ _ _ _ _ _ _ _ (a .loop .inv .0) (a .before .before .before .before .args .segments) (omega arith) in
+    let told = searching-ran (a .loop .inv .0) (a .before .before .before .before .args .segments) (omega arith) in
     (told .0, told .1)
 
 pub run-spec : {M : Type 1} → statement M

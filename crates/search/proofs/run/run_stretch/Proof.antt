@@ -4,14 +4,15 @@ use native.Mathlib.Omega.{arith}
 use mathlib.Core.Path.{sym, ap, _∙_}
 use Rattle.stretch.proofs.Frames.{frame-refused-open, frame-opens, frame-refused-inside, frame-refused-closed, frame-count, frame-sound}
 use Rattle.search.specs.Answers.{toldRan}
-use Rattle.search.proofs.Searches.{told-not, marks-not, run-not, run-met, told-seen, marks-all}
+use Rattle.search.proofs.Markings.{marks-not, marks-all}
+use Rattle.search.proofs.Searches.{told-not, run-not, run-met, told-seen}
 use Rattle.search.proofs.run.run_stretch.Statement.{statement}
 use Rattle.search.proofs.run.run_stretch.Tie as tie
 
 returns : tie.Need-returns
 returns c =
     let none = frame-refused-open _ (c .before .before .before .«open» .ensures) (c .before .wrong .given .1) in
-    (sym (told-not _ _ _ _ _ none), marks-not _ _ _ _ _ _ none)
+    (sym (told-not _ _ _ _ _ none), marks-not _ _ _ _ _ none)
 
 run-requires : tie.Need-run-requires
 run-requires c κs =
@@ -26,7 +27,7 @@ returns-2 c =
     let n = r .before .before .before in
     let wrong = run-not _ _ _ _ _ _ _ (sym (r .run .ensures .0) ∙ ap toldRan (c .before .wrong2 .given .1)) in
     let none = frame-refused-inside _ (n .before .before .«open» .ensures) (n .segments .given .1) wrong in
-    (sym (told-not _ _ _ _ _ none), marks-not _ _ _ _ _ _ none)
+    (sym (told-not _ _ _ _ _ none), marks-not _ _ _ _ _ none)
 
 returns-3 : tie.Need-returns-3
 returns-3 c =
@@ -37,7 +38,7 @@ returns-3 c =
     let met = run-met _ _ _ _ _ _ _ _ _ (sym (r .run .ensures .0) ∙ ap toldRan (m .next .given .1)) in
     let told = n .before .before .«open» .ensures in
     let none = frame-refused-closed _ told (n .segments .given .1) (met .1) (d .closed .ensures) (c .before .wrong3 .given .1) in
-    (sym (told-not _ _ _ _ _ none), marks-not _ _ _ _ _ _ none)
+    (sym (told-not _ _ _ _ _ none), marks-not _ _ _ _ _ none)
 
 returns-4 : tie.Need-returns-4
 returns-4 c =
@@ -49,7 +50,7 @@ returns-4 c =
     let told = n .before .before .«open» .ensures in
     let sound = frame-sound _ told (n .segments .given .1) (met .1) (d .closed .ensures) (c .enum-told .given .1) in
     let count = frame-count _ told (n .segments .given .1) (met .1) in
-    (sym (told-seen _ _ _ _ sound _ _ _ _ count (met .2)), marks-all _ _ _ _ sound _ _ _ _ _ (met .1) (r .run .ensures .1))
+    (sym (told-seen _ _ _ _ sound _ _ _ _ count (met .2)), marks-all _ _ _ sound _ _ _ _ _ (met .1) (r .run .ensures .1))
 
 pub run-stretch-spec : {M : Type 1} → statement M
 run-stretch-spec =

@@ -7,7 +7,7 @@ use Rattle.search.proofs.searching.by_bits.Tie as tie
 returns : tie.Need-returns
 returns c =
     let a = c .before .before .before .before .before .before .before .before .args in
-    fresh-marked (a .pattern .now) (a .stretch .now) (a .marks .now) _ _ _ (c .before .before .before .through .ensures) (c .summed .ensures)
+    fresh-marked (a .pattern .now) _ (a .stretch .now) (a .marks .now) _ _ _ (c .before .before .before .through .ensures) (c .summed .ensures)
 
 pub by-bits-spec : {M : Type 1} → statement M
 by-bits-spec = tie.close (tie.spec (λ c κs. search needs) (λ c κs. search needs) (λ c. search needs) returns)

@@ -1,9 +1,10 @@
--- `search::State::through` meets its contract: what `enter` asks first, then what `mark` answers.
+-- `search::State::through` meets its contract: what `enter` asks first, then what `mark` answers of the pattern as the strand reads it.
 use borrow.Author.Needs.{needs}
 use mathlib.Core.Path.{sym, ap, _∙_}
 use Rattle.search.specs.Answers.{toldEntry}
-use Rattle.search.proofs.Entries.{Entered, entered, state-of}
+use Rattle.search.proofs.Entries.{Entered, entered}
 use Rattle.search.proofs.BitScans.{masks-short}
+use Rattle.search.proofs.ReadOns.{read-is, read-length, read-room, read-sound, read-state}
 use Rattle.search.proofs.Searches.{seek-not, seek-sound}
 use Rattle.search.proofs.state.State.through.Statement.{statement}
 use Rattle.search.proofs.state.State.through.Tie as tie
@@ -12,19 +13,31 @@ use Rattle.search.proofs.state.State.through.Tie as tie
 entry : (c : tie.After-enum-told) → let a = c .before .before .before .before .before .before .args in Entered (a .pattern .now) (a .self .bits) (a .stretch .now)
 entry c = entered _ _ _ (sym (c .before .before .enter .ensures) ∙ ap toldEntry (c .enum-told .given .1))
 
+array-share-prefix-bytes : tie.Need-array-share-prefix-bytes
+array-share-prefix-bytes c = read-room _ _ _ (c .read-on .ensures) (entry (c .before) .sound)
+
+slice-aggregate-read : tie.Need-slice-aggregate-read
+slice-aggregate-read c = read-length _ _ _ (c .before .read-on .ensures) (entry (c .before .before) .sound)
+
 mark-requires : tie.Need-mark-requires
 mark-requires c κs =
     let d = c .before .before in
-    let y = entry (d .before) in
-    (record { some = y .sound .some; short = y .sound .short; holds = masks-short _ _ (y .sound .short) (d .masks .ensures) }, state-of _ _ (y .state))
+    let r = d .before .before in
+    let y = entry (r .before) in
+    let z = read-sound _ _ _ (r .read-on .ensures) (y .sound) in (
+      record { some = z .some; short = z .short; holds = masks-short _ _ (z .short) (d .masks .ensures) },
+      read-state _ _ _ (r .read-on .ensures) (y .sound) _ (y .state),
+    )
 
 returns : tie.Need-returns
-returns c = seek-not _ _ _ _ _ _ (sym (c .before .before .before .enter .ensures) ∙ ap toldEntry (c .before .refused .given .1))
+returns c = seek-not _ _ _ _ _ _ _ (sym (c .before .before .before .enter .ensures) ∙ ap toldEntry (c .before .refused .given .1))
 
 returns-2 : tie.Need-returns-2
 returns-2 c =
     let d = c .before .before in
-    seek-sound _ _ _ (c .before .before .before .before .before .before .before .before .before .before .before .before .args .marks .now) (entry (d .before .before .before .before)) _ _ (d .mark .ensures)
+    let r = d .before .before .before .before .before in
+    let y = entry (r .before) in
+    seek-sound _ _ _ _ (c .before .before .before .before .before .before .before .before .before .before .before .before .before .before .args .marks .now) y _ (read-is _ _ _ (r .read-on .ensures) (y .sound)) _ _ (d .mark .ensures)
 
 pub through-spec : {M : Type 1} → statement M
 through-spec =
@@ -33,6 +46,9 @@ through-spec =
     (λ c κs. search needs)
     (λ c. search needs)
     (λ c. search needs)
+    (λ c κs. search needs)
+    array-share-prefix-bytes
+    slice-aggregate-read
     (λ c κs. search needs)
     mark-requires
     returns

@@ -1,0 +1,110 @@
+// The run over segments that stand one after another, on both strands at once: a segment is marked when an occurrence ends in it on
+// either.
+use crate::both::segment::PassedBoth;
+use crate::both::words::Pair;
+use crate::searching::Searched;
+use stretch::pieces::Opened;
+use stretch::pieces::Verdict;
+use stretch::pieces::closed;
+use stretch::pieces::open;
+use text::Refusal;
+ghost use mathlib.Core.Path.{_≡_};
+ghost use mathlib.Core.List.{[]};
+ghost use Prim.Native.Nat.{_≤_};
+ghost use lib.ListN.{length};
+ghost use Rattle.text.specs.Refusal.{ok, after};
+ghost use Rattle.text.specs.Strand.{opposite};
+ghost use Rattle.stretch.specs.Reading.{segmentAt, many, stretchOf};
+ghost use Rattle.search.specs.Answers.{toldSearched, MarksFrom, RoomyFrom, MarksOf, Roomy};
+ghost use Rattle.search.specs.Either.{evens, odds, Vectors, eitherMarks, eitherSums, eitherCourse, toldRanBoth};
+
+// The place behind the segments, their size, and the number of ones among their marks.
+pub enum RanBoth {
+    To {
+        next: usize,
+        size: usize,
+        ends: usize,
+    },
+    Refused(Refusal),
+}
+
+// Goes from the fresh states over so many segments from `at` on, and puts their marks into `marks`. A refusal may leave some there.
+fn run_both(
+    pattern: &[u8],
+    table: &[u64; 512],
+    classes: &[u8; 256],
+    stretch: &[u8],
+    at: usize,
+    segments: usize,
+    marks: &mut [u8],
+) -> RanBoth
+    requires { ⌜ Vectors (now pattern) (evens (now table)) (now classes) × Vectors (opposite (now pattern)) (odds (now table)) (now classes) ⌝ }
+    requires { ⌜ (at ≤ length (now stretch)) × RoomyFrom (now stretch) at segments (now marks) ⌝ }
+    ensures { λ r. ⌜ toldRanBoth r
+        ≡ after (many (λ _. segmentAt (now (stretch .entry))) segments [] at) (λ x. ok (eitherCourse (now (pattern .entry)) x)) ⌝ }
+    ensures { λ r. ⌜ MarksFrom (eitherMarks (now (pattern .entry)))
+        (many (λ _. segmentAt (now (stretch .entry))) segments [] at) (now (marks .exit)) ⌝ }
+{
+    let mut next = at;
+    let mut size = 0;
+    let mut ends = 0;
+    let mut reached = Pair::FRESH;
+    let mut k = 0;
+    while k < segments {
+        match reached.over(pattern, table, classes, stretch, next) {
+            PassedBoth::Refused(refused) => {
+                return RanBoth::Refused(refused);
+            }
+            PassedBoth::To {
+                next: behind,
+                size: more,
+                state: further,
+                given,
+                opposite,
+            } => {
+                let hit = given | opposite;
+                let mark = hit as u8;
+                marks[k] = mark;
+                size += more;
+                ends += hit as usize;
+                reached = further;
+                next = behind;
+                k += 1;
+            }
+        }
+    }
+    RanBoth::To { next, size, ends }
+}
+
+// Goes over a whole stretch: its count, its segments, and what may be wrong behind them. A refusal may leave some marks in `marks`, so
+// they are not the caller's yet.
+pub fn stretch_both(
+    pattern: &[u8],
+    table: &[u64; 512],
+    classes: &[u8; 256],
+    stretch: &[u8],
+    marks: &mut [u8],
+) -> Searched
+    requires { ⌜ Vectors (now pattern) (evens (now table)) (now classes) × Vectors (opposite (now pattern)) (odds (now table)) (now classes) ⌝ }
+    requires { ⌜ Roomy (now stretch) (now marks) ⌝ }
+    ensures { λ r. ⌜ toldSearched r ≡ after (stretchOf (now (stretch .entry))) (λ t. ok (eitherSums (now (pattern .entry)) t)) ⌝ }
+    ensures { λ r. ⌜ MarksOf (eitherMarks (now (pattern .entry))) (stretchOf (now (stretch .entry))) (now (marks .exit)) ⌝ }
+{
+    let segments = match open(stretch) {
+        Opened::Refused(wrong) => {
+            return Searched::Refused(wrong);
+        }
+        Opened::Segments(segments) => segments,
+    };
+    match run_both(pattern, table, classes, stretch, 2, segments, &mut *marks) {
+        RanBoth::Refused(wrong) => Searched::Refused(wrong),
+        RanBoth::To { next, size, ends } => match closed(stretch, next, segments) {
+            Verdict::Refused(wrong) => Searched::Refused(wrong),
+            Verdict::Sound => Searched::Marked {
+                segments,
+                size,
+                ends,
+            },
+        },
+    }
+}
