@@ -13,7 +13,7 @@ use lib.ListN.{length, take, drop, getD, drop-of-length-le}
 use lib.Seq.{drop-cons, length-take-le}
 use Rattle.text.specs.Letter.{base, every}
 use Rattle.text.specs.Compare.{same}
-use Rattle.text.specs.Bits.{bit}
+use Rattle.text.specs.Bits.{bit, low}
 use Rattle.text.specs.Refusal.{ok, refused, pattern}
 use Rattle.text.specs.Card.{none, mostSegments, dead, padded, isRow, areRows, wellFormed}
 use Rattle.text.proofs.Truth.{and-true, and-false, not-true-false}
@@ -21,6 +21,7 @@ use Rattle.text.proofs.Tests.{and-test, lt-test, le-test, same-test}
 use Rattle.text.proofs.Outcomes.{refused-ok}
 use Rattle.text.proofs.Patterns.{SoundPattern, sound-pattern}
 use Rattle.text.proofs.Bits.{bit-first}
+use Rattle.text.proofs.States.{within-low}
 use Rattle.card.specs.declared.cards.Card.{Card as Held}
 use Rattle.card.specs.Cards.{cardIn, rowOf, rowsIn, Full, isPadded}
 use Rattle.card.proofs.Held.{rows-length, rows-row}
@@ -75,6 +76,13 @@ module _ (m n q exit first : ℕ) where
 
         pub row-ends : (first ≡ none → ⊥) → ltb first n ≡ isRow m n q (rowOf exit first)
         row-ends f = sym (as-tested ∙ rw (eq-eqb (exit % 2) fresh even, small, ne-eqb first none f))
+
+-- a number of 64 bits with a bit from m up, and one without, told by the lowest m bits
+pub above-low : (m all exit : ℕ) → all ≡ low m → exit < 2 ^ 64 → all < exit → ltb exit (2 ^ m) ≡ false
+above-low m all exit e small l = sym (within-low m exit small) ∙ lt-leb exit (low m) (rw⁻¹ e l)
+
+pub below-low : (m all exit : ℕ) → all ≡ low m → exit < 2 ^ 64 → exit ≤ all → ltb exit (2 ^ m) ≡ true
+below-low m all exit e small l = sym (within-low m exit small) ∙ le-leb exit (low m) (rw⁻¹ e l)
 
 -- the rows below q are as they should be, and what is left to test is what stands from q on
 pub record Tested (m n : ℕ) (es fs : List ℕ) (q : ℕ) : Type 0 where

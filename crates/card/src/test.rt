@@ -4,10 +4,11 @@ use crate::made::padded;
 use text::compare::same;
 use text::pattern::PatternIs;
 use text::pattern::check;
-use text::state::within;
+use text::state::low;
 ghost use mathlib.Core.Path.{_≡_};
 ghost use Prim.Native.Nat.{_≤_};
 ghost use lib.ListN.{length};
+ghost use Rattle.text.specs.Bits.{low};
 ghost use Rattle.text.specs.Card.{isRow, areRows, wellFormed, samePattern};
 ghost use Rattle.card.specs.Cards.{cardIn, rowOf, rowsIn, isPadded, Full};
 
@@ -26,8 +27,9 @@ fn is_padded(bytes: &[u8], m: usize) -> bool
     }
 }
 
-// Whether row q of a card of m bases and so many segments is as document 01 says.
-fn is_row(m: usize, segments: u32, q: usize, exit: u64, first: u32) -> bool
+// Whether row q of a card of m bases and so many segments is as document 01 says; `all` has the lowest m bits set.
+fn is_row(m: usize, all: u64, segments: u32, q: usize, exit: u64, first: u32) -> bool
+    requires { ⌜ all ≡ low m ⌝ }
     ensures { λ r. ⌜ r ≡ isRow m segments q (rowOf exit first) ⌝ }
 {
     if m <= q {
@@ -40,7 +42,7 @@ fn is_row(m: usize, segments: u32, q: usize, exit: u64, first: u32) -> bool
     if exit % 2 != fresh {
         return false;
     }
-    if !within(m, exit) {
+    if all < exit {
         return false;
     }
     if first == Card::NONE {
@@ -54,11 +56,12 @@ fn are_rows(m: usize, segments: u32, exits: &[u64], firsts: &[u32]) -> bool
     requires { ⌜ Full (now exits) (now firsts) ⌝ }
     ensures { λ r. ⌜ r ≡ areRows m segments 0 (rowsIn (now (exits .entry)) (now (firsts .entry))) ⌝ }
 {
+    let all = low(m);
     let mut q = 0;
     while q < Card::GREATEST_PATTERN {
         let exit = exits[q];
         let first = firsts[q];
-        if !is_row(m, segments, q, exit, first) {
+        if !is_row(m, all, segments, q, exit, first) {
             return false;
         }
         q += 1;

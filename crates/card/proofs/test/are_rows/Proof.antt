@@ -9,10 +9,10 @@ use Rattle.card.proofs.test.are_rows.Statement.{statement}
 use Rattle.card.proofs.test.are_rows.Tie as tie
 
 abbrev Inv-loop : tie.InvT-loop
-Inv-loop m segments exits firsts q₀ q = Tested m segments exits firsts q
+Inv-loop m segments exits firsts all q₀ q = Tested m segments exits firsts q
 
 abbrev μ-loop : tie.MeasureT-loop
-μ-loop m segments exits firsts q₀ q = 64 - q
+μ-loop m segments exits firsts all q₀ q = 64 - q
 
 loop-holds : tie.Need-loop-holds Inv-loop μ-loop
 loop-holds c = tested-none _ _ _ _
@@ -25,7 +25,7 @@ returns : tie.Need-returns Inv-loop μ-loop
 returns c =
     let r = c .before in
     let d = r .before .before .before in
-    let full = d .before .before .before .before .pre in
+    let full = d .before .before .before .before .before .pre in
     let wrong = failed (r .is-row .ensures) (c .if1 .taken) in
     tested-stop _ _ _ _ full _ (d .before .loop .inv) (inside d) wrong
 
@@ -33,12 +33,12 @@ loop-again : tie.Need-loop-again Inv-loop μ-loop
 loop-again c =
     let r = c .before in
     let d = r .before .before .before in
-    let full = d .before .before .before .before .pre in
+    let full = d .before .before .before .before .before .pre in
     let right = passed (r .is-row .ensures) (c .if1 .left) in
     tested-more _ _ _ _ full _ (d .before .loop .inv) (inside d) right
 
 returns-2 : tie.Need-returns-2 Inv-loop μ-loop
-returns-2 c = tested-all _ _ _ _ (c .before .before .before .before .pre) _ (c .before .loop .inv) (c .loop-test .left)
+returns-2 c = tested-all _ _ _ _ (c .before .before .before .before .before .pre) _ (c .before .loop .inv) (c .loop-test .left)
 
 pub are-rows-spec : {M : Type 1} → statement M
 are-rows-spec =
@@ -46,6 +46,7 @@ are-rows-spec =
     (tie.spec
     Inv-loop
     μ-loop
+    (λ c κs. search needs)
     loop-holds
     (λ c. search needs)
     (λ c. search needs)

@@ -1,9 +1,11 @@
 -- `card::test::is_row` meets its contract: each answer is a law of `isRow`, from the tests that led to it.
 use borrow.Author.Needs.{needs}
+use Prim.Native.Nat.{_^_}
 use mathlib.Core.Path.{_≡_}
+use mathlib.Core.Bool.{true}
 use mathlib.Core.Logic.{⊎-elim}
-use Rattle.card.proofs.Tests.{passed, failed}
-use Rattle.card.proofs.Formed.{freshOf, fresh-first, fresh-other, row-leaves, row-rests, row-stale, row-wide, row-none, row-ends}
+use lib.Dec.{ltb}
+use Rattle.card.proofs.Formed.{freshOf, fresh-first, fresh-other, row-leaves, row-rests, row-stale, row-wide, row-none, row-ends, above-low, below-low}
 use Rattle.card.proofs.test.is_row.Statement.{statement}
 use Rattle.card.proofs.test.is_row.Tie as tie
 
@@ -20,27 +22,30 @@ fresh c = ⊎-elim (λ w. fresh-first _ _ (w .0 .taken) (w .1)) (λ w. fresh-oth
 returns-3 : tie.Need-returns-3
 returns-3 c = row-stale _ _ _ _ _ (c .before .before .if1 .left) _ (fresh (c .before)) (c .if4 .taken)
 
+-- no bit from m up, where that was asked
+small : (c : tie.Else5) → ltb (c .before .before .before .before .args .exit) (2 ^ c .before .before .before .before .args .m) ≡ true
+small c =
+    let s = c .before .before .before .before in
+    below-low _ _ _ (s .pre) (search needs) (c .if5 .left)
+
 returns-4 : tie.Need-returns-4
 returns-4 c =
-    let w = c .before in
-    let f = w .before .before in
-    let wide = failed (w .within .ensures) (c .if5 .taken) in
-    row-wide _ _ _ _ _ (f .before .if1 .left) _ (fresh f) (w .before .if4 .left) wide
+    let f = c .before .before in
+    let s = f .before .before in
+    let wide = above-low _ _ _ (s .pre) (search needs) (c .if5 .taken) in
+    row-wide _ _ _ _ _ (f .before .if1 .left) _ (fresh f) (c .before .if4 .left) wide
 
 returns-5 : tie.Need-returns-5
 returns-5 c =
     let w = c .before .before in
-    let f = w .before .before in
-    let small = passed (w .within .ensures) (c .before .if5 .left) in
-    row-none _ _ _ _ _ (f .before .if1 .left) _ (fresh f) (w .before .if4 .left) small (c .if6 .taken)
+    let f = w .before in
+    row-none _ _ _ _ _ (f .before .if1 .left) _ (fresh f) (w .if4 .left) (small (c .before)) (c .if6 .taken)
 
 returns-6 : tie.Need-returns-6
 returns-6 c =
     let w = c .before .before in
-    let f = w .before .before in
-    let small = passed (w .within .ensures) (c .before .if5 .left) in
-    row-ends _ _ _ _ _ (f .before .if1 .left) _ (fresh f) (w .before .if4 .left) small (c .if6 .left)
+    let f = w .before in
+    row-ends _ _ _ _ _ (f .before .if1 .left) _ (fresh f) (w .if4 .left) (small (c .before)) (c .if6 .left)
 
 pub is-row-spec : {M : Type 1} → statement M
-is-row-spec =
-    tie.close (tie.spec returns returns-2 returns-3 (λ c κs. search needs) returns-4 returns-5 returns-6)
+is-row-spec = tie.close (tie.spec returns returns-2 returns-3 returns-4 returns-5 returns-6)
