@@ -56,7 +56,7 @@ put-behind d xs ys at e room =
     let fits : 0 + length xs ≤ length d = omega arith in
     ap (λ (k : ℕ). over (over d 0 xs) k ys) place ∙ over-over d 0 xs fits ys
 
--- two numbers, and three
+-- two numbers, three, and four
 pub two-put :
     (d : List ℕ) (a b : ℕ) → 8 ≤ length d → over (over d 0 (lowFirst 8 a)) 8 (lowFirst 8 b) ≡ over d 0 (lowFirst 8 a ++ lowFirst 8 b)
 two-put d a b room = put-behind d (lowFirst 8 a) (lowFirst 8 b) 8 (length-low 8 a) room
@@ -69,3 +69,14 @@ three-put d a b c room =
     let both : List ℕ = lowFirst 8 a ++ lowFirst 8 b in
     let long : length both ≡ 16 = length-append (lowFirst 8 a) (lowFirst 8 b) ∙ rw (length-low 8 a, length-low 8 b) in
     ap (λ (l : List ℕ). over l 16 (lowFirst 8 c)) (two-put d a b first) ∙ put-behind d both (lowFirst 8 c) 16 long room
+
+pub four-put :
+    (d : List ℕ) (a b c e : ℕ) → 24 ≤ length d →
+    over (over (over (over d 0 (lowFirst 8 a)) 8 (lowFirst 8 b)) 16 (lowFirst 8 c)) 24 (lowFirst 8 e)
+    ≡ over d 0 (lowFirst 8 a ++ lowFirst 8 b ++ lowFirst 8 c ++ lowFirst 8 e)
+four-put d a b c e room =
+    let first : 16 ≤ length d = omega arith in
+    let three : List ℕ = lowFirst 8 a ++ lowFirst 8 b ++ lowFirst 8 c in
+    let two : length (lowFirst 8 a ++ lowFirst 8 b) ≡ 16 = length-append (lowFirst 8 a) (lowFirst 8 b) ∙ rw (length-low 8 a, length-low 8 b) in
+    let long : length three ≡ 24 = length-append (lowFirst 8 a ++ lowFirst 8 b) (lowFirst 8 c) ∙ rw (two, length-low 8 c) in
+    ap (λ (l : List ℕ). over l 24 (lowFirst 8 e)) (three-put d a b c first) ∙ put-behind d three (lowFirst 8 e) 24 long room

@@ -19,8 +19,8 @@ use Rattle.stretch.specs.Bytes.{greatestStretch}
 use Rattle.stretch.specs.Reading.{stretchOf, segmentOf, loneSegment}
 use Rattle.stretch.specs.Answers.{checking}
 use Rattle.stretch.proofs.Refusals.{Low, stretch-low, segment-low}
-use Rattle.search.specs.Answers.{entering, into, stretchInto, searching, feeding}
-use Rattle.cerantuh.specs.Forms.{coded, searchingInto, feedingInto}
+use Rattle.search.specs.Answers.{entering, into, stretchInto, searching, seeking, feeding}
+use Rattle.cerantuh.specs.Forms.{coded, withRoom, searchingInto, seekingInto, feedingInto}
 
 -- such a number and place
 pub record Small (n p : ℕ) : Type 0 where
@@ -55,11 +55,15 @@ low-coded : {A : Type 0} (o : Outcome A) → ((n p : ℕ) → o ≡ refused n p 
 low-coded (ok a) h = tt
 low-coded (refused n p) h = omega (arith, h n p refl)
 
+-- a stretch whose marks go into a buffer
+into-coded : (s : List ℕ) (room : ℕ) → Coded (stretchInto s room)
+unfolding into
+into-coded s room =
+    after-coded (stretchOf s) _ (low-coded (stretchOf s) (stretch-low s)) λ t. demand-coded (leb (length t) room) 10 0 (ok t) (omega arith) (λ _. tt)
+
 pub searching-coded : (P s : List ℕ) (room : ℕ) → Coded (searching P s room)
-unfolding searching into
-searching-coded P s room =
-    pattern-coded P _ (after-coded (stretchOf s) _ (low-coded (stretchOf s) (stretch-low s)) λ t.
-    demand-coded (leb (length t) room) 10 0 (ok t) (omega arith) (λ _. tt))
+unfolding searching
+searching-coded P s room = pattern-coded P _ (into-coded s room)
 
 entering-coded : (P : List ℕ) (st : ℕ) (s : List ℕ) {A : Type 0} (o : Outcome A) → (leb (length s) greatestStretch ≡ true → Coded o) → Coded (entering P st s o)
 unfolding entering
@@ -69,6 +73,10 @@ entering-coded P st s o k =
     demand-coded (isState (length P) st) 17 0 o (omega arith) λ _.
     k fit)
 
+pub seeking-coded : (P : List ℕ) (st : ℕ) (s : List ℕ) (room : ℕ) → Coded (seeking P st s room)
+unfolding seeking
+seeking-coded P st s room = entering-coded P st s _ (λ _. into-coded s room)
+
 feeding-coded : (P : List ℕ) (strand : Strand) (st : ℕ) (s : List ℕ) → Coded (feeding P strand st s)
 unfolding feeding segmentOf
 feeding-coded P strand st s =
@@ -77,18 +85,23 @@ feeding-coded P strand st s =
     after-coded (loneSegment s) _ (subst Coded alone (low-coded (segmentOf s) (segment-low s))) (λ g. tt)
 
 -- with the room of the results asked too
+with-room-coded : {A : Type 0} (bytes block : ℕ) (o : Outcome A) → Coded o → Coded (withRoom bytes block o)
+with-room-coded bytes block o k = after-coded o _ k (λ a. demand-coded (leb bytes block) 10 0 (ok a) (omega arith) (λ _. tt))
+
 pub search-form-coded : (P s : List ℕ) (marks block : ℕ) → Coded (searchingInto P s marks block)
 unfolding searchingInto
-search-form-coded P s marks block =
-    after-coded (searching P s marks) _ (searching-coded P s marks) (λ t. demand-coded (leb 24 block) 10 0 (ok t) (omega arith) (λ _. tt))
+search-form-coded P s marks block = with-room-coded 24 block (searching P s marks) (searching-coded P s marks)
+
+pub from-form-coded : (P : List ℕ) (st : ℕ) (s : List ℕ) (marks block : ℕ) → Coded (seekingInto P st s marks block)
+unfolding seekingInto
+from-form-coded P st s marks block = with-room-coded 32 block (seeking P st s marks) (seeking-coded P st s marks)
 
 pub feed-form-coded : (P : List ℕ) (strand : Strand) (st : ℕ) (s : List ℕ) (block : ℕ) → Coded (feedingInto P strand st s block)
 unfolding feedingInto
-feed-form-coded P strand st s block =
-    after-coded (feeding P strand st s) _ (feeding-coded P strand st s) (λ x. demand-coded (leb 16 block) 10 0 (ok x) (omega arith) (λ _. tt))
+feed-form-coded P strand st s block = with-room-coded 16 block (feeding P strand st s) (feeding-coded P strand st s)
 
 -- so is each
-refused-small : {A : Type 0} (o : Outcome A) (n p : ℕ) → Coded o → o ≡ refused n p → Small n p
+pub refused-small : {A : Type 0} (o : Outcome A) (n p : ℕ) → Coded o → o ≡ refused n p → Small n p
 refused-small o n p k e = subst Coded e k
 
 pub pattern-small : (P : List ℕ) (n p : ℕ) → pattern P (ok (tt {0})) ≡ refused n p → Small n p

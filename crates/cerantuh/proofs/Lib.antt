@@ -4,4 +4,5 @@ pub mod Codes
 pub mod Rooms
 pub mod SearchForms
 pub mod FeedForms
+pub mod FromForms
 pub mod Theorems

@@ -13,8 +13,9 @@ use Rattle.text.proofs.Outcomes.{told-met, told-refused}
 use Rattle.text.proofs.Patterns.{pattern-after, pattern-refused, pattern-sound, sound-pattern}
 use Rattle.stretch.specs.Reading.{stretchOf}
 use Rattle.stretch.specs.Answers.{Sum, checking, leftBy}
-use Rattle.search.specs.Answers.{Next, into, searching, feeding}
-use Rattle.cerantuh.specs.Forms.{coded, searchingInto, feedingInto}
+use Rattle.search.specs.Answers.{Next, entering, into, searching, seeking, feeding}
+use Rattle.search.proofs.Entries.{entering-after}
+use Rattle.cerantuh.specs.Forms.{coded, withRoom, searchingInto, seekingInto, feedingInto}
 
 -- a value that is told in other words: the same code, and the same bytes left
 pub told-code : {A B : Type 0} (o : Outcome A) (g : A → B) → coded (after o (λ a. ok (g a))) ≡ coded o
@@ -34,30 +35,56 @@ same (refused n p) = refl
 abbrev pub roomless : Outcome Text
 roomless = refused 10 0
 
+-- with room for the results the call decides; without it 10 comes last
+module _ {A : Type 0} (bytes block : ℕ) (o : Outcome A) where
+  pub room-enough : bytes ≤ block → withRoom bytes block o ≡ o
+  room-enough l = rw (le-leb bytes block l) (same o)
+
+  pub room-short : block < bytes → withRoom bytes block o ≡ after o (λ _. refused 10 0)
+  room-short l = rw (lt-leb bytes block l)
+
+-- what is asked first, x, then a text y, then the room of its marks, then 10
+last-10 : (x : Outcome (Unit {0})) (y : Outcome Text) (marks : ℕ) →
+    after (after x (λ _. into marks y)) (λ _. roomless) ≡ after x (λ _. after y (λ _. roomless))
+unfolding into
+last-10 (ok x) (ok t) marks = asked t (leb (length t) marks)
+  where
+    asked : (t : Text) (b : Bool) → after (demand b 10 0 (ok t)) (λ _. roomless) ≡ roomless
+    asked t true = refl
+    asked t false = refl
+last-10 (ok x) (refused n p) marks = refl
+last-10 (refused n p) y marks = refl
+
+-- nothing is written then
+none-left : (x : Outcome (Unit {0})) (y : Outcome Text) (f : Text → List ℕ) (d : List ℕ) → leftBy f (after x (λ _. after y (λ _. roomless))) d ≡ d
+none-left (ok x) (ok t) f d = refl
+none-left (ok x) (refused n p) f d = refl
+none-left (refused n p) y f d = refl
+
+-- what a form of a search promises of its answer, of the mark buffer and of the block, where o is what it accepts or refuses
+abbrev pub Formed : {B : Type 0} → (Text → List ℕ) → (Text → B) → (B → List ℕ) → Outcome Text → List ℕ → List ℕ → ℕ → List ℕ → List ℕ → Type 0
+Formed f g bytes o marks block r marks′ block′ =
+    (r ≡ coded o) × ((marks′ ≡ leftBy f o marks) × (block′ ≡ leftBy (λ t. bytes (g t)) o block))
+
+-- it holds where the search, its marks and what is told of them are as the search says
+pub formed : {B : Type 0} (f : Text → List ℕ) (g : Text → B) (bytes : B → List ℕ) (o : Outcome Text) (marks block : List ℕ) (told : Outcome B)
+    → told ≡ after o (λ t. ok (g t)) → (r : ℕ) (marks′ block′ : List ℕ) → marks′ ≡ leftBy f o marks → r ≡ coded told
+    → block′ ≡ leftBy bytes told block → Formed f g bytes o marks block r marks′ block′
+formed {B} f g bytes o marks block told e r marks′ block′ wrote is left =
+    (is ∙ ap coded e ∙ told-code o g, (wrote, left ∙ ap (λ (x : Outcome B). leftBy bytes x block) e ∙ told-left o g bytes block))
+
 module _ (P s : List ℕ) (marks block : ℕ) where
-  -- with room for the results, the search decides
   pub search-room : 24 ≤ block → searchingInto P s marks block ≡ searching P s marks
   unfolding searchingInto
-  search-room l = rw (le-leb 24 block l) (same (searching P s marks))
+  search-room l = room-enough 24 block (searching P s marks) l
 
-  -- without it, the pattern is asked, the stretch, then 10
+  -- without room, the pattern is asked, the stretch, then 10
   pub search-short : block < 24 → searchingInto P s marks block ≡ pattern P (after (stretchOf s) (λ _. roomless))
-  unfolding searchingInto searching into
+  unfolding searchingInto searching
   search-short l =
-      rw (lt-leb 24 block l)
-      (ap (λ (o : Outcome Text). after o (λ _. roomless)) (pattern-after P _) ∙ both (pattern P (ok (tt {0}))) (stretchOf s)
-      ∙ sym (pattern-after P _))
-    where
-      asked : (t : Text) (b : Bool) → after (demand b 10 0 (ok t)) (λ _. roomless) ≡ roomless
-      asked t true = refl
-      asked t false = refl
-
-      both :
-          (x : Outcome (Unit {0})) (y : Outcome Text) →
-          after (after x (λ _. after y (λ t. demand (leb (length t) marks) 10 0 (ok t)))) (λ _. roomless) ≡ after x (λ _. after y (λ _. roomless))
-      both (ok x) (ok t) = asked t (leb (length t) marks)
-      both (ok x) (refused n p) = refl
-      both (refused n p) y = refl
+      room-short 24 block (searching P s marks) l ∙ ap (λ (o : Outcome Text). after o (λ _. roomless)) (pattern-after P (into marks (stretchOf s)))
+      ∙ last-10 (pattern P (ok (tt {0}))) (stretchOf s) marks
+      ∙ sym (pattern-after P _)
 
   module _ (l : block < 24) where
     pub short-pattern : (n p : ℕ) → pattern P (ok (tt {0})) ≡ refused n p → searchingInto P s marks block ≡ refused n p
@@ -77,18 +104,31 @@ module _ (P s : List ℕ) (marks block : ℕ) where
 
   -- and nothing is written
   pub left-short : (f : Text → List ℕ) (d : List ℕ) → block < 24 → leftBy f (searchingInto P s marks block) d ≡ d
-  left-short f d l = rw (search-short l, pattern-after P (after (stretchOf s) (λ _. roomless))) (none (pattern P (ok (tt {0}))) (stretchOf s))
-    where
-      none : (x : Outcome (Unit {0})) (y : Outcome Text) → leftBy f (after x (λ _. after y (λ _. roomless))) d ≡ d
-      none (ok x) (ok t) = refl
-      none (ok x) (refused n p) = refl
-      none (refused n p) y = refl
+  left-short f d l =
+      rw (search-short l, pattern-after P (after (stretchOf s) (λ _. roomless))) (none-left (pattern P (ok (tt {0}))) (stretchOf s) f d)
+
+-- the same from a state: 1, 2, 3, 4 and 17 are asked first
+module _ (P : List ℕ) (st : ℕ) (s : List ℕ) (marks block : ℕ) where
+  pub seek-room : 32 ≤ block → seekingInto P st s marks block ≡ seeking P st s marks
+  unfolding seekingInto
+  seek-room l = room-enough 32 block (seeking P st s marks) l
+
+  pub seek-short : block < 32 → seekingInto P st s marks block ≡ entering P st s (after (stretchOf s) (λ _. roomless))
+  unfolding seekingInto seeking
+  seek-short l =
+      room-short 32 block (seeking P st s marks) l ∙ ap (λ (o : Outcome Text). after o (λ _. roomless)) (entering-after P st s (into marks (stretchOf s)))
+      ∙ last-10 (entering P st s (ok (tt {0}))) (stretchOf s) marks
+      ∙ sym (entering-after P st s _)
+
+  pub seek-left : (f : Text → List ℕ) (d : List ℕ) → block < 32 → leftBy f (seekingInto P st s marks block) d ≡ d
+  seek-left f d l =
+      rw (seek-short l, entering-after P st s (after (stretchOf s) (λ _. roomless))) (none-left (entering P st s (ok (tt {0}))) (stretchOf s) f d)
 
 -- the feed decides first; its block is asked last
 module _ (P : List ℕ) (strand : Strand) (st : ℕ) (s : List ℕ) (block : ℕ) where
   pub feed-room : 16 ≤ block → feedingInto P strand st s block ≡ feeding P strand st s
   unfolding feedingInto
-  feed-room l = rw (le-leb 16 block l) (same (feeding P strand st s))
+  feed-room l = room-enough 16 block (feeding P strand st s) l
 
   pub feed-not : (n p : ℕ) → feeding P strand st s ≡ refused n p → feedingInto P strand st s block ≡ refused n p
   unfolding feedingInto

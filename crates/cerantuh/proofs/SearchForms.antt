@@ -12,10 +12,10 @@ use Rattle.stretch.specs.Answers.{leftBy}
 use Rattle.search.specs.Answers.{Sums, searching, toldSearched}
 use Rattle.search.specs.declared.searching.Searched.{Searched}
 use Rattle.search.specs.declared.searching.Searched.the-variants.{Marked}
-use Rattle.cerantuh.specs.Forms.{coded, lowFirst, sumsBlock, searchingInto, searchAnswer, searchMarks, searchBlock}
+use Rattle.cerantuh.specs.Forms.{coded, lowFirst, sumsBlock, searchingInto}
 use Rattle.cerantuh.proofs.Blocks.{three-put}
 use Rattle.cerantuh.proofs.Codes.{searching-coded, coded-fits}
-use Rattle.cerantuh.proofs.Rooms.{told-code, told-left, search-room, search-short, left-short}
+use Rattle.cerantuh.proofs.Rooms.{told-code, Formed, formed, search-room, search-short, left-short}
 
 -- what is told of a search, and left in its block
 abbrev Told : Searched → ℕ → List ℕ → List ℕ → Type 0
@@ -37,8 +37,7 @@ module _ (x : Searched) (d : List ℕ) where
 module _ (f : Text → List ℕ) (g : Text → Sums) (P s marks block : List ℕ) where
   -- what a search form promises of its answer, of the mark buffer and of the block
   abbrev Form : ℕ → List ℕ → List ℕ → Type 0
-  Form r marks′ block′ =
-      (r ≡ searchAnswer P s marks block) × ((marks′ ≡ searchMarks f P s marks block) × (block′ ≡ searchBlock g P s marks block))
+  Form = Formed f g sumsBlock (searchingInto P s (length marks) (length block)) marks block
 
   pub form-short : (r : ℕ) → length block < 24 → r ≡ coded (searchingInto P s 0 0) → Form r marks block
   form-short r l is =
@@ -59,10 +58,5 @@ module _ (f : Text → List ℕ) (g : Text → Sums) (P s marks block : List ℕ
         (r : ℕ) (marks′ block′ : List ℕ) → 24 ≤ length block → marks′ ≡ leftBy f (searching P s (length marks)) marks →
         Told x r block block′ → Form r marks′ block′
     form-room r marks′ block′ l wrote (is, left) =
-        let same = search-room P s (length marks) (length block) l in (
-          is ∙ ap coded told ∙ told-code (searching P s (length marks)) g ∙ sym (ap coded same),
-          (
-            rw same wrote,
-            rw same (left ∙ ap (λ (o : Outcome Sums). leftBy sumsBlock o block) told ∙ told-left (searching P s (length marks)) g sumsBlock block),
-          ),
-        )
+        rw (search-room P s (length marks) (length block) l)
+        (formed f g sumsBlock (searching P s (length marks)) marks block (toldSearched x) told r marks′ block′ wrote is left)

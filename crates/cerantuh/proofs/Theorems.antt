@@ -11,8 +11,8 @@ use Rattle.text.specs.declared.strand.Strand.{Strand}
 use Rattle.text.specs.Text.{Text}
 use Rattle.text.specs.Refusal.{ok, refused}
 use Rattle.search.specs.Answers.{Next}
-use Rattle.cerantuh.specs.Forms.{lowFirst, lowValue, searchingInto, searchAnswer, feedingInto, feedAnswer}
-use Rattle.cerantuh.proofs.Codes.{coded-zero, coded-apart, search-form-coded, feed-form-coded}
+use Rattle.cerantuh.specs.Forms.{lowFirst, lowValue, searchingInto, searchAnswer, seekingInto, fromAnswer, feedingInto, feedAnswer}
+use Rattle.cerantuh.proofs.Codes.{coded-zero, coded-apart, search-form-coded, from-form-coded, feed-form-coded}
 
 -- a search answers 0 exactly when it is accepted
 pub search-zero : (P s marks block : List ℕ) → (searchAnswer P s marks block ≡ 0) ↔ ((t : Text) × (searchingInto P s (length marks) (length block) ≡ ok t))
@@ -23,6 +23,17 @@ pub search-apart : (P s marks block : List ℕ) (n p : ℕ) → searchingInto P 
     → (searchAnswer P s marks block % 256 ≡ n) × (searchAnswer P s marks block / 256 ≡ p)
 search-apart P s marks block n p e =
     coded-apart (searchingInto P s (length marks) (length block)) n p (search-form-coded P s (length marks) (length block)) e
+
+-- the same of a search from a state
+pub from-zero : (P : List ℕ) (st : ℕ) (s marks block : List ℕ)
+    → (fromAnswer P st s marks block ≡ 0) ↔ ((t : Text) × (seekingInto P st s (length marks) (length block) ≡ ok t))
+from-zero P st s marks block =
+    coded-zero (seekingInto P st s (length marks) (length block)) (from-form-coded P st s (length marks) (length block))
+
+pub from-apart : (P : List ℕ) (st : ℕ) (s marks block : List ℕ) (n p : ℕ) → seekingInto P st s (length marks) (length block) ≡ refused n p
+    → (fromAnswer P st s marks block % 256 ≡ n) × (fromAnswer P st s marks block / 256 ≡ p)
+from-apart P st s marks block n p e =
+    coded-apart (seekingInto P st s (length marks) (length block)) n p (from-form-coded P st s (length marks) (length block)) e
 
 -- the same of a feed
 pub feed-zero : (P : List ℕ) (strand : Strand) (st : ℕ) (s block : List ℕ) → (feedAnswer P strand st s block ≡ 0) ↔ ((x : Next) × (feedingInto P strand st s (length block) ≡ ok x))

@@ -6,9 +6,11 @@ use lib.Dec.{leb}
 use lib.ListN.{length}
 use Rattle.text.specs.Text.{Text}
 use Rattle.text.specs.Refusal.{Outcome, ok, refused, demand, after}
+use Rattle.text.specs.State.{marksFrom}
+use Rattle.text.specs.Strand.{onStrand}
 use Rattle.text.specs.declared.strand.Strand.{Strand}
 use Rattle.stretch.specs.Answers.{leftBy}
-use Rattle.search.specs.Answers.{Sums, Next, searching, feeding}
+use Rattle.search.specs.Answers.{Sums, Seen, Next, searching, seeking, seenFrom, feeding}
 
 -- one number answers: the refusal number plus 256 times the place; accepted is 0
 abbrev pub coded : {A : Type 0} → Outcome A → ℕ
@@ -29,13 +31,21 @@ lowValue (b ∷ l) = b + 256 * lowValue l
 unfoldable pub sumsBlock : Sums → List ℕ
 sumsBlock x = lowFirst 8 (x .segments) ++ lowFirst 8 (x .size) ++ lowFirst 8 (x .ends)
 
+-- the block of a search from a state: segment count, size, number of ones, and the state behind the stretch
+unfoldable pub seenBlock : Seen → List ℕ
+seenBlock x = lowFirst 8 (x .segments) ++ lowFirst 8 (x .size) ++ lowFirst 8 (x .ends) ++ lowFirst 8 (x .state)
+
 -- the block of a feed: the next state, and 1 where an occurrence ends
 unfoldable pub nextBlock : Next → List ℕ
 nextBlock x = lowFirst 8 (x .state) ++ lowFirst 8 (cond (x .ends) 1 0)
 
+-- what a form asks last: that its results, of so many bytes, have room in the block; 10
+abbrev pub withRoom : {A : Type 0} → ℕ → ℕ → Outcome A → Outcome A
+withRoom bytes block o = after o λ a. demand (leb bytes block) 10 0 (ok a)
+
 -- a search with a mark buffer and a result block of so many bytes: 10 also where the block is too short
 unfoldable pub searchingInto : List ℕ → List ℕ → ℕ → ℕ → Outcome Text
-searchingInto P s marks block = after (searching P s marks) λ t. demand (leb 24 block) 10 0 (ok t)
+searchingInto P s marks block = withRoom 24 block (searching P s marks)
 
 -- its answer, and what it leaves in the two: the marks of a text, and what is summed up of it
 abbrev pub searchAnswer : List ℕ → List ℕ → List ℕ → List ℕ → ℕ
@@ -47,9 +57,24 @@ searchMarks marking P s marks block = leftBy marking (searchingInto P s (length 
 abbrev pub searchBlock : (Text → Sums) → List ℕ → List ℕ → List ℕ → List ℕ → List ℕ
 searchBlock summing P s marks block = leftBy (λ t. sumsBlock (summing t)) (searchingInto P s (length marks) (length block)) block
 
+-- a search from a state with a mark buffer and a result block of so many bytes: 10 also where the block is too short
+unfoldable pub seekingInto : List ℕ → ℕ → List ℕ → ℕ → ℕ → Outcome Text
+seekingInto P st s marks block = withRoom 32 block (seeking P st s marks)
+
+-- its answer, and what it leaves in the two
+abbrev pub fromAnswer : List ℕ → ℕ → List ℕ → List ℕ → List ℕ → ℕ
+fromAnswer P st s marks block = coded (seekingInto P st s (length marks) (length block))
+
+abbrev pub fromMarks : List ℕ → Strand → ℕ → List ℕ → List ℕ → List ℕ → List ℕ
+fromMarks P strand st s marks block = leftBy (marksFrom (onStrand strand P) st) (seekingInto P st s (length marks) (length block)) marks
+
+abbrev pub fromBlock : List ℕ → Strand → ℕ → List ℕ → List ℕ → List ℕ → List ℕ
+fromBlock P strand st s marks block =
+    leftBy (λ t. seenBlock (seenFrom (onStrand strand P) st t)) (seekingInto P st s (length marks) (length block)) block
+
 -- a feed with a result block of so many bytes: 10 is asked last
 unfoldable pub feedingInto : List ℕ → Strand → ℕ → List ℕ → ℕ → Outcome Next
-feedingInto P strand st s block = after (feeding P strand st s) λ x. demand (leb 16 block) 10 0 (ok x)
+feedingInto P strand st s block = withRoom 16 block (feeding P strand st s)
 
 -- its answer, and what it leaves in the block
 abbrev pub feedAnswer : List ℕ → Strand → ℕ → List ℕ → List ℕ → ℕ

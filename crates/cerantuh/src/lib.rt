@@ -1,10 +1,13 @@
-// The C forms of the searches and the feed, for the release tool. include/cerantuh.h is their C side.
+// The C forms of the searches, the search from a state and the feed, for the release tool. include/cerantuh.h is their C side.
 mod block;
 mod feeding;
+mod from;
 mod searching;
 
 pub use feeding::cerantuh_feed;
 pub use feeding::cerantuh_feed_opposite;
+pub use from::cerantuh_search_from;
+pub use from::cerantuh_search_from_opposite;
 pub use searching::cerantuh_search_bits;
 pub use searching::cerantuh_search_bits_opposite;
 pub use searching::cerantuh_search_borders;
