@@ -1,6 +1,10 @@
 /* Cerantuh's C forms: the searches and the feed, on either strand, for x86-64 Linux. Link target/staticlib/libcerantuh.a, which
    'rt staticlib cerantuh' builds. docs/FORMAT.md has the bytes of a stretch and says when each refusal is given.
 
+   Which form. cerantuh_search_bits, _borders and _either, and those on the opposite strand, speak of ONE stretch. A text of many
+   stretches is searched by cerantuh_search_from with the state handed on: an occurrence that begins in one stretch and ends in a
+   later one is seen by no search of each stretch alone. cerantuh_feed is for segments that come one by one.
+
    Memory. Every pointer comes with its length in bytes, and lends that many bytes for the time of the call. The caller owns
    them before and after; nothing is kept, nothing is allocated, nothing is freed. A slice of length 0 may have any pointer,
    NULL too. The lent slices must not overlap. What is lent as const is only read. The calls have no state of their own, so
@@ -26,11 +30,12 @@ extern "C" {
 #define CERANTUH_GREATEST_STRETCH 32768 /* bytes of a stretch or lone segment, at most */
 #define CERANTUH_MOST_SEGMENTS 10922    /* segments of a stretch, at most: a mark buffer of so many bytes always suffices */
 #define CERANTUH_SEARCH_BLOCK 24        /* bytes of a search's results */
+#define CERANTUH_FROM_BLOCK 32          /* bytes of the results of a search from a state */
 #define CERANTUH_FEED_BLOCK 16          /* bytes of a feed's results */
 #define CERANTUH_FRESH_STATE 1          /* the state before the first segment */
 
-/* The refusals. The first that applies is given, in this order: 1, 2, 3, 4, for the feed 17, then 5 to 8 in the order of the
-   bytes (of one variant 5, then 7, then 8), 9, 16, and 10 last. */
+/* The refusals. The first that applies is given, in this order: 1, 2, 3, 4, 17 from the forms that take a state, then 5
+   to 8 in the order of the bytes (of one variant 5, then 7, then 8), 9, 16, and 10 last. */
 enum cerantuh_refusal {
     CERANTUH_ACCEPTED = 0,
     CERANTUH_PATTERN_EMPTY = 1,
@@ -42,7 +47,7 @@ enum cerantuh_refusal {
     CERANTUH_LETTER = 7,            /* a letter that is not A, C, G or T; place: that letter */
     CERANTUH_REPEATED = 8,          /* a variant equal to an earlier one of its segment; place: its length field */
     CERANTUH_BYTES_LEFT = 9,        /* bytes after the last segment; place: the first of them */
-    CERANTUH_TOO_SHORT = 10,        /* marks_len below the segment count, or block_len below 24 (16 for the feed) */
+    CERANTUH_TOO_SHORT = 10,        /* marks_len below the segment count, or block_len below 24 (32 from a state, 16 for the feed) */
     CERANTUH_SEGMENTS = 16,         /* over 10,922 segments; the 32,768 bytes have no room for them, so it never comes */
     CERANTUH_STATE = 17             /* bit 0 clear, or a bit set from the pattern's length up */
 };
@@ -60,7 +65,8 @@ static inline uint64_t cerantuh_result(const uint8_t *block, size_t i)
     return value;
 }
 
-/* Searches the pattern in a stretch. Both searches give the same answers; the one by bit-vectors is the faster.
+/* Searches the pattern in one stretch, as if nothing stood before or behind it. Both searches give the same answers; the one by
+   bit-vectors is the faster.
 
    pattern  the letters of the pattern, 1 to 64 bytes
    stretch  the bytes of the stretch, from its segment count to the end of its last segment
@@ -86,8 +92,31 @@ uint64_t cerantuh_search_borders_opposite(const uint8_t *pattern, size_t pattern
 uint64_t cerantuh_search_either(const uint8_t *pattern, size_t pattern_len, const uint8_t *stretch, size_t stretch_len,
                                 uint8_t *marks, size_t marks_len, uint8_t *block, size_t block_len);
 
+/* Searches a text of many stretches, a stretch at a time and in order: the first from CERANTUH_FRESH_STATE, each other from the state
+   that the one before gave, with the same pattern. The marks, laid end to end, are then those of the whole text, and none is lost
+   at a cut. From CERANTUH_FRESH_STATE it marks and counts what cerantuh_search_bits does.
+
+   pattern  the letters of the pattern, the same at each stretch
+   state    bit 0 is set; bit r is set if the first r bases of the pattern end where the stretch before ended
+   stretch  the bytes of the stretch
+   marks    lent for the marks: byte j becomes 1 if an occurrence ends in segment j of this stretch, wherever it begins, and 0 if
+            none does; bytes from the segment count on stay
+   block    lent for the results, 32 bytes: result 0 is the segment count, 1 the size, 2 the number of segments marked 1, all of
+            this stretch, and 3 the next state; bytes from 32 on stay
+
+   A refused call gives no state, and without one the stretches behind cannot be searched: such a text is not known to be clear. */
+uint64_t cerantuh_search_from(const uint8_t *pattern, size_t pattern_len, uint64_t state, const uint8_t *stretch,
+                              size_t stretch_len, uint8_t *marks, size_t marks_len, uint8_t *block, size_t block_len);
+
+/* The same on the opposite strand: a search of both strands keeps a state for each. */
+uint64_t cerantuh_search_from_opposite(const uint8_t *pattern, size_t pattern_len, uint64_t state, const uint8_t *stretch,
+                                       size_t stretch_len, uint8_t *marks, size_t marks_len, uint8_t *block,
+                                       size_t block_len);
+
 /* Feeds one segment to a search that goes from segment to segment: the first is fed with CERANTUH_FRESH_STATE, each other with
-   the state that the one before gave.
+   the state that the one before gave. Feeding costs some 1,000 instructions a segment for its tables (500 to 1,400, by the
+   pattern's length), and cerantuh_search_from as much for a whole stretch: that is the form for whoever has whole stretches. Their
+   states are the same, so that either may follow the other.
 
    pattern  the letters of the pattern, the same at each segment
    state    bit 0 is set; bit r is set if the first r bases of the pattern end where the segment before ended
