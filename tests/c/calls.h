@@ -7,13 +7,15 @@
 
 #include <stdbool.h>
 
-/* The searches, then the feeds. */
+/* The searches of one stretch, those from a state, then the feeds. */
 enum form {
     SEARCH_BITS,
     SEARCH_BORDERS,
     SEARCH_BITS_OPPOSITE,
     SEARCH_BORDERS_OPPOSITE,
     SEARCH_EITHER,
+    SEARCH_FROM,
+    SEARCH_FROM_OPPOSITE,
     FEED,
     FEED_OPPOSITE,
     FORMS
@@ -22,7 +24,7 @@ enum form {
 struct call {
     const uint8_t *pattern;
     size_t m;
-    uint64_t state; /* only the feed takes it */
+    uint64_t state; /* only the searches from a state and the feeds take it */
     const uint8_t *bytes;
     size_t len;
     size_t marks_len; /* only the searches take it */

@@ -1,5 +1,5 @@
 /* Every truncation of some stretches, and every change of one byte of them: each is one call of each search, and of the feed for
-   each segment alone. */
+   each segment alone. Where a state is taken, all lengths are carried. */
 #include "braces.h"
 #include "groups.h"
 #include "tally.h"
@@ -20,12 +20,8 @@ static const struct {
 static void try_part(const char *pattern, const uint8_t *bytes, size_t len, bool feeds)
 {
     struct call call = {(const uint8_t *)pattern, strlen(pattern), 1, bytes, len, 8, feeds ? 16 : 24};
-    if (feeds) {
-        call.state = ((uint64_t)1 << call.m) - 1; /* all lengths carried */
-        try_feed(&call);
-    } else {
-        try_searches(&call);
-    }
+    call.state = ((uint64_t)1 << call.m) - 1;
+    (feeds ? try_feed : try_searches)(&call);
 }
 
 static void cut(const char *pattern, const uint8_t *bytes, size_t len, bool feeds)

@@ -11,5 +11,6 @@ int main(void)
     limits();
     pointers();
     randoms();
+    stretches();
     return tally_end();
 }

@@ -38,9 +38,27 @@ static void bases(void)
             make_one_variant(len);
             struct call call = call_of(tried[i]), feed = feed_of(tried[i] == 0 ? 1 : tried[i]);
             feed.m = tried[i];
+            call.state = feed.state;
             try_searches(&call);
             try_feed(&feed);
         }
+    }
+}
+
+/* Bit 0 and one bit more: a state of every pattern that has more bases than this bit. And all bits but the lowest: of none. */
+static void states(void)
+{
+    make_one_variant(66);
+    for (size_t m = 1; m <= 64; m++) {
+        tally_test("states of %zu bases", m);
+        struct call call = call_of(m);
+        call.block_len = 32;
+        for (size_t r = 0; r < 64; r++) {
+            call.state = (uint64_t)1 << r | 1;
+            try_refused_from(&call, r < m ? 0 : 17, 0);
+        }
+        call.state = feed_of(m).state - 1;
+        try_refused_from(&call, 17, 0);
     }
 }
 
@@ -153,12 +171,13 @@ static void lent(void)
         call.marks_len = marks_len;
         try_refused_searches(&call, marks_len < 5 ? 10 : 0, 0);
     }
-    for (size_t block_len = 0; block_len <= 32; block_len++) {
+    for (size_t block_len = 0; block_len <= 40; block_len++) {
         tally_test("a result block of %zu bytes", block_len);
         struct call call = call_of(3), feed = feed_of(3);
         call.block_len = feed.block_len = block_len;
         feed.len = 3;
         try_refused_searches(&call, block_len < 24 ? 10 : 0, 0);
+        try_refused_from(&call, block_len < 32 ? 10 : 0, 0);
         try_refused_feeds(&feed, block_len < 16 ? 10 : 0, 0);
     }
 }
@@ -168,6 +187,8 @@ void limits(void)
     memset(letters, 'A', sizeof letters);
     tally_group("limits of bases");
     bases();
+    tally_group("limits of states");
+    states();
     tally_group("limits of bytes, segments and variants");
     bytes();
     segments();

@@ -51,6 +51,18 @@ void made_end(struct made *made)
     set_word(made->bytes, made->segment_count);
 }
 
+void made_part(const struct made *whole, size_t first, size_t behind, struct made *part)
+{
+    made_begin(part);
+    for (size_t j = first; j < behind; j++) {
+        size_t at = whole->segment_at[j], len = whole->segment_at[j + 1] - at;
+        part->segment_at[part->segment_count++] = part->len;
+        memcpy(part->bytes + part->len, whole->bytes + at, len);
+        part->len += len;
+    }
+    made_end(part);
+}
+
 /* Where variant v of segment j starts, that is, its length field. */
 static size_t variant_at(const struct made *made, size_t j, size_t v)
 {

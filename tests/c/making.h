@@ -35,6 +35,9 @@ void made_variant(struct made *made, const uint8_t *letters, size_t len); /* int
 void made_segment(struct made *made);                                     /* closes the open segment and opens one */
 void made_end(struct made *made);
 
+/* The segments of a text from one on, up to the one behind them, as a stretch of their own. */
+void made_part(const struct made *whole, size_t first, size_t behind, struct made *part);
+
 /* A pattern of 1 to 64 bases, most often one that the text spells. Returns its bases. */
 size_t make_pattern(struct random *random, const struct made *made, uint8_t pattern[MOST_BASES]);
 

@@ -27,6 +27,28 @@ static void searches(search_form *search, uint8_t *any)
     calls_made += 6;
 }
 
+typedef uint64_t from_form(const uint8_t *, size_t, uint64_t, const uint8_t *, size_t, uint8_t *, size_t, uint8_t *, size_t);
+
+static void froms(from_form *search, uint8_t *any)
+{
+    static const uint8_t none[] = {0, 0}, one[] = {1, 0, 1, 1, 0, 'A'};
+    const uint8_t *pattern = (const uint8_t *)"AC";
+    uint8_t marks[1] = {7}, block[32];
+    memset(block, 7, sizeof block);
+    tally_check(search(any, 0, 3, one, sizeof one, marks, 1, block, 32) == 1, "an empty pattern");
+    tally_check(search(pattern, 2, 3, any, 0, marks, 1, block, 32) == 5, "an empty stretch");
+    tally_check(search(pattern, 2, 3, one, sizeof one, any, 0, block, 32) == 10, "an empty mark buffer for a segment");
+    tally_check(search(pattern, 2, 3, one, sizeof one, marks, 1, any, 0) == 10, "an empty block");
+    tally_check(search(any, 0, 0, any, 0, any, 0, any, 0) == 1, "nothing at all");
+    tally_check(search(pattern, 2, 2, any, 0, any, 0, any, 0) == 17, "nothing but a pattern, and no state of it");
+    tally_check(marks[0] == 7 && block[0] == 7 && block[31] == 7, "a refused call wrote");
+    tally_check(search(pattern, 2, 3, none, sizeof none, any, 0, block, 32) == 0, "an empty mark buffer for no segments");
+    tally_check(cerantuh_result(block, 0) == 0 && cerantuh_result(block, 1) == 0 && cerantuh_result(block, 2) == 0,
+                "no segments have results");
+    tally_check(cerantuh_result(block, 3) == 3, "no segments change the state");
+    calls_made += 7;
+}
+
 static void feeds(uint8_t *any)
 {
     static const uint8_t one[] = {1, 1, 0, 'A'};
@@ -51,6 +73,10 @@ void pointers(void)
         searches(cerantuh_search_bits, tried[i]);
         tally_test("pointer %zu in search_borders", i);
         searches(cerantuh_search_borders, tried[i]);
+        tally_test("pointer %zu in search_from", i);
+        froms(cerantuh_search_from, tried[i]);
+        tally_test("pointer %zu in search_from_opposite", i);
+        froms(cerantuh_search_from_opposite, tried[i]);
         tally_test("pointer %zu in feed", i);
         feeds(tried[i]);
     }

@@ -166,9 +166,10 @@ static size_t size_of(const struct text *text)
     return size;
 }
 
-static void search(const uint8_t *pattern, size_t m, const struct text *text, struct expected *out)
+/* From what is carried into the text on; afterwards carried is what goes out of it. */
+static void search(const uint8_t *pattern, size_t m, bool *carried, const struct text *text, struct expected *out)
 {
-    bool carried[MOST_BASES] = {false}, next[MOST_BASES];
+    bool next[MOST_BASES];
     out->mark_count = text->segment_count;
     out->result_count = 3;
     out->results[0] = text->segment_count;
@@ -177,8 +178,32 @@ static void search(const uint8_t *pattern, size_t m, const struct text *text, st
     for (size_t j = 0; j < text->segment_count; j++) {
         out->marks[j] = pass(pattern, m, carried, text, j, next);
         out->results[2] += out->marks[j];
-        memcpy(carried, next, sizeof carried);
+        memcpy(carried, next, sizeof next);
     }
+}
+
+/* A state is bit 0 and a bit for each length that is carried. */
+
+static uint64_t state_refusal(size_t m, uint64_t state)
+{
+    bool high = m < 64 && state >> m != 0;
+    return state % 2 == 0 || high ? refused(17, 0) : 0;
+}
+
+static void lengths_in(uint64_t state, bool *lengths)
+{
+    for (size_t r = 0; r < MOST_BASES; r++) {
+        lengths[r] = state >> r & 1;
+    }
+}
+
+static uint64_t state_of(size_t m, const bool *lengths)
+{
+    uint64_t state = 1;
+    for (size_t r = 1; r < m; r++) {
+        state |= (uint64_t)lengths[r] << r;
+    }
+    return state;
 }
 
 /* The calls: the refusals in their order, then the results. */
@@ -200,7 +225,8 @@ void reference_search(enum strand strand, const uint8_t *pattern, size_t m, cons
                       size_t block_len, struct expected *out)
 {
     static struct text text;
-    uint8_t turned[MOST_BASES];
+    bool carried[MOST_BASES] = {false};
+    uint8_t turned[MOST_BASES] = {0};
     out->result_count = out->mark_count = 0;
     out->answer = pattern_refusal(pattern, m);
     if (out->answer == 0) {
@@ -210,7 +236,39 @@ void reference_search(enum strand strand, const uint8_t *pattern, size_t m, cons
         out->answer = refused(10, 0);
     }
     if (out->answer == 0) {
-        search(read_on(strand, pattern, m, turned), m, &text, out);
+        search(read_on(strand, pattern, m, turned), m, carried, &text, out);
+    }
+}
+
+/* The refusals that are asked before the bytes are read, where a state is handed in. */
+static uint64_t entry_refusal(const uint8_t *pattern, size_t m, uint64_t state, size_t len)
+{
+    uint64_t refusal = pattern_refusal(pattern, m);
+    if (refusal == 0 && len > MOST_BYTES) {
+        refusal = refused(4, 0);
+    }
+    return refusal != 0 ? refusal : state_refusal(m, state);
+}
+
+void reference_from(enum strand strand, const uint8_t *pattern, size_t m, uint64_t state, const uint8_t *stretch, size_t len,
+                    size_t marks_len, size_t block_len, struct expected *out)
+{
+    static struct text text;
+    bool carried[MOST_BASES];
+    uint8_t turned[MOST_BASES] = {0};
+    out->result_count = out->mark_count = 0;
+    out->answer = entry_refusal(pattern, m, state, len);
+    if (out->answer == 0) {
+        out->answer = reference_read(stretch, len, &text);
+    }
+    if (out->answer == 0 && (marks_len < text.segment_count || block_len < 32)) {
+        out->answer = refused(10, 0);
+    }
+    if (out->answer == 0) {
+        lengths_in(state, carried);
+        search(read_on(strand, pattern, m, turned), m, carried, &text, out);
+        out->results[3] = state_of(m, carried);
+        out->result_count = 4;
     }
 }
 
@@ -226,43 +284,25 @@ void reference_either(const uint8_t *pattern, size_t m, const uint8_t *stretch, 
     }
 }
 
-static uint64_t state_refusal(size_t m, uint64_t state)
-{
-    bool high = m < 64 && state >> m != 0;
-    return state % 2 == 0 || high ? refused(17, 0) : 0;
-}
-
 void reference_feed(enum strand strand, const uint8_t *pattern, size_t m, uint64_t state, const uint8_t *segment, size_t len,
                     size_t block_len, struct expected *out)
 {
     static struct text text;
     bool carried[MOST_BASES], next[MOST_BASES];
-    uint8_t turned[MOST_BASES];
+    uint8_t turned[MOST_BASES] = {0};
     out->result_count = out->mark_count = 0;
-    out->answer = pattern_refusal(pattern, m);
-    if (out->answer == 0 && len > MOST_BYTES) {
-        out->answer = refused(4, 0);
-    }
-    if (out->answer == 0) {
-        out->answer = state_refusal(m, state);
-    }
+    out->answer = entry_refusal(pattern, m, state, len);
     if (out->answer == 0) {
         out->answer = read_segments(segment, len, 0, 1, &text);
     }
     if (out->answer == 0 && block_len < 16) {
         out->answer = refused(10, 0);
     }
-    if (out->answer != 0) {
-        return;
-    }
-    for (size_t r = 0; r < MOST_BASES; r++) {
-        carried[r] = state >> r & 1;
-    }
-    out->result_count = 2;
-    out->results[1] = pass(read_on(strand, pattern, m, turned), m, carried, &text, 0, next);
-    out->results[0] = 1;
-    for (size_t r = 1; r < m; r++) {
-        out->results[0] |= (uint64_t)next[r] << r;
+    if (out->answer == 0) {
+        lengths_in(state, carried);
+        out->result_count = 2;
+        out->results[1] = pass(read_on(strand, pattern, m, turned), m, carried, &text, 0, next);
+        out->results[0] = state_of(m, next);
     }
 }
 

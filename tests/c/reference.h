@@ -28,7 +28,7 @@ struct text {
 /* What a call must return, write into its block (8 bytes each) and write into its marks. Refused: nothing is written. */
 struct expected {
     uint64_t answer;
-    uint64_t results[3];
+    uint64_t results[4];
     size_t result_count, mark_count;
     uint8_t marks[MOST_SEGMENTS];
 };
@@ -38,6 +38,10 @@ enum strand { GIVEN, OPPOSITE };
 
 void reference_search(enum strand strand, const uint8_t *pattern, size_t m, const uint8_t *stretch, size_t len, size_t marks_len,
                       size_t block_len, struct expected *out);
+
+/* From a state: 1, 2, 3, 4, 17, then as the search; the fourth result is the state behind the stretch. */
+void reference_from(enum strand strand, const uint8_t *pattern, size_t m, uint64_t state, const uint8_t *stretch, size_t len,
+                    size_t marks_len, size_t block_len, struct expected *out);
 void reference_feed(enum strand strand, const uint8_t *pattern, size_t m, uint64_t state, const uint8_t *segment, size_t len,
                     size_t block_len, struct expected *out);
 

@@ -6,27 +6,37 @@
 
 static uint8_t zeros[MOST_BYTES + 1];
 
-/* A search of a stretch that is written as a string; a NULL stretch is one of 32,769 bytes. */
-static void search(uint64_t number, uint64_t place, const char *pattern, const char *stretch, size_t len, size_t marks_len,
-                   size_t block_len)
+/* The stretch or segment is written as a string; NULL is one of 32,769 bytes. */
+static struct call call_of(const char *pattern, uint64_t state, const char *bytes, size_t len, size_t marks_len, size_t block_len)
 {
-    struct call call = {(const uint8_t *)pattern, strlen(pattern), 1, (const uint8_t *)stretch, len, marks_len, block_len};
-    if (stretch == NULL) {
+    struct call call = {(const uint8_t *)pattern, strlen(pattern), state, (const uint8_t *)bytes, len, marks_len, block_len};
+    if (bytes == NULL) {
         call.bytes = zeros;
         call.len = sizeof zeros;
     }
+    return call;
+}
+
+static void search(uint64_t number, uint64_t place, const char *pattern, const char *stretch, size_t len, size_t marks_len,
+                   size_t block_len)
+{
+    struct call call = call_of(pattern, 1, stretch, len, marks_len, block_len);
     tally_test("search: %d at %d", (int)number, (int)place);
     try_refused_searches(&call, number, place);
+}
+
+static void from(uint64_t number, uint64_t place, const char *pattern, uint64_t state, const char *stretch, size_t len,
+                 size_t marks_len, size_t block_len)
+{
+    struct call call = call_of(pattern, state, stretch, len, marks_len, block_len);
+    tally_test("search from a state: %d at %d", (int)number, (int)place);
+    try_refused_from(&call, number, place);
 }
 
 static void feed(uint64_t number, uint64_t place, const char *pattern, uint64_t state, const char *segment, size_t len,
                  size_t block_len)
 {
-    struct call call = {(const uint8_t *)pattern, strlen(pattern), state, (const uint8_t *)segment, len, 0, block_len};
-    if (segment == NULL) {
-        call.bytes = zeros;
-        call.len = sizeof zeros;
-    }
+    struct call call = call_of(pattern, state, segment, len, 0, block_len);
     tally_test("feed: %d at %d", (int)number, (int)place);
     try_refused_feeds(&call, number, place);
 }
@@ -62,6 +72,30 @@ static void searches(void)
     search(10, 0, "AC", SOUND, 13, 2, 0);
     search(10, 0, "AC", SOUND, 13, 0, 0);
     search(0, 0, "AC", SOUND, 13, 2, 24);
+}
+
+/* Those of the searches were given by this search too, from the fresh state. */
+static void froms(void)
+{
+    from(1, 0, "", 3, SOUND, 13, 2, 32);
+    from(2, 0, LONG, 3, SOUND, 13, 2, 32);
+    from(3, 1, "A-C", 3, SOUND, 13, 2, 32);
+    from(4, 0, "AC", 3, NULL, 0, 2, 32);
+    from(17, 0, "AC", 0, SOUND, 13, 2, 32);
+    from(17, 0, "AC", 2, SOUND, 13, 2, 32);
+    from(17, 0, "AC", 5, SOUND, 13, 2, 32);
+    from(17, 0, "A", 3, SOUND, 13, 2, 32);
+    from(17, 0, "AC", 0x8000000000000001, SOUND, 13, 2, 32);
+    from(5, 9, "AC", 3, SOUND, 9, 2, 32);
+    from(6, 7, "AC", 3, "\2\0" "\1\2\0AC" "\0", 8, 2, 32);
+    from(7, 6, "AC", 3, "\2\0" "\2\2\0AX\0\0" "\1\1\0G", 13, 2, 32);
+    from(8, 7, "AC", 3, "\1\0" "\2\2\0AC\2\0AC", 11, 1, 32);
+    from(9, 13, "AC", 3, SOUND "\0", 14, 2, 32);
+    from(10, 0, "AC", 3, SOUND, 13, 1, 32);
+    from(10, 0, "AC", 3, SOUND, 13, 2, 31);
+    from(10, 0, "AC", 3, SOUND, 13, 2, 24);
+    from(10, 0, "AC", 3, SOUND, 13, 2, 0);
+    from(0, 0, "AC", 3, SOUND, 13, 2, 32);
 }
 
 static void feeds(void)
@@ -101,6 +135,19 @@ static void orders(void)
     search(8, 6, "AC", "\2\0" "\2\1\0A\1\0A" "\0", 10, 0, 0);     /* and before a later count */
     search(6, 2, "AC", "\2\0" "\0" "\1\1\0N", 7, 0, 0);           /* a count before a later letter */
     search(9, 5, "AC", "\1\0" "\1\0\0" "\0", 6, 0, 0);            /* what is left over before a short buffer */
+    from(1, 0, "", 0, NULL, 0, 0, 0);
+    from(2, 0, LONG "N", 0, NULL, 0, 0, 0);
+    from(3, 1, "AN", 0, NULL, 0, 0, 0);
+    from(4, 0, "AC", 0, NULL, 0, 0, 0);
+    from(17, 0, "AC", 0, "", 0, 0, 0);                            /* a state before all that the bytes may have */
+    from(17, 0, "AC", 4, "\2\0" "\0" "\1\1\0N", 7, 0, 0);
+    from(17, 0, "AC", 2, SOUND "\0", 14, 0, 0);
+    from(17, 0, "AC", 5, SOUND, 13, 0, 0);
+    from(5, 0, "AC", 3, "", 0, 0, 0);
+    from(6, 2, "AC", 3, "\2\0" "\0" "\1\1\0N", 7, 0, 0);
+    from(7, 8, "AC", 3, "\1\0" "\3\1\0A\1\0N\1\0A", 12, 0, 0);
+    from(8, 6, "AC", 3, "\1\0" "\3\1\0A\1\0A\1\0N", 12, 0, 0);
+    from(9, 5, "AC", 3, "\1\0" "\1\0\0" "\0", 6, 0, 0);
     feed(1, 0, "", 0, NULL, 0, 0);
     feed(2, 0, LONG, 0, NULL, 0, 0);
     feed(3, 0, "N", 0, NULL, 0, 0);
@@ -115,6 +162,8 @@ void refusals(void)
 {
     tally_group("refusals of the searches");
     searches();
+    tally_group("refusals of the search from a state");
+    froms();
     tally_group("refusals of the feed");
     feeds();
     tally_group("the order of refusals");

@@ -72,11 +72,27 @@ uint64_t try_call(enum form form, const struct call *call)
     return expected.answer;
 }
 
+/* The call with room for a result more. */
+static struct call with_room(const struct call *call)
+{
+    struct call from = *call;
+    from.block_len += 8;
+    return from;
+}
+
 void try_searches(const struct call *call)
 {
-    for (enum form form = 0; form < FEED; form++) {
+    struct call from = with_room(call);
+    for (enum form form = 0; form < SEARCH_FROM; form++) {
         try_call(form, call);
     }
+    try_from(&from);
+}
+
+void try_from(const struct call *call)
+{
+    try_call(SEARCH_FROM, call);
+    try_call(SEARCH_FROM_OPPOSITE, call);
 }
 
 void try_feed(const struct call *call)
@@ -107,9 +123,17 @@ void try_refusal(enum form form, const struct call *call, uint64_t number, uint6
 
 void try_refused_searches(const struct call *call, uint64_t number, uint64_t place)
 {
-    for (enum form form = 0; form < FEED; form++) {
+    struct call from = with_room(call);
+    for (enum form form = 0; form < SEARCH_FROM; form++) {
         try_refusal(form, call, number, place);
     }
+    try_refused_from(&from, number, place);
+}
+
+void try_refused_from(const struct call *call, uint64_t number, uint64_t place)
+{
+    try_refusal(SEARCH_FROM, call, number, place);
+    try_refusal(SEARCH_FROM_OPPOSITE, call, number, place);
 }
 
 void try_refused_feeds(const struct call *call, uint64_t number, uint64_t place)
