@@ -99,34 +99,34 @@ static uint64_t draw_state(struct random *random, int aim, size_t m)
     return state;
 }
 
-static void draw_lent(struct random *random, int aim, bool feeds, struct call *call)
+static bool feeds(enum form form) { return form >= FEED; }
+
+static void draw_lent(struct random *random, int aim, enum form form, struct call *call)
 {
-    size_t least = feeds ? 16 : 24;
+    size_t least = feeds(form) ? 16 : form >= SEARCH_FROM ? 32 : 24;
     call->marks_len = made.segment_count + random_below(random, 3);
     call->block_len = least + random_below(random, 3);
-    if (aim == 10 && (feeds || random_below(random, 2) == 0)) {
+    if (aim == 10 && (feeds(form) || random_below(random, 2) == 0)) {
         call->block_len = random_below(random, least);
     } else if (aim == 10) {
         call->marks_len = random_below(random, made.segment_count);
     }
 }
 
-static struct call draw_call(struct random *random, int aim, bool feeds)
+static struct call draw_call(struct random *random, int aim, enum form form)
 {
-    struct call call = {pattern, draw(random, feeds || aim != ACCEPTED), 1, made.bytes, 0, 0, 0};
-    if (feeds) {
+    struct call call = {pattern, draw(random, feeds(form) || aim != ACCEPTED), 1, made.bytes, 0, 0, 0};
+    if (feeds(form)) {
         keep_one(random);
         call.bytes = made.bytes + 2;
     }
     call.state = draw_state(random, aim, call.m);
-    draw_lent(random, aim, feeds, &call);
+    draw_lent(random, aim, form, &call);
     damage(random, aim);
     damage_pattern(random, aim, &call.m);
-    call.len = feeds ? (made.len < 2 ? 0 : made.len - 2) : made.len;
+    call.len = feeds(form) ? (made.len < 2 ? 0 : made.len - 2) : made.len;
     return call;
 }
-
-static bool feeds(enum form form) { return form >= FEED; }
 
 /* 45 of 100 calls are searches to be accepted, 10 feeds to be accepted; the others are spread over the refusals. */
 static void choose(struct random *random, enum form *form, int *aim)
@@ -140,7 +140,9 @@ static void choose(struct random *random, enum form *form, int *aim)
     } else if (choice >= 55) {
         static const int aims[] = {1, 2, 3, 4, 5, 6, 7, 8, 9, 10, 17, ANY};
         *aim = aims[random_below(random, sizeof aims / sizeof *aims)];
-        if (*aim == 17 || random_below(random, 3) == 0) {
+        if (*aim == 17) {
+            *form = SEARCH_FROM + random_below(random, FORMS - SEARCH_FROM);
+        } else if (random_below(random, 3) == 0) {
             *form = feed;
         }
     }
@@ -150,7 +152,8 @@ static uint64_t counts[256][FORMS];
 
 static void print_counts(void)
 {
-    static const char *const names[FORMS] = {"bits", "borders", "bits_opp.", "borders_opp.", "either", "feed", "feed_opp."};
+    static const char *const names[FORMS] = {"bits", "borders", "bits_opp.", "borders_opp.", "either",
+                                              "from", "from_opp.", "feed", "feed_opp."};
     printf("%-12s", "answer");
     for (enum form form = 0; form < FORMS; form++) {
         printf(" %12s", names[form]);
@@ -186,7 +189,7 @@ int main(int argc, char **argv)
         enum form form;
         int aim;
         choose(&random, &form, &aim);
-        struct call call = draw_call(&random, aim, feeds(form));
+        struct call call = draw_call(&random, aim, form);
         call_expect(form, &call, &expected);
         differences += !call_agrees(form, &call, (enum placement)random_below(&random, PLACEMENTS), &expected);
         counts[expected.answer & 255][form]++;
