@@ -15,6 +15,16 @@ static uint8_t pattern[2 * MOST_BASES];
 /* What a call is drawn for: a refusal by its number, or one of these. ANY is damage at random, whatever comes of it. */
 enum { ACCEPTED = 0, ANY = 18 };
 
+/* The form, what it is drawn for, and a second fault beside the first, or ACCEPTED: so the order of refusals is tried. */
+struct aim {
+    enum form form;
+    int first, second;
+};
+
+static bool aimed_at(const struct aim *aim, int number) { return aim->first == number || aim->second == number; }
+
+static bool feeds(const struct aim *aim) { return aim->form >= FEED; }
+
 /* A text and a pattern from it. One in 256 texts is large. Where a segment is needed, one with none is drawn again. */
 static size_t draw(struct random *random, size_t least_segments)
 {
@@ -78,18 +88,18 @@ static void damage_pattern(struct random *random, int aim, size_t *m)
         *m = 0;
     } else if (aim == 2) {
         *m = MOST_BASES + 1 + random_below(random, MOST_BASES);
-    } else if (aim == 3) {
+    } else if (aim == 3 && *m > 0) {
         pattern[random_below(random, *m)] = wrong[random_below(random, sizeof wrong)];
     }
 }
 
 /* Any state that the pattern allows; or, for refusal 17, one without bit 0, with bit m, or with any bit more. */
-static uint64_t draw_state(struct random *random, int aim, size_t m)
+static uint64_t draw_state(struct random *random, const struct aim *aim, size_t m)
 {
     const uint64_t one = 1;
     uint64_t state = random_next(random) & random_next(random);
     state = (m < 64 ? state % (one << m) : state) | one;
-    if (aim == 17) {
+    if (aimed_at(aim, 17)) {
         switch (random_below(random, 3)) {
         case 0: return state & ~one;
         case 1: return m < 64 ? state | one << m : 0;
@@ -99,53 +109,60 @@ static uint64_t draw_state(struct random *random, int aim, size_t m)
     return state;
 }
 
-static bool feeds(enum form form) { return form >= FEED; }
-
-static void draw_lent(struct random *random, int aim, enum form form, struct call *call)
+static void draw_lent(struct random *random, const struct aim *aim, struct call *call)
 {
-    size_t least = feeds(form) ? 16 : form >= SEARCH_FROM ? 32 : 24;
+    size_t least = feeds(aim) ? 16 : aim->form >= SEARCH_FROM ? 32 : 24;
     call->marks_len = made.segment_count + random_below(random, 3);
     call->block_len = least + random_below(random, 3);
-    if (aim == 10 && (feeds(form) || random_below(random, 2) == 0)) {
+    if (aimed_at(aim, 10) && (feeds(aim) || random_below(random, 2) == 0)) {
         call->block_len = random_below(random, least);
-    } else if (aim == 10) {
+    } else if (aimed_at(aim, 10)) {
         call->marks_len = random_below(random, made.segment_count);
     }
 }
 
-static struct call draw_call(struct random *random, int aim, enum form form)
+static struct call draw_call(struct random *random, const struct aim *aim)
 {
-    struct call call = {pattern, draw(random, feeds(form) || aim != ACCEPTED), 1, made.bytes, 0, 0, 0};
-    if (feeds(form)) {
+    struct call call = {pattern, draw(random, feeds(aim) || aim->first != ACCEPTED), 1, made.bytes, 0, 0, 0};
+    if (feeds(aim)) {
         keep_one(random);
         call.bytes = made.bytes + 2;
     }
     call.state = draw_state(random, aim, call.m);
-    draw_lent(random, aim, form, &call);
-    damage(random, aim);
-    damage_pattern(random, aim, &call.m);
-    call.len = feeds(form) ? (made.len < 2 ? 0 : made.len - 2) : made.len;
+    draw_lent(random, aim, &call);
+    damage(random, aim->first);
+    damage(random, aim->second);
+    damage_pattern(random, aim->first, &call.m);
+    damage_pattern(random, aim->second, &call.m);
+    call.len = feeds(aim) ? (made.len < 2 ? 0 : made.len - 2) : made.len;
     return call;
 }
 
+/* The faults: one, and in half of the calls a second that needs no sound bytes. */
+static void choose_faults(struct random *random, struct aim *aim)
+{
+    static const int firsts[] = {1, 2, 3, 4, 5, 6, 7, 8, 9, 10, 17, ANY}, seconds[] = {1, 2, 3, 4, 10, 17};
+    aim->first = firsts[random_below(random, sizeof firsts / sizeof *firsts)];
+    if (random_below(random, 2) == 0) {
+        aim->second = seconds[random_below(random, sizeof seconds / sizeof *seconds)];
+    }
+}
+
 /* 45 of 100 calls are searches to be accepted, 10 feeds to be accepted; the others are spread over the refusals. */
-static void choose(struct random *random, enum form *form, int *aim)
+static struct aim choose(struct random *random)
 {
     size_t choice = random_below(random, 100);
     enum form feed = FEED + random_below(random, FORMS - FEED);
-    *form = random_below(random, FEED);
-    *aim = ACCEPTED;
-    if (choice >= 45 && choice < 55) {
-        *form = feed;
-    } else if (choice >= 55) {
-        static const int aims[] = {1, 2, 3, 4, 5, 6, 7, 8, 9, 10, 17, ANY};
-        *aim = aims[random_below(random, sizeof aims / sizeof *aims)];
-        if (*aim == 17) {
-            *form = SEARCH_FROM + random_below(random, FORMS - SEARCH_FROM);
-        } else if (random_below(random, 3) == 0) {
-            *form = feed;
-        }
+    struct aim aim = {random_below(random, FEED), ACCEPTED, ACCEPTED};
+    if (choice >= 55) {
+        choose_faults(random, &aim);
     }
+    if (aimed_at(&aim, 17)) {
+        aim.form = SEARCH_FROM + random_below(random, FORMS - SEARCH_FROM);
+    } else if (choice >= 45 && (choice < 55 || random_below(random, 3) == 0)) {
+        aim.form = feed;
+    }
+    return aim;
 }
 
 static uint64_t counts[256][FORMS];
@@ -186,15 +203,13 @@ int main(int argc, char **argv)
     made_begin(&other);
     made_end(&other);
     while (calls_made < calls) {
-        enum form form;
-        int aim;
-        choose(&random, &form, &aim);
-        struct call call = draw_call(&random, aim, form);
-        call_expect(form, &call, &expected);
-        differences += !call_agrees(form, &call, (enum placement)random_below(&random, PLACEMENTS), &expected);
-        counts[expected.answer & 255][form]++;
-        marked += !feeds(form) && expected.answer == 0 && expected.results[2] > 0;
-        ends += feeds(form) && expected.answer == 0 && expected.results[1] > 0;
+        struct aim aim = choose(&random);
+        struct call call = draw_call(&random, &aim);
+        call_expect(aim.form, &call, &expected);
+        differences += !call_agrees(aim.form, &call, (enum placement)random_below(&random, PLACEMENTS), &expected);
+        counts[expected.answer & 255][aim.form]++;
+        marked += !feeds(&aim) && expected.answer == 0 && expected.results[2] > 0;
+        ends += feeds(&aim) && expected.answer == 0 && expected.results[1] > 0;
     }
     print_counts();
     printf("an occurrence ends in %" PRIu64 " texts and %" PRIu64 " fed segments\n", marked, ends);
