@@ -1,10 +1,10 @@
--- Answers that are told alike are the same answer.
+-- Answers that are told alike are the same answer, and what they say in numbers is what they tell.
 use Prim.Native.Nat.{ℕ}
-use mathlib.Core.Path.{_≡_, sym, ap, ap₂}
-use Rattle.text.specs.Refusal.{Outcome, ok, refused}
+use mathlib.Core.Path.{_≡_, refl, sym, ap, ap₂, _∙_}
+use Rattle.text.specs.Refusal.{Outcome, ok, refused, answer}
 use Rattle.text.proofs.Outcomes.{refused-ok, refused-inj, ok-inj}
 use Rattle.stretch.specs.Places.{Found, found, end, Reading}
-use Rattle.stretch.specs.Answers.{Sum, toldChecked, toldWritten, toldGot}
+use Rattle.stretch.specs.Answers.{Sum, zeroSum, toldChecked, answerChecked, toldWritten, toldGot}
 use Rattle.stretch.specs.declared.checking.Checked.{Checked}
 use Rattle.stretch.specs.declared.checking.Checked.the-variants.{Sound}
 use Rattle.stretch.specs.declared.reading.Got.{Got}
@@ -21,6 +21,12 @@ checked-once (Checked.Refused r) (Checked.Refused s) e =
     let n : r .number ≡ s .number = cc in
     let p : r .place ≡ s .place = cc in
     ap₂ (λ (a b : ℕ). Checked.Refused (record { number = a; place = b })) n p
+
+pub checked-both :
+    (r : Checked) {o : Outcome Sum} → toldChecked r ≡ o → (toldChecked r ≡ o) × (answerChecked r ≡ answer zeroSum o)
+unfolding answerChecked
+checked-both (Sound n z) e = (e, ap (answer zeroSum) e)
+checked-both (Checked.Refused r) e = (e, ap (answer zeroSum) e)
 
 pub written-once : (a b : Written) → toldWritten a ≡ toldWritten b → a ≡ b
 written-once (Bytes n) (Bytes m) e = ap Bytes (ok-inj e)

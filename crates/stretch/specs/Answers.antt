@@ -4,7 +4,7 @@ use mathlib.Core.Path.{_≡_}
 use mathlib.Core.List.{List}
 use lib.ListN.{length}
 use Rattle.text.specs.Text.{Segment, Text, total, weight, size}
-use Rattle.text.specs.Refusal.{Outcome, ok, refused, after}
+use Rattle.text.specs.Refusal.{Outcome, ok, refused, after, Answer, answer}
 use Rattle.stretch.specs.Pieces.{Span}
 use Rattle.stretch.specs.Reading.{Taken, variantAt, segmentAt, stretchOf}
 use Rattle.stretch.specs.Bytes.{word, over}
@@ -43,6 +43,14 @@ pub record Sum : Type 0 where
 abbrev pub toldChecked : Checked → Outcome Sum
 toldChecked (Sound segments size) = ok (record { segments = segments; size = size })
 toldChecked (Checked.Refused r) = refused (r .number) (r .place)
+
+-- the same in numbers
+abbrev pub zeroSum : Sum
+zeroSum = record { segments = 0; size = 0 }
+
+unfoldable pub answerChecked : Checked → Answer Sum
+answerChecked (Sound segments size) = record { number = 0; place = 0; value = record { segments = segments; size = size } }
+answerChecked (Checked.Refused r) = record { number = r .number; place = r .place; value = zeroSum }
 
 unfoldable pub checking : List ℕ → Outcome Sum
 checking s = after (stretchOf s) λ t. ok (record { segments = length t; size = size t })

@@ -9,12 +9,12 @@ use Rattle.stretch.proofs.reading.read.Tie as tie
 from-place-requires : tie.Need-from-place-requires
 from-place-requires c κs =
     let d = c .before .before .before in
-    check-accepted _ _ _ (sym (ap toldChecked (c .before .segments .given .1)) ∙ d .check .ensures)
+    check-accepted _ _ _ (sym (ap toldChecked (c .before .segments .given .1)) ∙ d .check .ensures .0)
 
 returns : tie.Need-returns
 returns c =
     let d = c .before .before .before in
-    read-refused _ _ _ _ _ (sym (ap toldChecked (c .before .refusal .given .1)) ∙ d .check .ensures)
+    read-refused _ _ _ _ _ (sym (ap toldChecked (c .before .refusal .given .1)) ∙ d .check .ensures .0)
 
 pub read-spec : {M : Type 1} → statement M
 read-spec =
