@@ -4,7 +4,7 @@ use mathlib.Core.Path.{_≡_, refl, sym, ap, ap₂, _∙_}
 use Rattle.text.specs.Refusal.{Outcome, ok, refused, answer}
 use Rattle.text.proofs.Outcomes.{refused-ok, refused-inj, ok-inj}
 use Rattle.stretch.specs.Places.{Found, found, end, Reading}
-use Rattle.stretch.specs.Answers.{Sum, zeroSum, toldChecked, answerChecked, toldWritten, toldGot}
+use Rattle.stretch.specs.Answers.{Sum, zeroSum, toldChecked, answerChecked, toldWritten, answerWritten, toldGot, answerGot, answerReading}
 use Rattle.stretch.specs.declared.checking.Checked.{Checked}
 use Rattle.stretch.specs.declared.checking.Checked.the-variants.{Sound}
 use Rattle.stretch.specs.declared.reading.Got.{Got}
@@ -37,6 +37,12 @@ written-once (Written.Refused r) (Written.Refused s) e =
     let p : r .place ≡ s .place = cc in
     ap₂ (λ (a b : ℕ). Written.Refused (record { number = a; place = b })) n p
 
+pub written-both :
+    (r : Written) {o : Outcome ℕ} {B : Type 0} → (toldWritten r ≡ o) × B → (toldWritten r ≡ o) × ((answerWritten r ≡ answer 0 o) × B)
+unfolding answerWritten
+written-both (Bytes n) e = (e .0, (ap (answer 0) (e .0), e .1))
+written-both (Written.Refused r) e = (e .0, (ap (answer 0) (e .0), e .1))
+
 pub got-once : (a b : Got) → toldGot a ≡ toldGot b → a ≡ b
 got-once (Got.Variant i k j v) (Got.Variant i′ k′ j′ v′) e =
     let a : _≡_ {A = Outcome Found} (ok (found i k)) (ok (found i′ k′)) = ap (λ (x : Reading). x .answer) e in
@@ -68,3 +74,9 @@ got-once (Got.Refused r j′ v′) (Got.Variant i k j v) e =
     absurd (refused-ok (r .number) (r .place) (found i k) (ap (λ (x : Reading). x .answer) e))
 got-once (End j v) (Got.Refused r j′ v′) e = absurd (refused-ok (r .number) (r .place) end (sym (ap (λ (x : Reading). x .answer) e)))
 got-once (Got.Refused r j′ v′) (End j v) e = absurd (refused-ok (r .number) (r .place) end (ap (λ (x : Reading). x .answer) e))
+
+pub got-both : (r : Got) {x : Reading} → toldGot r ≡ x → (toldGot r ≡ x) × (answerGot r ≡ answerReading x)
+unfolding answerGot
+got-both (Got.Variant i k j v) e = (e, ap answerReading e)
+got-both (End j v) e = (e, ap answerReading e)
+got-both (Got.Refused r j v) e = (e, ap answerReading e)
