@@ -14,10 +14,10 @@ use text::strand::read_on;
 ghost use mathlib.Core.Path.{_≡_};
 ghost use Prim.Native.Nat.{_≤_, _<_};
 ghost use lib.ListN.{length};
-ghost use Rattle.text.specs.Refusal.{ok, after};
+ghost use Rattle.text.specs.Refusal.{ok, after, answer};
 ghost use Rattle.text.specs.Strand.{opposite};
 ghost use Rattle.stretch.specs.Answers.{leftBy};
-ghost use Rattle.search.specs.Answers.{searching, stretchInto, toldSearched, Roomy};
+ghost use Rattle.search.specs.Answers.{searching, stretchInto, toldSearched, answerSearched, zeroSums, Roomy};
 ghost use Rattle.search.specs.Either.{evens, odds, Founds, eitherMarks, eitherSums};
 
 mod run;
@@ -85,6 +85,9 @@ fn mark_both(pattern: &[u8], table: &[u64; 512], stretch: &[u8], marks: &mut [u8
 pub fn either(pattern: &[u8], stretch: &[u8], marks: &mut [u8]) -> Searched
     ensures { λ r. ⌜ toldSearched r ≡ after (searching (now (pattern .entry)) (now (stretch .entry)) (length (now (marks .entry))))
         (λ t. ok (eitherSums (now (pattern .entry)) t)) ⌝ }
+    ensures { λ r. ⌜ answerSearched r ≡ answer zeroSums
+        (after (searching (now (pattern .entry)) (now (stretch .entry)) (length (now (marks .entry))))
+        (λ t. ok (eitherSums (now (pattern .entry)) t))) ⌝ }
     ensures { λ r. ⌜ now (marks .exit) ≡ leftBy (eitherMarks (now (pattern .entry)))
         (searching (now (pattern .entry)) (now (stretch .entry)) (length (now (marks .entry)))) (now (marks .entry)) ⌝ }
 {
