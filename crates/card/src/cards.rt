@@ -18,9 +18,10 @@ use text::state::is_state;
 use text::strand::Strand;
 use text::strand::read_on;
 ghost use mathlib.Core.Path.{_≡_};
+ghost use Rattle.text.specs.Refusal.{answer};
 ghost use Rattle.text.specs.Card.{join, ask};
 ghost use Rattle.card.specs.Cards.{cardIn};
-ghost use Rattle.card.specs.Answers.{emptyOn, cardingOn, made, toldAsked};
+ghost use Rattle.card.specs.Answers.{emptyOn, cardingOn, made, toldAsked, answerAsked, zeroRow};
 
 // What comes of each carried length: row q says what comes of a lone q carried in, row 0 of nothing carried in.
 pub struct Card {
@@ -93,6 +94,7 @@ impl Card {
     // What comes of a state: refusals 11, 17.
     pub fn ask(self, state: State) -> Asked
         ensures { λ r. ⌜ toldAsked r ≡ ask (cardIn self) (state .bits) ⌝ }
+        ensures { λ r. ⌜ answerAsked r ≡ answer zeroRow (ask (cardIn self) (state .bits)) ⌝ }
     {
         if !well_formed(self) {
             return Asked::Refused(Refusal {
