@@ -2,6 +2,10 @@
 use crate::answers::Answer;
 use crate::lines;
 use std::num::wrapping_add_u64;
+ghost use Prim.Native.Nat.{_%_};
+ghost use mathlib.Core.Path.{_≡_};
+ghost use lib.ListN.{getD};
+ghost use Rattle.tally.specs.Counts.{moreIn, comparedIn, nextAt};
 
 pub struct Tally {
     // What is compared now, a number that tells where an answer differs.
@@ -21,7 +25,9 @@ impl Tally {
     };
 
     // So many more in a group, modulo 64.
-    pub fn more(self, group: usize, n: usize) -> Tally {
+    pub fn more(self, group: usize, n: usize) -> Tally
+        ensures { λ r. ⌜ r ≡ moreIn self group n ⌝ }
+    {
         let mut groups = self.groups;
         let i = group % 64;
         groups[i] = wrapping_add_u64(groups[i], n as u64);
@@ -34,7 +40,9 @@ impl Tally {
     }
 
     // One answer more in a group, which is to be the wanted one. The first that differs is printed.
-    pub fn compare(self, group: usize, got: Answer, wanted: Answer) -> Tally {
+    pub fn compare(self, group: usize, got: Answer, wanted: Answer) -> Tally
+        ensures { λ r. ⌜ r ≡ comparedIn self group got wanted ⌝ }
+    {
         let counted = self.more(group, 1);
         let at = self.at;
         let ran = wrapping_add_u64(self.ran, 1);
@@ -60,7 +68,9 @@ impl Tally {
     }
 
     // The same, for what is compared next.
-    pub fn next(self, at: u64) -> Tally {
+    pub fn next(self, at: u64) -> Tally
+        ensures { λ r. ⌜ r ≡ nextAt self at ⌝ }
+    {
         let groups = self.groups;
         Tally {
             at,
@@ -71,7 +81,9 @@ impl Tally {
     }
 
     // A group's count.
-    pub fn of(self, group: usize) -> u64 {
+    pub fn of(self, group: usize) -> u64
+        ensures { λ r. ⌜ r ≡ getD (self .groups) (group % 64) 0 ⌝ }
+    {
         let groups = self.groups;
         groups[group % 64]
     }
