@@ -2,4 +2,5 @@
 pub mod Alikes
 pub mod Answering
 pub mod Compared
+pub mod Reports
 pub mod Theorems

@@ -1,6 +1,6 @@
 // How many answers were compared, in all and group by group, and how many of them differ.
 use crate::answers::Answer;
-use crate::lines;
+use crate::differing::difference;
 use std::num::wrapping_add_u64;
 ghost use Prim.Native.Nat.{_%_};
 ghost use mathlib.Core.Path.{_≡_};
@@ -57,7 +57,7 @@ impl Tally {
             };
         }
         if differ == 0 {
-            lines::difference(group, at, got, wanted);
+            difference(group, at, got, wanted);
         }
         Tally {
             at,

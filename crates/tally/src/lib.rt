@@ -2,7 +2,8 @@
 mod answers;
 mod calls;
 mod counts;
-mod lines;
+mod differing;
+mod reporting;
 
 pub use answers::Answer;
 pub use answers::held;
@@ -14,4 +15,4 @@ pub use calls::row;
 pub use calls::searched;
 pub use calls::written;
 pub use counts::Tally;
-pub use lines::print;
+pub use reporting::report;
