@@ -1,6 +1,7 @@
 // The answers of the library's calls, all in one form.
 use crate::answers::Answer;
 use card::Asked;
+use card::Card;
 use card::Made;
 use search::Fed;
 use search::Searched;
@@ -104,7 +105,7 @@ pub fn row(answer: Made, q: usize) -> Answer
     let card = answer.card;
     let exits = card.exits;
     let firsts = card.firsts;
-    let place = q % 64;
+    let place = q % Card::GREATEST_PATTERN;
     Answer {
         number: refusal.number,
         place: refusal.place,

@@ -7,12 +7,15 @@ ghost use mathlib.Core.Path.{_≡_};
 ghost use lib.ListN.{getD};
 ghost use Rattle.tally.specs.Counts.{moreIn, comparedIn, nextAt};
 
+// How many groups there are.
+pub const GROUPS: usize = 64;
+
 pub struct Tally {
     // What is compared now, a number that tells where an answer differs.
     pub at: u64,
     pub ran: u64,
     pub differ: u64,
-    pub groups: [u64; 64],
+    pub groups: [u64; GROUPS],
 }
 
 impl Tally {
@@ -21,15 +24,15 @@ impl Tally {
         at: 0,
         ran: 0,
         differ: 0,
-        groups: [0; 64],
+        groups: [0; GROUPS],
     };
 
-    // So many more in a group, modulo 64.
+    // So many more in a group, modulo their number.
     pub fn more(self, group: usize, n: usize) -> Tally
         ensures { λ r. ⌜ r ≡ moreIn self group n ⌝ }
     {
         let mut groups = self.groups;
-        let i = group % 64;
+        let i = group % GROUPS;
         groups[i] = wrapping_add_u64(groups[i], n as u64);
         Tally {
             at: self.at,
@@ -85,6 +88,6 @@ impl Tally {
         ensures { λ r. ⌜ r ≡ getD (self .groups) (group % 64) 0 ⌝ }
     {
         let groups = self.groups;
-        groups[group % 64]
+        groups[group % GROUPS]
     }
 }

@@ -14,5 +14,6 @@ pub use calls::got;
 pub use calls::row;
 pub use calls::searched;
 pub use calls::written;
+pub use counts::GROUPS;
 pub use counts::Tally;
 pub use reporting::report;
