@@ -54,7 +54,8 @@ searched-once (Searched.Refused r) (Searched.Marked n z m) e = absurd (refused-o
 searched-once (Searched.Refused r) (Searched.Refused s) e = ap Searched.Refused (same-refusal r s e)
 
 pub searched-both :
-    (r : Searched) {o : Outcome Sums} {B : Type 0} → (toldSearched r ≡ o) × B → (toldSearched r ≡ o) × ((answerSearched r ≡ answer zeroSums o) × B)
+    (r : Searched) {o : Outcome Sums} {B : Type 0} → (toldSearched r ≡ o) × B →
+    (toldSearched r ≡ o) × ((answerSearched r ≡ answer zeroSums o) × B)
 unfolding answerSearched
 searched-both (Searched.Marked n z m) e = (e .0, (ap (answer zeroSums) (e .0), e .1))
 searched-both (Searched.Refused r) e = (e .0, (ap (answer zeroSums) (e .0), e .1))

@@ -6,7 +6,8 @@ use Rattle.text.specs.declared.refusal.Refusal.{Refusal}
 use Rattle.text.proofs.Outcomes.{refused-ok, refused-inj, ok-inj}
 use Rattle.stretch.specs.Pieces.{Span, toldVerdict, toldOpened, toldCounted, toldPart}
 use Rattle.stretch.specs.Places.{Found, found, end, Reading}
-use Rattle.stretch.specs.Answers.{Sum, zeroSum, toldChecked, answerChecked, toldWritten, answerWritten, toldGot, answerGot, answerReading}
+use Rattle.stretch.specs.Answers.{Sum, zeroSum, toldChecked, answerChecked, toldWritten, answerWritten}
+use Rattle.stretch.specs.Answers.{toldGot, answerGot, answerReading}
 use Rattle.stretch.specs.declared.pieces.Verdict.{Verdict}
 use Rattle.stretch.specs.declared.pieces.Opened.{Opened}
 use Rattle.stretch.specs.declared.pieces.Counted.{Counted}

@@ -22,7 +22,9 @@ abbrev μ-loop : tie.MeasureT-loop
 μ-loop stretch segments at₀ size₀ k₀ at size k = segments - k
 
 returns : tie.Need-returns Inv-loop μ-loop
-returns c = checked-both _ (sym (check-refused _ _ _ (frame-refused-open _ (c .before .before .before .«open» .ensures) (c .before .wrong .given .1))))
+returns c =
+    let wrong = frame-refused-open _ (c .before .before .before .«open» .ensures) (c .before .wrong .given .1) in
+    checked-both _ (sym (check-refused _ _ _ wrong))
 
 loop-holds : tie.Need-loop-holds Inv-loop μ-loop
 loop-holds c =
@@ -54,7 +56,8 @@ returns-3 c =
     let n = a .before .before in
     let told = n .before .before .«open» .ensures in
     let all = through-all _ _ _ _ _ _ (a .loop .inv .1) (n .segments .given .0 .0) (omega arith) in
-    checked-both _ (sym (check-refused _ _ _ (frame-refused-closed _ told (n .segments .given .1) all (d .closed .ensures) (c .before .wrong3 .given .1))))
+    let wrong = frame-refused-closed _ told (n .segments .given .1) all (d .closed .ensures) (c .before .wrong3 .given .1) in
+    checked-both _ (sym (check-refused _ _ _ wrong))
 
 returns-4 : tie.Need-returns-4 Inv-loop μ-loop
 returns-4 c =

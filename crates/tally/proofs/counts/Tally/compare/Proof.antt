@@ -10,7 +10,8 @@ returns c =
     let e = c .before in
     let w = e .before .before in
     let a = w .before .before .args in
-    compared-alike (a .self) (a .group) (a .got) (a .wanted) (w .before .more .ensures) (w .wrapping-add-u64 .ensures) (sym (e .equals .ensures) ∙ c .if1 .taken)
+    let same = sym (e .equals .ensures) ∙ c .if1 .taken in
+    compared-alike (a .self) (a .group) (a .got) (a .wanted) (w .before .more .ensures) (w .wrapping-add-u64 .ensures) same
 
 returns-2 : tie.Need-returns-2
 returns-2 c =
