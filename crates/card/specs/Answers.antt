@@ -2,7 +2,7 @@
 use Prim.Native.Nat.{ℕ}
 use mathlib.Core.List.{List}
 use lib.ListN.{replicate}
-use Rattle.text.specs.Refusal.{Outcome, ok, refused, after, pattern}
+use Rattle.text.specs.Refusal.{Outcome, ok, refused, after, pattern, Answer}
 use Rattle.text.specs.Card.{Row, Card, cardOf, empty}
 use Rattle.text.specs.Strand.{onStrand}
 use Rattle.text.specs.declared.strand.Strand.{Strand}
@@ -40,3 +40,11 @@ made (refused n p) = record { refusal = record { number = n; place = p }; card =
 abbrev pub toldAsked : Asked → Outcome Row
 toldAsked (Told state first) = ok (record { exit = state .bits; first = first })
 toldAsked (Asked.Refused r) = refused (r .number) (r .place)
+
+-- the same in numbers
+abbrev pub zeroRow : Row
+zeroRow = record { exit = 0; first = 0 }
+
+unfoldable pub answerAsked : Asked → Answer Row
+answerAsked (Told state first) = record { number = 0; place = 0; value = record { exit = state .bits; first = first } }
+answerAsked (Asked.Refused r) = record { number = r .number; place = r .place; value = zeroRow }

@@ -38,11 +38,11 @@ pub fn refused(number: u64, place: usize) -> Made
     Made {
         refusal: Refusal { number, place },
         card: Card {
-            pattern: [0; 64],
+            pattern: [0; Card::GREATEST_PATTERN],
             m: 0,
             segments: 0,
-            exits: [0; 64],
-            firsts: [0; 64],
+            exits: [0; Card::GREATEST_PATTERN],
+            firsts: [0; Card::GREATEST_PATTERN],
         },
     }
 }

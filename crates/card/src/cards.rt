@@ -18,17 +18,18 @@ use text::state::is_state;
 use text::strand::Strand;
 use text::strand::read_on;
 ghost use mathlib.Core.Path.{_≡_};
+ghost use Rattle.text.specs.Refusal.{answer};
 ghost use Rattle.text.specs.Card.{join, ask};
 ghost use Rattle.card.specs.Cards.{cardIn};
-ghost use Rattle.card.specs.Answers.{emptyOn, cardingOn, made, toldAsked};
+ghost use Rattle.card.specs.Answers.{emptyOn, cardingOn, made, toldAsked, answerAsked, zeroRow};
 
 // What comes of each carried length: row q says what comes of a lone q carried in, row 0 of nothing carried in.
 pub struct Card {
-    pub pattern: [u8; 64],
+    pub pattern: [u8; refusal::GREATEST_PATTERN],
     pub m: u8,
     pub segments: u32,
-    pub exits: [u64; 64],
-    pub firsts: [u32; 64],
+    pub exits: [u64; refusal::GREATEST_PATTERN],
+    pub firsts: [u32; refusal::GREATEST_PATTERN],
 }
 
 impl Card {
@@ -37,7 +38,7 @@ impl Card {
     // The most bytes of a stretch.
     pub const GREATEST_STRETCH: usize = refusal::GREATEST_STRETCH;
     // The most segments of a card.
-    pub const MOST_SEGMENTS: u32 = 4294967294;
+    pub const MOST_SEGMENTS: u32 = Card::NONE - 1;
     // The first end where none is.
     pub const NONE: u32 = 4294967295;
 
@@ -65,7 +66,8 @@ impl Card {
             PatternIs::Sound => {
                 let m = pattern.len();
                 let bytes = read_on(strand, pattern);
-                let mut marks = [0u8; refusal::MOST_IN_STRETCH];
+                // A segment has at least 3 bytes.
+                let mut marks = [0u8; Card::GREATEST_STRETCH / 3];
                 by_way_of(&bytes[..m], stretch, &mut marks)
             }
         }
@@ -93,6 +95,7 @@ impl Card {
     // What comes of a state: refusals 11, 17.
     pub fn ask(self, state: State) -> Asked
         ensures { λ r. ⌜ toldAsked r ≡ ask (cardIn self) (state .bits) ⌝ }
+        ensures { λ r. ⌜ answerAsked r ≡ answer zeroRow (ask (cardIn self) (state .bits)) ⌝ }
     {
         if !well_formed(self) {
             return Asked::Refused(Refusal {

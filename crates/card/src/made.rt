@@ -11,11 +11,11 @@ ghost use Rattle.text.specs.Card.{padded, emptyCard, join, joined};
 ghost use Rattle.card.specs.Cards.{cardIn, cardOut, lones};
 
 // The pattern's bytes: its bases, then 0.
-pub fn padded(pattern: &[u8]) -> [u8; 64]
+pub fn padded(pattern: &[u8]) -> [u8; Card::GREATEST_PATTERN]
     requires { ⌜ length (now pattern) ≤ 64 ⌝ }
     ensures { λ r. ⌜ r ≡ padded (now (pattern .entry)) ⌝ }
 {
-    let mut bytes = [0u8; 64];
+    let mut bytes = [0u8; Card::GREATEST_PATTERN];
     let mut i = 0;
     while i < pattern.len() {
         bytes[i] = pattern[i];
@@ -25,11 +25,11 @@ pub fn padded(pattern: &[u8]) -> [u8; 64]
 }
 
 // The exits of no segments: bit q alone in row q below m.
-fn lone(m: usize) -> [u64; 64]
+fn lone(m: usize) -> [u64; Card::GREATEST_PATTERN]
     requires { ⌜ m ≤ 64 ⌝ }
     ensures { λ r. ⌜ r ≡ lones m ⌝ }
 {
-    let mut exits = [0u64; 64];
+    let mut exits = [0u64; Card::GREATEST_PATTERN];
     let mut q = 0;
     while q < m {
         exits[q] = 1 << q;
@@ -51,7 +51,7 @@ pub fn nothing(pattern: &[u8]) -> Card
         m: m as u8,
         segments: 0,
         exits,
-        firsts: [Card::NONE; 64],
+        firsts: [Card::NONE; Card::GREATEST_PATTERN],
     }
 }
 

@@ -1,5 +1,6 @@
 // The rows of a card over one segment: what becomes of each lone length carried in, 1 to m - 1. The union of their states takes one
 // pass over each variant; each row is then a shift and a mask.
+use crate::cards::Card;
 use crate::carry::carry;
 use crate::ends::sooner;
 use stretch::pieces::Counted;
@@ -108,7 +109,7 @@ pub fn segment_rows(
         (now (exits .exit)) (now (firsts .exit)) (r .live) (r .next) ⌝ }
 {
     let all = count(stretch, at);
-    let mut next = [0u64; 64];
+    let mut next = [0u64; Card::GREATEST_PATTERN];
     let mut finished = 0;
     let mut from = at + 1;
     let mut j = 0;

@@ -33,7 +33,7 @@ fn wanted(p: &[u8], bytes: &[u8], verdict: Verdict, q: usize) -> Answer {
 fn named(made: Made, p: &[u8]) -> Answer {
     let card = made.card;
     let bytes = card.pattern;
-    let mut padded = [0u8; 64];
+    let mut padded = [0u8; Card::GREATEST_PATTERN];
     put_part(&mut padded, 0, p);
     held(Answer::told(card.m as usize, 0, 0), &bytes, &padded)
 }

@@ -11,6 +11,7 @@ mod writes;
 
 use straight::part;
 use tally::Tally;
+use tally::report;
 
 // How many texts are made.
 const TEXTS: u64 = 5000;
@@ -61,7 +62,8 @@ fn texts() -> Tally {
 }
 
 fn main() {
-    tally::print(
+    let mut out = [0u8; 4096];
+    let end = report(
         texts(),
         b"random texts accepted\n\n\n\n\n\n\n\nrandom texts refused with 8\n\n\n\n\n\n\n\n\n\nsegments of random texts\n\
           marked ones of them\n\n\n\n\n\n\n\n\n\n\n\n\ndamaged stretches accepted\ndamaged stretches refused with 1\n\
@@ -71,5 +73,7 @@ fn main() {
           checks\nreads, at every variant\nsearches, by bit-vectors and by border tables\nfeeds, segment by segment\n\
           cards, row by row\njoins of two parts, and what cards tell of states\nsearches on both strands\n",
         b" comparisons, ",
+        &mut out,
     );
+    io::write_all(1, part(&out, 0, end));
 }

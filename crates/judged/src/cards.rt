@@ -30,7 +30,11 @@ pub fn of(line: &[u8]) -> Made {
 fn nameless(made: Made) -> Answer {
     let card = made.card;
     let pattern = card.pattern;
-    held(Answer::told(card.m as usize, 0, 0), &pattern, &[0; 64])
+    held(
+        Answer::told(card.m as usize, 0, 0),
+        &pattern,
+        &[0; Card::GREATEST_PATTERN],
+    )
 }
 
 // A card that is to be refused, and all zeros.
@@ -87,7 +91,7 @@ fn with_base(card: Card, i: usize, base: u8) -> Card {
     let mut pattern = card.pattern;
     let exits = card.exits;
     let firsts = card.firsts;
-    pattern[i % 64] = base;
+    pattern[i % Card::GREATEST_PATTERN] = base;
     Card {
         pattern,
         m: card.m,
@@ -116,8 +120,8 @@ fn with_row(card: Card, q: usize, exit: u64, first: u32) -> Card {
     let pattern = card.pattern;
     let mut exits = card.exits;
     let mut firsts = card.firsts;
-    exits[q % 64] = exit;
-    firsts[q % 64] = first;
+    exits[q % Card::GREATEST_PATTERN] = exit;
+    firsts[q % Card::GREATEST_PATTERN] = first;
     Card {
         pattern,
         m: card.m,

@@ -12,6 +12,7 @@ use straight::part;
 use straight::put;
 use straight::put_part;
 use tally::Answer;
+use tally::GROUPS;
 use tally::Tally;
 use text::strand::Strand;
 
@@ -30,7 +31,7 @@ impl Bench {
         let card = none.card;
         Bench {
             tally: Tally::NONE,
-            group: 63,
+            group: GROUPS - 1,
             left: card,
             right: card,
         }
@@ -80,7 +81,7 @@ impl Bench {
         let right = self.right;
         Bench {
             tally,
-            group: wrapping_add_usize(self.group, 1) % 64,
+            group: wrapping_add_usize(self.group, 1) % GROUPS,
             left,
             right,
         }

@@ -9,6 +9,7 @@ mod words;
 use judging::headings;
 use judging::judged;
 use straight::part;
+use tally::report;
 
 fn main() {
     let mut input = [0u8; 32768];
@@ -16,5 +17,12 @@ fn main() {
     let examples = part(&input, 0, n);
     let mut names = [0u8; 1024];
     let k = headings(&mut names, examples);
-    tally::print(judged(examples), part(&names, 0, k), b" examples, ");
+    let mut out = [0u8; 4096];
+    let end = report(
+        judged(examples),
+        part(&names, 0, k),
+        b" examples, ",
+        &mut out,
+    );
+    io::write_all(1, part(&out, 0, end));
 }

@@ -1,10 +1,11 @@
--- Answers that are told alike are the same answer.
+-- Answers that are told alike are the same answer, and what they say in numbers is what they tell.
 use Prim.Native.Nat.{ℕ}
 use mathlib.Core.Path.{_≡_, sym, ap, ap₂}
-use Rattle.text.specs.Refusal.{Outcome, refused}
+use Rattle.text.specs.Refusal.{Outcome, refused, answer}
 use Rattle.text.specs.declared.refusal.Refusal.{Refusal}
 use Rattle.text.proofs.Outcomes.{refused-ok, refused-inj, ok-inj}
-use Rattle.search.specs.Answers.{Next, Seen, Sums, toldFed, toldSought, toldSearched}
+use Rattle.search.specs.Answers.{Next, zeroNext, toldFed, answerFed, Seen, zeroSeen, toldSought, answerSought}
+use Rattle.search.specs.Answers.{Sums, zeroSums, toldSearched, answerSearched}
 use Rattle.search.specs.declared.state.Fed.{Fed}
 use Rattle.search.specs.declared.state.Sought.{Sought}
 use Rattle.search.specs.declared.searching.Searched.{Searched}
@@ -20,6 +21,11 @@ fed-once (Fed.Next s t) (Fed.Refused r) e = absurd (refused-ok (r .number) (r .p
 fed-once (Fed.Refused r) (Fed.Next s t) e = absurd (refused-ok (r .number) (r .place) _ e)
 fed-once (Fed.Refused r) (Fed.Refused s) e = ap Fed.Refused (same-refusal r s e)
 
+pub fed-both : (r : Fed) {o : Outcome Next} → toldFed r ≡ o → (toldFed r ≡ o) × (answerFed r ≡ answer zeroNext o)
+unfolding answerFed
+fed-both (Fed.Next s t) e = (e, ap (answer zeroNext) e)
+fed-both (Fed.Refused r) e = (e, ap (answer zeroNext) e)
+
 pub sought-once : (a b : Sought) → toldSought a ≡ toldSought b → a ≡ b
 sought-once (Sought.Marked n z m s) (Sought.Marked n′ z′ m′ s′) e =
     let p : n ≡ n′ = ap (λ (x : Seen). x .segments) (ok-inj e) in
@@ -31,6 +37,12 @@ sought-once (Sought.Marked n z m s) (Sought.Refused r) e = absurd (refused-ok (r
 sought-once (Sought.Refused r) (Sought.Marked n z m s) e = absurd (refused-ok (r .number) (r .place) _ e)
 sought-once (Sought.Refused r) (Sought.Refused s) e = ap Sought.Refused (same-refusal r s e)
 
+pub sought-both :
+    (r : Sought) {o : Outcome Seen} {B : Type 0} → (toldSought r ≡ o) × B → (toldSought r ≡ o) × ((answerSought r ≡ answer zeroSeen o) × B)
+unfolding answerSought
+sought-both (Sought.Marked n z m s) e = (e .0, (ap (answer zeroSeen) (e .0), e .1))
+sought-both (Sought.Refused r) e = (e .0, (ap (answer zeroSeen) (e .0), e .1))
+
 pub searched-once : (a b : Searched) → toldSearched a ≡ toldSearched b → a ≡ b
 searched-once (Searched.Marked n z m) (Searched.Marked n′ z′ m′) e =
     let p : n ≡ n′ = ap (λ (x : Sums). x .segments) (ok-inj e) in
@@ -40,3 +52,10 @@ searched-once (Searched.Marked n z m) (Searched.Marked n′ z′ m′) e =
 searched-once (Searched.Marked n z m) (Searched.Refused r) e = absurd (refused-ok (r .number) (r .place) _ (sym e))
 searched-once (Searched.Refused r) (Searched.Marked n z m) e = absurd (refused-ok (r .number) (r .place) _ e)
 searched-once (Searched.Refused r) (Searched.Refused s) e = ap Searched.Refused (same-refusal r s e)
+
+pub searched-both :
+    (r : Searched) {o : Outcome Sums} {B : Type 0} → (toldSearched r ≡ o) × B →
+    (toldSearched r ≡ o) × ((answerSearched r ≡ answer zeroSums o) × B)
+unfolding answerSearched
+searched-both (Searched.Marked n z m) e = (e .0, (ap (answer zeroSums) (e .0), e .1))
+searched-both (Searched.Refused r) e = (e .0, (ap (answer zeroSums) (e .0), e .1))

@@ -1,13 +1,13 @@
 -- What a search and a feed answer, in document 01's numbers and values.
 use Prim.Native.Nat.{ℕ, _+_, _-_, _*_, _/_, _≤_, min}
 use mathlib.Core.Path.{_≡_}
-use mathlib.Core.Bool.{Bool, cond}
+use mathlib.Core.Bool.{Bool, false, cond}
 use mathlib.Core.List.{List}
 use lib.Dec.{leb}
 use lib.ListN.{length, take}
 use Rattle.text.specs.Text.{Text, total, size}
 use Rattle.text.specs.State.{isState, fresh, next, ends, run, marksFrom, marks}
-use Rattle.text.specs.Refusal.{Outcome, ok, refused, demand, after, pattern}
+use Rattle.text.specs.Refusal.{Outcome, ok, refused, demand, after, pattern, Answer}
 use Rattle.text.specs.Strand.{onStrand}
 use Rattle.text.specs.declared.strand.Strand.{Strand}
 use Rattle.stretch.specs.Bytes.{greatestStretch, over}
@@ -62,6 +62,15 @@ toldSought (Sought.Marked segments size ends state) =
     ok (record { segments = segments; size = size; ends = ends; state = state .bits })
 toldSought (Sought.Refused r) = refused (r .number) (r .place)
 
+-- the same in numbers
+abbrev pub zeroSeen : Seen
+zeroSeen = record { segments = 0; size = 0; ends = 0; state = 0 }
+
+unfoldable pub answerSought : Sought → Answer Seen
+answerSought (Sought.Marked segments size ends state) =
+    record { number = 0; place = 0; value = record { segments = segments; size = size; ends = ends; state = state .bits } }
+answerSought (Sought.Refused r) = record { number = r .number; place = r .place; value = zeroSeen }
+
 -- what a search tells of a text, from the fresh state
 pub record Sums : Type 0 where
   pub segments : ℕ
@@ -77,6 +86,15 @@ sumsOf P t = sums (seenFrom P fresh t)
 abbrev pub toldSearched : Searched → Outcome Sums
 toldSearched (Marked segments size ends) = ok (record { segments = segments; size = size; ends = ends })
 toldSearched (Searched.Refused r) = refused (r .number) (r .place)
+
+-- the same in numbers
+abbrev pub zeroSums : Sums
+zeroSums = record { segments = 0; size = 0; ends = 0 }
+
+unfoldable pub answerSearched : Searched → Answer Sums
+answerSearched (Marked segments size ends) =
+    record { number = 0; place = 0; value = record { segments = segments; size = size; ends = ends } }
+answerSearched (Searched.Refused r) = record { number = r .number; place = r .place; value = zeroSums }
 
 -- a buffer that holds the marks of an accepted text in front, as f gives them; after a refusal it may hold anything
 abbrev pub MarksOf : (Text → List ℕ) → Outcome Text → List ℕ → Type 0
@@ -138,3 +156,11 @@ feeding P strand st s = entering P st s (stepped (onStrand strand P) st s)
 abbrev pub toldFed : Fed → Outcome Next
 toldFed (Fed.Next state ends) = ok (record { state = state .bits; ends = ends })
 toldFed (Fed.Refused r) = refused (r .number) (r .place)
+
+-- the same in numbers
+abbrev pub zeroNext : Next
+zeroNext = record { state = 0; ends = false }
+
+unfoldable pub answerFed : Fed → Answer Next
+answerFed (Fed.Next state ends) = record { number = 0; place = 0; value = record { state = state .bits; ends = ends } }
+answerFed (Fed.Refused r) = record { number = r .number; place = r .place; value = zeroNext }

@@ -2,6 +2,8 @@
 // only one. It is one walk over the bytes with a word for each strand, and marks what the searches of the two strands mark together.
 use crate::both::run::stretch_both;
 use crate::both::words::masks_both;
+use crate::marking::MOST_IN_SMALL;
+use crate::marking::SMALL_STRETCH;
 use crate::marking::handed;
 use crate::searching::Searched;
 use crate::vectors::classes;
@@ -14,10 +16,10 @@ use text::strand::read_on;
 ghost use mathlib.Core.Path.{_≡_};
 ghost use Prim.Native.Nat.{_≤_, _<_};
 ghost use lib.ListN.{length};
-ghost use Rattle.text.specs.Refusal.{ok, after};
+ghost use Rattle.text.specs.Refusal.{ok, after, answer};
 ghost use Rattle.text.specs.Strand.{opposite};
 ghost use Rattle.stretch.specs.Answers.{leftBy};
-ghost use Rattle.search.specs.Answers.{searching, stretchInto, toldSearched, Roomy};
+ghost use Rattle.search.specs.Answers.{searching, stretchInto, toldSearched, answerSearched, zeroSums, Roomy};
 ghost use Rattle.search.specs.Either.{evens, odds, Founds, eitherMarks, eitherSums};
 
 mod run;
@@ -71,8 +73,8 @@ fn mark_both(pattern: &[u8], table: &[u64; 512], stretch: &[u8], marks: &mut [u8
     ensures { λ r. ⌜ now (marks .exit) ≡ leftBy (eitherMarks (now (pattern .entry)))
         (stretchInto (now (stretch .entry)) (length (now (marks .entry)))) (now (marks .entry)) ⌝ }
 {
-    if stretch.len() <= 1024 {
-        let mut found = [0u8; 340];
+    if stretch.len() <= SMALL_STRETCH {
+        let mut found = [0u8; MOST_IN_SMALL];
         return mark_both_by_way_of(pattern, table, stretch, &mut found, &mut *marks);
     }
     let mut found = [0u8; refusal::MOST_IN_STRETCH];
@@ -85,6 +87,9 @@ fn mark_both(pattern: &[u8], table: &[u64; 512], stretch: &[u8], marks: &mut [u8
 pub fn either(pattern: &[u8], stretch: &[u8], marks: &mut [u8]) -> Searched
     ensures { λ r. ⌜ toldSearched r ≡ after (searching (now (pattern .entry)) (now (stretch .entry)) (length (now (marks .entry))))
         (λ t. ok (eitherSums (now (pattern .entry)) t)) ⌝ }
+    ensures { λ r. ⌜ answerSearched r ≡ answer zeroSums
+        (after (searching (now (pattern .entry)) (now (stretch .entry)) (length (now (marks .entry))))
+        (λ t. ok (eitherSums (now (pattern .entry)) t))) ⌝ }
     ensures { λ r. ⌜ now (marks .exit) ≡ leftBy (eitherMarks (now (pattern .entry)))
         (searching (now (pattern .entry)) (now (stretch .entry)) (length (now (marks .entry)))) (now (marks .entry)) ⌝ }
 {

@@ -18,6 +18,11 @@ ghost use Rattle.search.specs.Answers.{stretchInto, seenFrom, toldSought
 ghost use Rattle.search.specs.Masks.{StateOf};
 ghost use Rattle.search.specs.Method.{Founded};
 
+// A stretch of so many bytes is small, and has at most so many segments: each has at least 3 bytes, behind the count's 2.
+pub const SMALL_STRETCH: usize = 1024;
+
+pub const MOST_IN_SMALL: usize = (SMALL_STRETCH - 2) / 3;
+
 // Copies `from` over the front of `to`.
 fn copy(from: &[u8], to: &mut [u8])
     requires { ⌜ length (now from) ≤ length (now to) ⌝ }
@@ -109,8 +114,8 @@ pub fn mark(
     ensures { λ r. ⌜ now (marks .exit) ≡ leftBy (marksFrom (now (pattern .entry)) (state .bits))
         (stretchInto (now (stretch .entry)) (length (now (marks .entry)))) (now (marks .entry)) ⌝ }
 {
-    if stretch.len() <= 1024 {
-        let mut found = [0u8; 340];
+    if stretch.len() <= SMALL_STRETCH {
+        let mut found = [0u8; MOST_IN_SMALL];
         return mark_by_way_of(
             method,
             pattern,

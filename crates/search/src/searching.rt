@@ -11,10 +11,10 @@ use text::strand::Strand;
 use text::strand::read_on;
 ghost use mathlib.Core.Path.{_≡_};
 ghost use lib.ListN.{length};
-ghost use Rattle.text.specs.Refusal.{ok, after};
+ghost use Rattle.text.specs.Refusal.{ok, after, answer};
 ghost use Rattle.text.specs.Strand.{onStrand};
 ghost use Rattle.stretch.specs.Answers.{leftBy};
-ghost use Rattle.search.specs.Answers.{searching, sumsOf, toldSearched, toldSought, sums, marked};
+ghost use Rattle.search.specs.Answers.{searching, sumsOf, toldSearched, answerSearched, zeroSums, toldSought, sums, marked};
 
 // The segment count, the size and the number of ones among the marks.
 pub enum Searched {
@@ -50,6 +50,9 @@ fn summed(sought: Sought) -> Searched
 pub fn by_bits(pattern: &[u8], strand: Strand, stretch: &[u8], marks: &mut [u8]) -> Searched
     ensures { λ r. ⌜ toldSearched r ≡ after (searching (now (pattern .entry)) (now (stretch .entry)) (length (now (marks .entry))))
         (λ t. ok (sumsOf (onStrand strand (now (pattern .entry))) t)) ⌝ }
+    ensures { λ r. ⌜ answerSearched r ≡ answer zeroSums
+        (after (searching (now (pattern .entry)) (now (stretch .entry)) (length (now (marks .entry))))
+        (λ t. ok (sumsOf (onStrand strand (now (pattern .entry))) t))) ⌝ }
     ensures { λ r. ⌜ now (marks .exit) ≡ leftBy (marked (onStrand strand (now (pattern .entry))))
         (searching (now (pattern .entry)) (now (stretch .entry)) (length (now (marks .entry)))) (now (marks .entry)) ⌝ }
 {
@@ -62,6 +65,9 @@ pub fn by_bits(pattern: &[u8], strand: Strand, stretch: &[u8], marks: &mut [u8])
 pub fn by_borders(pattern: &[u8], strand: Strand, stretch: &[u8], marks: &mut [u8]) -> Searched
     ensures { λ r. ⌜ toldSearched r ≡ after (searching (now (pattern .entry)) (now (stretch .entry)) (length (now (marks .entry))))
         (λ t. ok (sumsOf (onStrand strand (now (pattern .entry))) t)) ⌝ }
+    ensures { λ r. ⌜ answerSearched r ≡ answer zeroSums
+        (after (searching (now (pattern .entry)) (now (stretch .entry)) (length (now (marks .entry))))
+        (λ t. ok (sumsOf (onStrand strand (now (pattern .entry))) t))) ⌝ }
     ensures { λ r. ⌜ now (marks .exit) ≡ leftBy (marked (onStrand strand (now (pattern .entry))))
         (searching (now (pattern .entry)) (now (stretch .entry)) (length (now (marks .entry)))) (now (marks .entry)) ⌝ }
 {

@@ -16,14 +16,15 @@ use text::strand::read_on;
 ghost use mathlib.Core.Path.{_≡_};
 ghost use mathlib.Core.List.{[]};
 ghost use lib.ListN.{length};
-ghost use Rattle.text.specs.Refusal.{ok, after};
+ghost use Rattle.text.specs.Refusal.{ok, after, answer};
 ghost use Rattle.text.specs.State.{marksFrom};
 ghost use Rattle.text.specs.Strand.{onStrand};
 ghost use Rattle.stretch.specs.Reading.{segmentAt, many};
 ghost use Rattle.stretch.specs.Answers.{leftBy};
 ghost use Rattle.search.specs.Masks.{StateOf};
 ghost use Rattle.search.specs.Border.{Sized};
-ghost use Rattle.search.specs.Answers.{feeding, toldFed, courseOf, toldRan, seeking, seenFrom, toldSought};
+ghost use Rattle.search.specs.Answers.{feeding, toldFed, answerFed, zeroNext, courseOf, toldRan};
+ghost use Rattle.search.specs.Answers.{seeking, seenFrom, toldSought, answerSought, zeroSeen};
 ghost use Rattle.search.specs.Carried.{carriedBy};
 
 // Bit r is set when length r is carried, 1 to 63. Bit 0 is no length: an occurrence may start afresh.
@@ -62,6 +63,7 @@ impl State {
     // The state after a lone segment, of the pattern as the strand reads it: refusals 1, 2, 3, 4, 17, then 5 to 9.
     pub fn feed(self, pattern: &[u8], strand: Strand, segment: &[u8]) -> Fed
         ensures { λ r. ⌜ toldFed r ≡ feeding (now (pattern .entry)) strand (self .bits) (now (segment .entry)) ⌝ }
+        ensures { λ r. ⌜ answerFed r ≡ answer zeroNext (feeding (now (pattern .entry)) strand (self .bits) (now (segment .entry))) ⌝ }
     {
         if let Entry::Refused(refused) = enter(pattern, self, segment) {
             return Fed::Refused(refused);
@@ -92,6 +94,9 @@ impl State {
         ensures { λ r. ⌜ toldSought r
             ≡ after (seeking (now (pattern .entry)) (self .bits) (now (stretch .entry)) (length (now (marks .entry))))
             (λ t. ok (seenFrom (onStrand strand (now (pattern .entry))) (self .bits) t)) ⌝ }
+        ensures { λ r. ⌜ answerSought r ≡ answer zeroSeen
+            (after (seeking (now (pattern .entry)) (self .bits) (now (stretch .entry)) (length (now (marks .entry))))
+            (λ t. ok (seenFrom (onStrand strand (now (pattern .entry))) (self .bits) t))) ⌝ }
         ensures { λ r. ⌜ now (marks .exit) ≡ leftBy (marksFrom (onStrand strand (now (pattern .entry))) (self .bits))
             (seeking (now (pattern .entry)) (self .bits) (now (stretch .entry)) (length (now (marks .entry)))) (now (marks .entry)) ⌝ }
     {

@@ -1,16 +1,17 @@
 -- What the answers of the calls say, in document 01's numbers and values, and what they are to say.
 use Prim.Native.Nat.{ℕ, _+_}
 use mathlib.Core.Path.{_≡_}
+use mathlib.Core.Bool.{Bool, true, false}
 use mathlib.Core.List.{List}
 use lib.ListN.{length}
 use Rattle.text.specs.Text.{Segment, Text, total, weight, size}
-use Rattle.text.specs.Refusal.{Outcome, ok, refused, after}
+use Rattle.text.specs.Refusal.{Outcome, ok, refused, after, Answer, answer}
 use Rattle.stretch.specs.Pieces.{Span}
 use Rattle.stretch.specs.Reading.{Taken, variantAt, segmentAt, stretchOf}
 use Rattle.stretch.specs.Bytes.{word, over}
 use Rattle.stretch.specs.Encoding.{encode}
 use Rattle.stretch.specs.Writing.{Spot}
-use Rattle.stretch.specs.Places.{found, end, Reading}
+use Rattle.stretch.specs.Places.{Found, found, end, Reading}
 use Rattle.stretch.specs.Skips.{behindVariants}
 use Rattle.stretch.specs.declared.segment.Walked.{Walked}
 use Rattle.stretch.specs.declared.segment.Walked.the-variants.{To}
@@ -44,6 +45,14 @@ abbrev pub toldChecked : Checked → Outcome Sum
 toldChecked (Sound segments size) = ok (record { segments = segments; size = size })
 toldChecked (Checked.Refused r) = refused (r .number) (r .place)
 
+-- the same in numbers
+abbrev pub zeroSum : Sum
+zeroSum = record { segments = 0; size = 0 }
+
+unfoldable pub answerChecked : Checked → Answer Sum
+answerChecked (Sound segments size) = record { number = 0; place = 0; value = record { segments = segments; size = size } }
+answerChecked (Checked.Refused r) = record { number = r .number; place = r .place; value = zeroSum }
+
 unfoldable pub checking : List ℕ → Outcome Sum
 checking s = after (stretchOf s) λ t. ok (record { segments = length t; size = size t })
 
@@ -58,6 +67,31 @@ abbrev pub toldGot : Got → Reading
 toldGot (Got.Variant start len segment variant) = record { answer = ok (found start len); segment = segment; variant = variant }
 toldGot (End segment variant) = record { answer = ok end; segment = segment; variant = variant }
 toldGot (Got.Refused r segment variant) = record { answer = refused (r .number) (r .place); segment = segment; variant = variant }
+
+-- the same in numbers: where the part starts, its length, the end flag, and the place that goes with it
+pub record Handed : Type 0 where
+  pub start : ℕ
+  pub len : ℕ
+  pub ended : Bool
+  pub segment : ℕ
+  pub variant : ℕ
+
+abbrev pub handedOut : Found → ℕ → ℕ → Handed
+handedOut (found start len) j v = record { start = start; len = len; ended = false; segment = j; variant = v }
+handedOut end j v = record { start = 0; len = 0; ended = true; segment = j; variant = v }
+
+-- no end flag and an empty part; the place is kept
+abbrev pub zeroHanded : ℕ → ℕ → Handed
+zeroHanded j v = record { start = 0; len = 0; ended = false; segment = j; variant = v }
+
+unfoldable pub answerGot : Got → Answer Handed
+answerGot (Got.Variant start len j v) = record { number = 0; place = 0; value = handedOut (found start len) j v }
+answerGot (End j v) = record { number = 0; place = 0; value = handedOut end j v }
+answerGot (Got.Refused r j v) = record { number = r .number; place = r .place; value = zeroHanded j v }
+
+abbrev pub answerReading : Reading → Answer Handed
+answerReading x =
+    answer (zeroHanded (x .segment) (x .variant)) (after (x .answer) λ f. ok (handedOut f (x .segment) (x .variant)))
 
 -- variant v of segment j, whose count stands at `at`
 abbrev pub handedAt : List ℕ → ℕ → ℕ → ℕ → Reading
@@ -76,6 +110,11 @@ reached o = after o λ x. ok (x .next .letter)
 abbrev pub toldWritten : Written → Outcome ℕ
 toldWritten (Bytes n) = ok n
 toldWritten (Written.Refused r) = refused (r .number) (r .place)
+
+-- the same in numbers
+unfoldable pub answerWritten : Written → Answer ℕ
+answerWritten (Bytes n) = record { number = 0; place = 0; value = n }
+answerWritten (Written.Refused r) = record { number = r .number; place = r .place; value = 0 }
 
 abbrev pub written : Outcome Text → Outcome ℕ
 written o = after o λ t. ok (length (encode t))

@@ -7,7 +7,8 @@ use crate::segment::Walked;
 use crate::segment::segment_at;
 use text::Refusal;
 ghost use mathlib.Core.Path.{_≡_};
-ghost use Rattle.stretch.specs.Answers.{toldChecked, checking};
+ghost use Rattle.text.specs.Refusal.{answer};
+ghost use Rattle.stretch.specs.Answers.{toldChecked, answerChecked, zeroSum, checking};
 
 // The segment count and the size of a sound stretch.
 pub enum Checked {
@@ -18,6 +19,7 @@ pub enum Checked {
 // Refusals 4, the first of 5 to 8 in byte order, 9 and 16.
 pub fn check(stretch: &[u8]) -> Checked
     ensures { λ r. ⌜ toldChecked r ≡ checking (now (stretch .entry)) ⌝ }
+    ensures { λ r. ⌜ answerChecked r ≡ answer zeroSum (checking (now (stretch .entry))) ⌝ }
 {
     let segments = match open(stretch) {
         Opened::Refused(wrong) => {

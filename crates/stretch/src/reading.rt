@@ -13,7 +13,7 @@ ghost use lib.ListN.{length};
 ghost use Rattle.stretch.specs.Pieces.{nextOf};
 ghost use Rattle.stretch.specs.Skips.{behindVariants};
 ghost use Rattle.stretch.specs.Places.{reading, partOf};
-ghost use Rattle.stretch.specs.Answers.{Accepted, toldGot, handedAt};
+ghost use Rattle.stretch.specs.Answers.{Accepted, toldGot, answerGot, answerReading, handedAt};
 
 // What a read finds, and the place that goes with it.
 pub enum Got {
@@ -73,7 +73,8 @@ fn from_place(stretch: &[u8], segments: usize, segment: usize, variant: usize) -
 
 // The first variant at or after a place. Refusals 4, 5 to 9 and 16.
 pub fn read(stretch: &[u8], segment: usize, variant: usize) -> Got
-    ensures { λ r. ⌜ toldGot r ≡ reading (now (stretch .entry)) segment variant ⌝ }
+    ensures { λ r. ⌜ (toldGot r ≡ reading (now (stretch .entry)) segment variant)
+        × (answerGot r ≡ answerReading (reading (now (stretch .entry)) segment variant)) ⌝ }
 {
     match check(stretch) {
         Checked::Refused(refusal) => Got::Refused {

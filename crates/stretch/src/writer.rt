@@ -9,10 +9,10 @@ use text::Refusal;
 use text::refusal;
 ghost use mathlib.Core.Path.{_≡_};
 ghost use lib.ListN.{length};
-ghost use Rattle.text.specs.Refusal.{refused};
+ghost use Rattle.text.specs.Refusal.{refused, answer};
 ghost use Rattle.stretch.specs.Encoding.{encode};
 ghost use Rattle.stretch.specs.Writing.{writing};
-ghost use Rattle.stretch.specs.Answers.{toldWritten, written, leftBy};
+ghost use Rattle.stretch.specs.Answers.{toldWritten, answerWritten, written, leftBy};
 
 mod bytes;
 mod sound;
@@ -36,6 +36,8 @@ fn refused_at_0(number: u64) -> Written
 pub fn write(letters: &[u8], lengths: &[u16], counts: &[u8], out: &mut [u8]) -> Written
     ensures answer { λ r. ⌜ toldWritten r ≡ written
         (writing (now (letters .entry)) (now (lengths .entry)) (now (counts .entry)) (length (now (out .entry)))) ⌝ }
+    ensures numbers { λ r. ⌜ answerWritten r ≡ answer 0 (written
+        (writing (now (letters .entry)) (now (lengths .entry)) (now (counts .entry)) (length (now (out .entry))))) ⌝ }
     ensures buffer { λ r. ⌜ now (out .exit) ≡ leftBy encode
         (writing (now (letters .entry)) (now (lengths .entry)) (now (counts .entry)) (length (now (out .entry))))
         (now (out .entry)) ⌝ }

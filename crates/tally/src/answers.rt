@@ -1,5 +1,7 @@
 // A call's answer in numbers: refusal number and place, and up to three results, 0 where the call has fewer or refuses.
 use check::same;
+ghost use mathlib.Core.Path.{_≡_};
+ghost use Rattle.tally.specs.Answers.{refusedAs, toldAs, alike, heldAs};
 
 pub struct Answer {
     pub number: u64,
@@ -11,7 +13,9 @@ pub struct Answer {
 
 impl Answer {
     // A call that is refused.
-    pub fn refused(number: u64, place: usize) -> Answer {
+    pub fn refused(number: u64, place: usize) -> Answer
+        ensures { λ r. ⌜ r ≡ refusedAs number place ⌝ }
+    {
         Answer {
             number,
             place,
@@ -22,7 +26,9 @@ impl Answer {
     }
 
     // A call that is accepted, with its results.
-    pub fn told(first: usize, second: usize, third: usize) -> Answer {
+    pub fn told(first: usize, second: usize, third: usize) -> Answer
+        ensures { λ r. ⌜ r ≡ toldAs first second third ⌝ }
+    {
         Answer {
             number: 0,
             place: 0,
@@ -33,17 +39,29 @@ impl Answer {
     }
 
     // Whether two answers are the same.
-    pub fn equals(self, other: Answer) -> bool {
-        self.number == other.number
-            && self.place == other.place
-            && self.first == other.first
-            && self.second == other.second
-            && self.third == other.third
+    pub fn equals(self, other: Answer) -> bool
+        ensures { λ r. ⌜ r ≡ alike self other ⌝ }
+    {
+        if self.number != other.number {
+            return false;
+        }
+        if self.place != other.place {
+            return false;
+        }
+        if self.first != other.first {
+            return false;
+        }
+        if self.second != other.second {
+            return false;
+        }
+        self.third == other.third
     }
 }
 
 // The answer of a call that is to leave these bytes in its buffer; where it leaves others, a refusal that no call gives.
-pub fn held(answer: Answer, buffer: &[u8], wanted: &[u8]) -> Answer {
+pub fn held(answer: Answer, buffer: &[u8], wanted: &[u8]) -> Answer
+    ensures { λ r. ⌜ r ≡ heldAs answer (now (buffer .entry)) (now (wanted .entry)) ⌝ }
+{
     if same(buffer, wanted) {
         return answer;
     }

@@ -1,15 +1,20 @@
 // The answers of the library's calls, all in one form.
 use crate::answers::Answer;
 use card::Asked;
+use card::Card;
 use card::Made;
 use search::Fed;
 use search::Searched;
 use stretch::Checked;
 use stretch::Got;
 use stretch::Written;
+ghost use mathlib.Core.Path.{_≡_};
+ghost use Rattle.tally.specs.Answers.{checkedAs, writtenAs, gotAs, searchedAs, fedAs, askedAs, rowAs};
 
 // A check: segment count and size.
-pub fn checked(answer: Checked) -> Answer {
+pub fn checked(answer: Checked) -> Answer
+    ensures { λ r. ⌜ r ≡ checkedAs answer ⌝ }
+{
     match answer {
         Checked::Sound { segments, size } => Answer::told(segments, size, 0),
         Checked::Refused(refused) => Answer::refused(refused.number, refused.place),
@@ -17,7 +22,9 @@ pub fn checked(answer: Checked) -> Answer {
 }
 
 // A write: how many bytes were written.
-pub fn written(answer: Written) -> Answer {
+pub fn written(answer: Written) -> Answer
+    ensures { λ r. ⌜ r ≡ writtenAs answer ⌝ }
+{
     match answer {
         Written::Bytes(bytes) => Answer::told(bytes, 0, 0),
         Written::Refused(refused) => Answer::refused(refused.number, refused.place),
@@ -26,7 +33,9 @@ pub fn written(answer: Written) -> Answer {
 
 // A read that is to find so many letters: where they start, 0 for the end and a refusal, and the place that goes with it. A
 // refusal that no call gives where it finds more or fewer.
-pub fn got(answer: Got, letters: usize) -> Answer {
+pub fn got(answer: Got, letters: usize) -> Answer
+    ensures { λ r. ⌜ r ≡ gotAs answer letters ⌝ }
+{
     match answer {
         Got::Variant {
             start,
@@ -55,7 +64,9 @@ pub fn got(answer: Got, letters: usize) -> Answer {
 }
 
 // A search: segment count, size and number of ones.
-pub fn searched(answer: Searched) -> Answer {
+pub fn searched(answer: Searched) -> Answer
+    ensures { λ r. ⌜ r ≡ searchedAs answer ⌝ }
+{
     match answer {
         Searched::Marked {
             segments,
@@ -67,7 +78,9 @@ pub fn searched(answer: Searched) -> Answer {
 }
 
 // A feed: the bits of the next state, and whether an occurrence ends.
-pub fn fed(answer: Fed) -> Answer {
+pub fn fed(answer: Fed) -> Answer
+    ensures { λ r. ⌜ r ≡ fedAs answer ⌝ }
+{
     match answer {
         Fed::Next { state, ends } => Answer::told(state.bits as usize, ends as usize, 0),
         Fed::Refused(refused) => Answer::refused(refused.number, refused.place),
@@ -75,7 +88,9 @@ pub fn fed(answer: Fed) -> Answer {
 }
 
 // What a card tells of a state: the bits of the state behind the stretch, and the first end.
-pub fn asked(answer: Asked) -> Answer {
+pub fn asked(answer: Asked) -> Answer
+    ensures { λ r. ⌜ r ≡ askedAs answer ⌝ }
+{
     match answer {
         Asked::Told { state, first } => Answer::told(state.bits as usize, first as usize, 0),
         Asked::Refused(refused) => Answer::refused(refused.number, refused.place),
@@ -83,12 +98,14 @@ pub fn asked(answer: Asked) -> Answer {
 }
 
 // A card, at row q modulo 64: the row's exit and first end, and the segment count. Beside a refusal all of them are to be 0.
-pub fn row(answer: Made, q: usize) -> Answer {
+pub fn row(answer: Made, q: usize) -> Answer
+    ensures { λ r. ⌜ r ≡ rowAs answer q ⌝ }
+{
     let refusal = answer.refusal;
     let card = answer.card;
     let exits = card.exits;
     let firsts = card.firsts;
-    let place = q % 64;
+    let place = q % Card::GREATEST_PATTERN;
     Answer {
         number: refusal.number,
         place: refusal.place,

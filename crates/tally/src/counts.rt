@@ -1,14 +1,21 @@
 // How many answers were compared, in all and group by group, and how many of them differ.
 use crate::answers::Answer;
-use crate::lines;
+use crate::differing::difference;
 use std::num::wrapping_add_u64;
+ghost use Prim.Native.Nat.{_%_};
+ghost use mathlib.Core.Path.{_≡_};
+ghost use lib.ListN.{getD};
+ghost use Rattle.tally.specs.Counts.{moreIn, comparedIn, nextAt};
+
+// How many groups there are.
+pub const GROUPS: usize = 64;
 
 pub struct Tally {
     // What is compared now, a number that tells where an answer differs.
     pub at: u64,
     pub ran: u64,
     pub differ: u64,
-    pub groups: [u64; 64],
+    pub groups: [u64; GROUPS],
 }
 
 impl Tally {
@@ -17,13 +24,15 @@ impl Tally {
         at: 0,
         ran: 0,
         differ: 0,
-        groups: [0; 64],
+        groups: [0; GROUPS],
     };
 
-    // So many more in a group, modulo 64.
-    pub fn more(self, group: usize, n: usize) -> Tally {
+    // So many more in a group, modulo their number.
+    pub fn more(self, group: usize, n: usize) -> Tally
+        ensures { λ r. ⌜ r ≡ moreIn self group n ⌝ }
+    {
         let mut groups = self.groups;
-        let i = group % 64;
+        let i = group % GROUPS;
         groups[i] = wrapping_add_u64(groups[i], n as u64);
         Tally {
             at: self.at,
@@ -34,7 +43,9 @@ impl Tally {
     }
 
     // One answer more in a group, which is to be the wanted one. The first that differs is printed.
-    pub fn compare(self, group: usize, got: Answer, wanted: Answer) -> Tally {
+    pub fn compare(self, group: usize, got: Answer, wanted: Answer) -> Tally
+        ensures { λ r. ⌜ r ≡ comparedIn self group got wanted ⌝ }
+    {
         let counted = self.more(group, 1);
         let at = self.at;
         let ran = wrapping_add_u64(self.ran, 1);
@@ -49,7 +60,7 @@ impl Tally {
             };
         }
         if differ == 0 {
-            lines::difference(group, at, got, wanted);
+            difference(group, at, got, wanted);
         }
         Tally {
             at,
@@ -60,7 +71,9 @@ impl Tally {
     }
 
     // The same, for what is compared next.
-    pub fn next(self, at: u64) -> Tally {
+    pub fn next(self, at: u64) -> Tally
+        ensures { λ r. ⌜ r ≡ nextAt self at ⌝ }
+    {
         let groups = self.groups;
         Tally {
             at,
@@ -71,8 +84,10 @@ impl Tally {
     }
 
     // A group's count.
-    pub fn of(self, group: usize) -> u64 {
+    pub fn of(self, group: usize) -> u64
+        ensures { λ r. ⌜ r ≡ getD (self .groups) (group % 64) 0 ⌝ }
+    {
         let groups = self.groups;
-        groups[group % 64]
+        groups[group % GROUPS]
     }
 }

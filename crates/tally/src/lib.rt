@@ -2,7 +2,8 @@
 mod answers;
 mod calls;
 mod counts;
-mod lines;
+mod differing;
+mod reporting;
 
 pub use answers::Answer;
 pub use answers::held;
@@ -13,5 +14,6 @@ pub use calls::got;
 pub use calls::row;
 pub use calls::searched;
 pub use calls::written;
+pub use counts::GROUPS;
 pub use counts::Tally;
-pub use lines::print;
+pub use reporting::report;

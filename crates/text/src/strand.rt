@@ -27,7 +27,7 @@ pub fn complement(c: u8) -> u8
 }
 
 // The pattern as a strand reads it, then zeros; of over 64 bytes the first 64, as they stand.
-pub fn read_on(strand: Strand, pattern: &[u8]) -> [u8; 64]
+pub fn read_on(strand: Strand, pattern: &[u8]) -> [u8; refusal::GREATEST_PATTERN]
     ensures { λ r. ⌜ r ≡ readOn strand (now (pattern .entry)) ⌝ }
 {
     let m = pattern.len();
@@ -42,11 +42,11 @@ pub fn read_on(strand: Strand, pattern: &[u8]) -> [u8; 64]
 }
 
 // Up to 64 bytes as they stand, then zeros.
-fn copied(part: &[u8]) -> [u8; 64]
+fn copied(part: &[u8]) -> [u8; refusal::GREATEST_PATTERN]
     requires { ⌜ length (now part) ≤ greatestPattern ⌝ }
     ensures { λ r. ⌜ r ≡ padded (now (part .entry)) ⌝ }
 {
-    let mut bytes = [0u8; 64];
+    let mut bytes = [0u8; refusal::GREATEST_PATTERN];
     let mut i = 0;
     while i < part.len() {
         bytes[i] = part[i];
@@ -56,11 +56,11 @@ fn copied(part: &[u8]) -> [u8; 64]
 }
 
 // The reverse complement of up to 64 bytes, then zeros.
-fn turned(part: &[u8]) -> [u8; 64]
+fn turned(part: &[u8]) -> [u8; refusal::GREATEST_PATTERN]
     requires { ⌜ length (now part) ≤ greatestPattern ⌝ }
     ensures { λ r. ⌜ r ≡ padded (opposite (now (part .entry))) ⌝ }
 {
-    let mut bytes = [0u8; 64];
+    let mut bytes = [0u8; refusal::GREATEST_PATTERN];
     let mut i = 0;
     while i < part.len() {
         let from = part.len() - 1 - i;

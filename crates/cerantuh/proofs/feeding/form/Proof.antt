@@ -6,13 +6,18 @@ use Rattle.cerantuh.proofs.feeding.form.Tie as tie
 
 code-requires : tie.Need-code-requires
 code-requires c κs =
-    fed-fits _ _ _ _ (c .before .before .before .before .before .before .before .args .block .now) _ (c .before .before .before .feed .ensures) _ (c .before .wrong .given .1)
+    let fed = c .before .before .before in
+    fed-fits _ _ _ _ (fed .before .before .before .before .args .block .now) _ (fed .feed .ensures .0) _ (c .before .wrong .given .1)
 
 returns : tie.Need-returns
-returns c = form-short _ _ _ _ _ _ (c .before .before .before .before .feed .ensures) _ _ (c .before .before .after .given .1) (c .if1 .taken)
+returns c =
+    let fed = c .before .before .before .before in
+    form-short _ _ _ _ _ _ (fed .feed .ensures .0) _ _ (c .before .before .after .given .1) (c .if1 .taken)
 
 returns-2 : tie.Need-returns-2
-returns-2 c = form-not _ _ _ _ _ _ (c .before .before .before .before .feed .ensures) _ (c .before .before .wrong .given .1) _ (c .code .ensures)
+returns-2 c =
+    let fed = c .before .before .before .before in
+    form-not _ _ _ _ _ _ (fed .feed .ensures .0) _ (c .before .before .wrong .given .1) _ (c .code .ensures)
 
 returns-3 : tie.Need-returns-3
 returns-3 c =
@@ -20,7 +25,8 @@ returns-3 c =
     let first = second .before .before .before .before in
     let room = first .before .before in
     let fed = room .before .before .before .before in
-    form-room _ _ _ _ (fed .before .before .before .before .args .block .now) _ (fed .feed .ensures) _ _ (room .before .before .after .given .1) _ _
+    let told = fed .feed .ensures .0 in
+    form-room _ _ _ _ (fed .before .before .before .before .args .block .now) _ told _ _ (room .before .before .after .given .1) _ _
     (room .if1 .left) (first .put .ensures) (second .put2 .ensures)
 
 pub form-spec : {M : Type 1} → statement M

@@ -21,7 +21,7 @@ sound c = sym (c .before .before .check .ensures) ∙ ap toldPattern (c .enum-to
 
 code-requires-2 : tie.Need-code-requires-2
 code-requires-2 c κs =
-    let small = checking-small _ _ _ (sym (c .before .before .before .check2 .ensures) ∙ ap toldChecked (c .before .wrong2 .given .1)) in
+    let small = checking-small _ _ _ (sym (c .before .before .before .check2 .ensures .0) ∙ ap toldChecked (c .before .wrong2 .given .1)) in
     omega (arith, small)
 
 returns : tie.Need-returns
@@ -33,12 +33,12 @@ returns c =
 returns-2 : tie.Need-returns-2
 returns-2 c =
     let d = c .before .before in
-    let wrong = sym (d .before .before .check2 .ensures) ∙ ap toldChecked (d .wrong2 .given .1) in
+    let wrong = sym (d .before .before .check2 .ensures .0) ∙ ap toldChecked (d .wrong2 .given .1) in
     c .code2 .ensures ∙ sym (ap coded (short-stretch _ _ 0 0 (omega arith) (sound (d .before .before .before)) _ _ wrong))
 
 returns-3 : tie.Need-returns-3
 returns-3 c =
-    let good = sym (c .before .before .check2 .ensures) ∙ ap toldChecked (c .enum-told2 .given .1) in
+    let good = sym (c .before .before .check2 .ensures .0) ∙ ap toldChecked (c .enum-told2 .given .1) in
     sym (ap coded (short-sound _ _ 0 0 (omega arith) (sound (c .before .before .before)) _ good))
 
 pub roomless-spec : {M : Type 1} → statement M

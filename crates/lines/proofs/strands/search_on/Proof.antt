@@ -5,10 +5,16 @@ use Rattle.lines.proofs.strands.search_on.Statement.{statement}
 use Rattle.lines.proofs.strands.search_on.Tie as tie
 
 returns : tie.Need-returns
-returns c = let d = c .before .before in known-on (d .before .before .before .strands .given .1) _ _ _ _ _ (d .by-bits .result) (d .by-bits .ensures)
+returns c =
+    let d = c .before .before in
+    let e = d .by-bits .ensures in
+    known-on (d .before .before .before .strands .given .1) _ _ _ _ _ (d .by-bits .result) (e .0, e .1 .1)
 
 returns-2 : tie.Need-returns-2
-returns-2 c = let d = c .before .before in known-on (d .before .before .enum-told .given .1) _ _ _ _ _ (d .either .result) (d .either .ensures)
+returns-2 c =
+    let d = c .before .before in
+    let e = d .either .ensures in
+    known-on (d .before .before .enum-told .given .1) _ _ _ _ _ (d .either .result) (e .0, e .1 .1)
 
 pub search-on-spec : {M : Type 1} → statement M
 search-on-spec =

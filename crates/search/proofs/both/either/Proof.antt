@@ -9,6 +9,7 @@ use Rattle.text.proofs.Strands.{strand-sound}
 use Rattle.search.specs.Masks.{Masks}
 use Rattle.search.proofs.ReadOns.{read-is, read-length, read-room}
 use Rattle.search.proofs.Markings.{pattern-not, pattern-asked}
+use Rattle.search.proofs.Told.{searched-both}
 use Rattle.search.proofs.both.either.Statement.{statement}
 use Rattle.search.proofs.both.either.Tie as tie
 
@@ -39,14 +40,17 @@ mark-both-requires c κs =
     )
 
 returns : tie.Need-returns
-returns c = pattern-not _ _ _ _ _ _ _ (sym (c .before .before .before .check .ensures) ∙ ap toldPattern (c .before .refused .given .1))
+returns c =
+    let wrong = sym (c .before .before .before .check .ensures) ∙ ap toldPattern (c .before .refused .given .1) in
+    searched-both _ (pattern-not _ _ _ _ _ _ _ wrong)
 
 returns-2 : tie.Need-returns-2
 returns-2 c =
     let e = c .before .before in
     let r = e .before .before .before .before .before in
     let a = r .before .before .before .before .before .before .before .args in
-    pattern-asked _ _ (a .marks .now) (a .pattern .now) (a .stretch .now) (sound (r .before)) _ _ (e .mark-both .ensures)
+    searched-both _
+    (pattern-asked _ _ (a .marks .now) (a .pattern .now) (a .stretch .now) (sound (r .before)) _ _ (e .mark-both .ensures))
 
 pub either-spec : {M : Type 1} → statement M
 either-spec =

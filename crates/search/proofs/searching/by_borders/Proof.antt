@@ -8,6 +8,7 @@ use Rattle.search.proofs.Entries.{fresh-state}
 use Rattle.search.proofs.ReadOns.{read-is, read-length, read-room, read-sized, read-state}
 use Rattle.search.proofs.Markings.{pattern-not}
 use Rattle.search.proofs.Searches.{pattern-marked}
+use Rattle.search.proofs.Told.{searched-both}
 use Rattle.search.proofs.searching.by_borders.Statement.{statement}
 use Rattle.search.proofs.searching.by_borders.Tie as tie
 
@@ -35,7 +36,9 @@ mark-requires c κs =
     )
 
 returns : tie.Need-returns
-returns c = pattern-not _ _ _ _ _ _ _ (sym (c .before .before .before .check .ensures) ∙ ap toldPattern (c .before .refused .given .1))
+returns c =
+    let wrong = sym (c .before .before .before .check .ensures) ∙ ap toldPattern (c .before .refused .given .1) in
+    searched-both _ (pattern-not _ _ _ _ _ _ _ wrong)
 
 returns-2 : tie.Need-returns-2
 returns-2 c =
@@ -43,8 +46,9 @@ returns-2 c =
     let r = d .before .before .before .before .before in
     let y = sound (r .before) in
     let a = c .before .before .before .before .before .before .before .before .before .before .before .before .before .before .before .args in
-    pattern-marked (a .pattern .now) _ (a .stretch .now) (a .marks .now) y _ (read-is (a .strand) _ _ (r .read-on .ensures) y) _ _ _
-    (d .mark .ensures) (c .summed .ensures)
+    let read = read-is (a .strand) _ _ (r .read-on .ensures) y in
+    searched-both _
+    (pattern-marked (a .pattern .now) _ (a .stretch .now) (a .marks .now) y _ read _ _ _ (d .mark .ensures) (c .summed .ensures))
 
 pub by-borders-spec : {M : Type 1} → statement M
 by-borders-spec =

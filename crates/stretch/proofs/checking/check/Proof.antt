@@ -11,6 +11,7 @@ use Rattle.stretch.proofs.Frames.{frame-opens, frame-count, frame-sound
 use Rattle.stretch.proofs.Frames.{frame-refused-open, frame-refused-inside, frame-refused-closed}
 use Rattle.stretch.proofs.Stretches.{InStretch, through-none, through-more, through-refused, through-all, check-refused, check-sound}
 use Rattle.stretch.proofs.Segments.{walked-met, walked-not}
+use Rattle.stretch.proofs.Told.{checked-both}
 use Rattle.stretch.proofs.checking.check.Statement.{statement}
 use Rattle.stretch.proofs.checking.check.Tie as tie
 
@@ -21,7 +22,9 @@ abbrev μ-loop : tie.MeasureT-loop
 μ-loop stretch segments at₀ size₀ k₀ at size k = segments - k
 
 returns : tie.Need-returns Inv-loop μ-loop
-returns c = sym (check-refused _ _ _ (frame-refused-open _ (c .before .before .before .«open» .ensures) (c .before .wrong .given .1)))
+returns c =
+    let wrong = frame-refused-open _ (c .before .before .before .«open» .ensures) (c .before .wrong .given .1) in
+    checked-both _ (sym (check-refused _ _ _ wrong))
 
 loop-holds : tie.Need-loop-holds Inv-loop μ-loop
 loop-holds c =
@@ -35,7 +38,7 @@ returns-2 c =
     let n = a .before .before in
     let wrong = walked-not _ _ _ _ (sym (d .segment-at .ensures) ∙ ap toldWalked (c .before .wrong2 .given .1)) in
     let all = through-refused _ _ _ _ _ _ (a .loop .inv .1) _ (d .before .loop-test .taken) _ _ wrong in
-    sym (check-refused _ _ _ (frame-refused-inside _ (n .before .before .«open» .ensures) (n .segments .given .1) all))
+    checked-both _ (sym (check-refused _ _ _ (frame-refused-inside _ (n .before .before .«open» .ensures) (n .segments .given .1) all)))
 
 loop-again : tie.Need-loop-again Inv-loop μ-loop
 loop-again c =
@@ -53,7 +56,8 @@ returns-3 c =
     let n = a .before .before in
     let told = n .before .before .«open» .ensures in
     let all = through-all _ _ _ _ _ _ (a .loop .inv .1) (n .segments .given .0 .0) (omega arith) in
-    sym (check-refused _ _ _ (frame-refused-closed _ told (n .segments .given .1) all (d .closed .ensures) (c .before .wrong3 .given .1)))
+    let wrong = frame-refused-closed _ told (n .segments .given .1) all (d .closed .ensures) (c .before .wrong3 .given .1) in
+    checked-both _ (sym (check-refused _ _ _ wrong))
 
 returns-4 : tie.Need-returns-4 Inv-loop μ-loop
 returns-4 c =
@@ -64,7 +68,7 @@ returns-4 c =
     let m = a .loop .inv .1 in
     let all = through-all _ _ _ _ _ _ m (n .segments .given .0 .0) (omega arith) in
     let sound = frame-sound _ told (n .segments .given .1) all (d .closed .ensures) (c .enum-told .given .1) in
-    sym (check-sound _ _ _ _ sound (frame-count _ told (n .segments .given .1) all) (m .sum))
+    checked-both _ (sym (check-sound _ _ _ _ sound (frame-count _ told (n .segments .given .1) all) (m .sum)))
 
 pub check-spec : {M : Type 1} → statement M
 check-spec =

@@ -8,6 +8,7 @@ use Rattle.stretch.specs.Writing.{Matching, needed}
 use Rattle.stretch.specs.Answers.{toldReached}
 use Rattle.stretch.proofs.Writings.{Fitting, sums-match, counts-refused, lengths-refused, long-refused, given-refused}
 use Rattle.stretch.proofs.Writings.{room-refused, refused-leaves, accepted-leaves}
+use Rattle.stretch.proofs.Told.{written-both}
 use Rattle.stretch.proofs.writer.write.Statement.{statement}
 use Rattle.stretch.proofs.writer.write.Tie as tie
 
@@ -35,20 +36,20 @@ returns : tie.Need-returns
 returns c =
     let d = c .before in
     let e = sym (d .before .counts-sum .ensures) ∙ not-true _ (d .if1 .taken) in
-    refused-leaves _ (c .refused-at-0 .ensures) (counts-refused _ _ _ _ e)
+    written-both _ (refused-leaves _ (c .refused-at-0 .ensures) (counts-refused _ _ _ _ e))
 
 returns-2 : tie.Need-returns-2
 returns-2 c =
     let d = c .before in
     let e = sym (d .before .lengths-sum .ensures) ∙ not-true _ (d .if2 .taken) in
-    refused-leaves _ (c .refused-at-02 .ensures) (lengths-refused _ _ _ _ e)
+    written-both _ (refused-leaves _ (c .refused-at-02 .ensures) (lengths-refused _ _ _ _ e))
 
 returns-3 : tie.Need-returns-3
 unfolding needed
 returns-3 c =
     let d = c .before in
     let e = sym (d .before .fits-stretch .ensures) ∙ not-true _ (d .if3 .taken) in
-    refused-leaves _ (c .refused-at-03 .ensures) (long-refused _ (matching (d .before .before)) e)
+    written-both _ (refused-leaves _ (c .refused-at-03 .ensures) (long-refused _ (matching (d .before .before)) e))
 
 segments-given-requires : tie.Need-segments-given-requires
 segments-given-requires c κs = matching (c .before .before)
@@ -57,7 +58,7 @@ returns-4 : tie.Need-returns-4
 returns-4 c =
     let d = c .before .before .before in
     let e = sym (d .segments-given .ensures) ∙ ap toldReached (c .before .refused .given .1) in
-    refused-leaves _ refl (given-refused _ (fitting (d .before)) _ _ e)
+    written-both _ (refused-leaves _ refl (given-refused _ (fitting (d .before)) _ _ e))
 
 add-needed-3 : tie.Need-add-needed-3
 unfolding needed
@@ -69,7 +70,7 @@ returns-5 c =
     let d = c .before .before in
     let g = d .before .before in
     let e = sym (g .segments-given .ensures) ∙ ap toldReached (d .enum-told .given .1) in
-    refused-leaves _ (c .refused-at-04 .ensures) (room-refused _ (fitting (g .before)) e (c .before .if4 .taken))
+    written-both _ (refused-leaves _ (c .refused-at-04 .ensures) (room-refused _ (fitting (g .before)) e (c .before .if4 .taken)))
 
 put-text-requires : tie.Need-put-text-requires
 unfolding needed
@@ -82,7 +83,7 @@ returns-6 c =
     let d = r .before in
     let g = d .before .before in
     let e = sym (g .segments-given .ensures) ∙ ap toldReached (d .enum-told .given .1) in
-    accepted-leaves (fitting (g .before)) _ e (r .if4 .left) (c .before .before .put-text .ensures)
+    written-both _ (accepted-leaves (fitting (g .before)) _ e (r .if4 .left) (c .before .before .put-text .ensures))
 
 pub write-spec : {M : Type 1} → statement M
 write-spec =

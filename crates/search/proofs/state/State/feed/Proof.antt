@@ -5,11 +5,14 @@ use Rattle.search.specs.Answers.{toldEntry, toldRan}
 use Rattle.search.proofs.Entries.{Entered, entered}
 use Rattle.search.proofs.ReadOns.{read-is, read-length, read-room, read-sized, read-state}
 use Rattle.search.proofs.Feeds.{fed-not, fed-refused, fed-left, fed-next}
+use Rattle.search.proofs.Told.{fed-both}
 use Rattle.search.proofs.state.State.feed.Statement.{statement}
 use Rattle.search.proofs.state.State.feed.Tie as tie
 
 returns : tie.Need-returns
-returns c = sym (fed-not _ _ _ _ _ _ (sym (c .before .before .before .enter .ensures) ∙ ap toldEntry (c .before .refused .given .1)))
+returns c =
+    let wrong = sym (c .before .before .before .enter .ensures) ∙ ap toldEntry (c .before .refused .given .1) in
+    fed-both _ (sym (fed-not _ _ _ _ _ _ wrong))
 
 -- nothing is wrong before the segment is read
 entry : (c : tie.After-enum-told) → let a = c .before .before .before .before .before .args in Entered (a .pattern .now) (a .self .bits) (a .segment .now)
@@ -35,7 +38,8 @@ returns-2 c =
     let r = g .before .before in
     let y = entry (r .before) in
     let on = sym (g .alone .ensures) ∙ ap toldRan (n .next .given .1) in
-    sym (fed-left _ _ _ _ _ (read-is _ _ _ (r .read-on .ensures) (y .sound)) y _ _ _ _ on _ (d .closed .ensures) (c .before .refused3 .given .1))
+    let read = read-is _ _ _ (r .read-on .ensures) (y .sound) in
+    fed-both _ (sym (fed-left _ _ _ _ _ read y _ _ _ _ on _ (d .closed .ensures) (c .before .refused3 .given .1)))
 
 returns-3 : tie.Need-returns-3
 returns-3 c =
@@ -43,7 +47,7 @@ returns-3 c =
     let r = g .before .before in
     let y = entry (r .before) in
     let wrong = sym (g .alone .ensures) ∙ ap toldRan (c .before .refused2 .given .1) in
-    sym (fed-refused _ _ _ _ _ (read-is _ _ _ (r .read-on .ensures) (y .sound)) y _ _ wrong)
+    fed-both _ (sym (fed-refused _ _ _ _ _ (read-is _ _ _ (r .read-on .ensures) (y .sound)) y _ _ wrong))
 
 returns-4 : tie.Need-returns-4
 returns-4 c =
@@ -53,7 +57,8 @@ returns-4 c =
     let r = g .before .before in
     let y = entry (r .before) in
     let on = sym (g .alone .ensures) ∙ ap toldRan (n .next .given .1) in
-    sym (fed-next _ _ _ _ _ (read-is _ _ _ (r .read-on .ensures) (y .sound)) y _ _ _ _ on _ (d .closed .ensures) (c .enum-told2 .given .1))
+    let read = read-is _ _ _ (r .read-on .ensures) (y .sound) in
+    fed-both _ (sym (fed-next _ _ _ _ _ read y _ _ _ _ on _ (d .closed .ensures) (c .enum-told2 .given .1)))
 
 pub feed-spec : {M : Type 1} → statement M
 feed-spec =

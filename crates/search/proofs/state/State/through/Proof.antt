@@ -6,6 +6,7 @@ use Rattle.search.proofs.Entries.{Entered, entered}
 use Rattle.search.proofs.BitScans.{masks-short}
 use Rattle.search.proofs.ReadOns.{read-is, read-length, read-room, read-sound, read-state}
 use Rattle.search.proofs.Searches.{seek-not, seek-sound}
+use Rattle.search.proofs.Told.{sought-both}
 use Rattle.search.proofs.state.State.through.Statement.{statement}
 use Rattle.search.proofs.state.State.through.Tie as tie
 
@@ -30,14 +31,18 @@ mark-requires c κs =
     )
 
 returns : tie.Need-returns
-returns c = seek-not _ _ _ _ _ _ _ (sym (c .before .before .before .enter .ensures) ∙ ap toldEntry (c .before .refused .given .1))
+returns c =
+    let wrong = sym (c .before .before .before .enter .ensures) ∙ ap toldEntry (c .before .refused .given .1) in
+    sought-both _ (seek-not _ _ _ _ _ _ _ wrong)
 
 returns-2 : tie.Need-returns-2
 returns-2 c =
     let d = c .before .before in
     let r = d .before .before .before .before .before in
     let y = entry (r .before) in
-    seek-sound _ _ _ _ (c .before .before .before .before .before .before .before .before .before .before .before .before .before .before .args .marks .now) y _ (read-is _ _ _ (r .read-on .ensures) (y .sound)) _ _ (d .mark .ensures)
+    let a = r .before .before .before .before .before .before .before .args in
+    let read = read-is _ _ _ (r .read-on .ensures) (y .sound) in
+    sought-both _ (seek-sound _ _ _ _ (a .marks .now) y _ read _ _ (d .mark .ensures))
 
 pub through-spec : {M : Type 1} → statement M
 through-spec =
