@@ -6,6 +6,7 @@ use stretch::check;
 use stretch::letters;
 use stretch::read;
 use text::Refusal;
+ghost use Rattle.braces.specs.Braces.{SegmentShown, BracesPut};
 
 // The place behind the braces, or why the stretch is refused.
 pub enum Braced {
@@ -14,7 +15,9 @@ pub enum Braced {
 }
 
 // One segment of a sound stretch.
-fn put_segment(stretch: &[u8], segment: usize, out: &mut [u8], at: usize) -> usize {
+fn put_segment(stretch: &[u8], segment: usize, out: &mut [u8], at: usize) -> usize
+    ensures { λ r. ⌜ SegmentShown (now (stretch .entry)) segment (now (out .entry)) at (now (out .exit)) r ⌝ }
+{
     let mut next = put_bytes(b"{", &mut *out, at);
     let mut variant = 0;
     while variant < 255 {
@@ -34,7 +37,9 @@ fn put_segment(stretch: &[u8], segment: usize, out: &mut [u8], at: usize) -> usi
 }
 
 // All segments, one behind another.
-pub fn put_braces(stretch: &[u8], out: &mut [u8]) -> Braced {
+pub fn put_braces(stretch: &[u8], out: &mut [u8]) -> Braced
+    ensures { λ r. ⌜ BracesPut (now (stretch .entry)) (now (out .entry)) r (now (out .exit)) ⌝ }
+{
     match check(stretch) {
         Checked::Refused(wrong) => Braced::Refused(wrong),
         Checked::Sound { segments, .. } => {

@@ -1,17 +1,21 @@
 // What the bytes of a text put into the three buffers of a write: letters, variant lengths and variant counts. What stands open is
 // counted too, so that its segment can be closed within a stretch.
 use crate::notation::Act;
-use crate::notation::Open;
+use crate::notation::Begun;
 use crate::repetition::stands;
 use crate::wrong;
+use stretch::number::wide;
 use text::refusal;
+ghost use mathlib.Core.Path.{_≡_};
+ghost use Rattle.braces.specs.Notation.{ended};
+ghost use Rattle.braces.specs.Filling.{FitsTape, LetterPut, VariantPut, SegmentPut, buffers, ActDone, PieceRead, emptyTape, isFull};
 
 // How much of each buffer is filled, and what stands open.
 pub struct Tape {
     pub letters: usize,
     pub lengths: usize,
     pub counts: usize,
-    pub open: Open,
+    pub begun: Begun,
 }
 
 // What a byte comes to: it is done; or a stretch has no room for it, so that the closed segments are to be written and cut off before; or it
@@ -31,18 +35,22 @@ pub enum Filled {
 
 impl Tape {
     // Nothing is filled, and nothing stands open.
-    pub fn empty() -> Tape {
+    pub fn empty() -> Tape
+        ensures { λ r. ⌜ r ≡ emptyTape ⌝ }
+    {
         Tape {
             letters: 0,
             lengths: 0,
             counts: 0,
-            open: Open::nothing(),
+            begun: Begun::nothing(),
         }
     }
 }
 
 // No room for what stands open: without a closed segment there never is.
-fn full(tape: Tape) -> Step {
+fn full(tape: Tape) -> Step
+    ensures { λ r. ⌜ isFull r ⌝ }
+{
     if tape.counts == 0 {
         return Step::Wrong(wrong::LONG);
     }
@@ -50,11 +58,13 @@ fn full(tape: Tape) -> Step {
 }
 
 // Whether the open segment, with so many letters and variants more, can be closed within a stretch, and its numbers are sound.
-fn fits(tape: Tape, more: usize, another: usize) -> bool {
+fn fits(tape: Tape, more: u8, another: u8) -> bool
+    ensures { λ r. ⌜ FitsTape tape r ⌝ }
+{
     let letters = tape.letters;
     let lengths = tape.lengths;
     let counts = tape.counts;
-    let open = tape.open;
+    let begun = tape.begun;
     if refusal::GREATEST_STRETCH < letters {
         return false;
     }
@@ -64,23 +74,26 @@ fn fits(tape: Tape, more: usize, another: usize) -> bool {
     if refusal::GREATEST_STRETCH < counts {
         return false;
     }
-    if letters < open.letters {
+    if letters < begun.letters {
         return false;
     }
-    if lengths < open.variants {
+    if lengths < begun.variants {
         return false;
     }
-    if refusal::GREATEST_STRETCH < open.spelt {
+    if refusal::GREATEST_STRETCH < begun.spelt {
         return false;
     }
-    if 254 < open.variants {
+    if 254 < begun.variants {
         return false;
     }
-    2 + (counts + 1) + 2 * (lengths + 1 + another) + letters + more <= refusal::GREATEST_STRETCH
+    2 + (counts + 1) + 2 * (lengths + 1 + wide(another)) + letters + wide(more)
+        <= refusal::GREATEST_STRETCH
 }
 
 // One letter more.
-fn put_letter(tape: Tape, open: Open, byte: u8, letters: &mut [u8]) -> Step {
+fn put_letter(tape: Tape, begun: Begun, byte: u8, letters: &mut [u8]) -> Step
+    ensures { λ r. ⌜ LetterPut tape begun byte (now (letters .entry)) r (now (letters .exit)) ⌝ }
+{
     let at = tape.letters;
     if letters.len() <= at {
         return full(tape);
@@ -93,21 +106,17 @@ fn put_letter(tape: Tape, open: Open, byte: u8, letters: &mut [u8]) -> Step {
         letters: at + 1,
         lengths: tape.lengths,
         counts: tape.counts,
-        open,
+        begun,
     })
 }
 
 // The open variant ends, and `another` may follow it.
-fn put_variant(
-    tape: Tape,
-    open: Open,
-    another: usize,
-    letters: &[u8],
-    lengths: &mut [u16],
-) -> Step {
+fn put_variant(tape: Tape, begun: Begun, another: u8, letters: &[u8], lengths: &mut [u16]) -> Step
+    ensures { λ r. ⌜ VariantPut tape begun (now (lengths .entry)) r (now (lengths .exit)) ⌝ }
+{
     let at = tape.lengths;
     let end = tape.letters;
-    let before = tape.open;
+    let before = tape.begun;
     if letters.len() < end {
         return full(tape);
     }
@@ -127,27 +136,31 @@ fn put_variant(
         letters: end,
         lengths: at + 1,
         counts: tape.counts,
-        open,
+        begun,
     })
 }
 
 // The open variant and its segment end.
 fn put_segment(
     tape: Tape,
-    open: Open,
+    begun: Begun,
     letters: &[u8],
     lengths: &mut [u16],
     counts: &mut [u8],
-) -> Step {
+) -> Step
+    ensures { λ r. ⌜ SegmentPut tape begun (now (lengths .entry)) (now (counts .entry)) r
+        (now (lengths .exit)) (now (counts .exit)) ⌝ }
+{
     let at = tape.counts;
-    let before = tape.open;
+    let before = tape.begun;
     if counts.len() <= at {
         return full(tape);
     }
+    let segments = at + 1;
     if 254 < before.variants {
-        return Step::Wrong(wrong::VARIANTS);
+        return full(tape);
     }
-    match put_variant(tape, open, 0, letters, &mut *lengths) {
+    match put_variant(tape, begun, 0, letters, &mut *lengths) {
         Step::Full => Step::Full,
         Step::Wrong(number) => Step::Wrong(number),
         Step::Done(next) => {
@@ -155,8 +168,8 @@ fn put_segment(
             Step::Done(Tape {
                 letters: next.letters,
                 lengths: next.lengths,
-                counts: at + 1,
-                open,
+                counts: segments,
+                begun,
             })
         }
     }
@@ -170,17 +183,21 @@ fn put(
     letters: &mut [u8],
     lengths: &mut [u16],
     counts: &mut [u8],
-) -> Step {
+) -> Step
+    ensures { λ r. ⌜ ActDone tape act byte
+        (buffers (now (letters .entry)) (now (lengths .entry)) (now (counts .entry))) r
+        (buffers (now (letters .exit)) (now (lengths .exit)) (now (counts .exit))) ⌝ }
+{
     match act {
-        Act::Pass(open) => Step::Done(Tape {
+        Act::Pass(begun) => Step::Done(Tape {
             letters: tape.letters,
             lengths: tape.lengths,
             counts: tape.counts,
-            open,
+            begun,
         }),
-        Act::Letter(open) => put_letter(tape, open, byte, &mut *letters),
-        Act::Variant(open) => put_variant(tape, open, 1, letters, &mut *lengths),
-        Act::Segment(open) => put_segment(tape, open, letters, &mut *lengths, &mut *counts),
+        Act::Letter(begun) => put_letter(tape, begun, byte, &mut *letters),
+        Act::Variant(begun) => put_variant(tape, begun, 1, letters, &mut *lengths),
+        Act::Segment(begun) => put_segment(tape, begun, letters, &mut *lengths, &mut *counts),
         Act::Wrong(number) => Step::Wrong(number),
     }
 }
@@ -193,13 +210,17 @@ pub fn read_on(
     letters: &mut [u8],
     lengths: &mut [u16],
     counts: &mut [u8],
-) -> Filled {
+) -> Filled
+    ensures { λ r. ⌜ PieceRead tape (now (piece .entry)) from
+        (buffers (now (letters .entry)) (now (lengths .entry)) (now (counts .entry))) r
+        (buffers (now (letters .exit)) (now (lengths .exit)) (now (counts .exit))) ⌝ }
+{
     let mut done = tape;
     let mut at = from;
     while at < piece.len() {
         let byte = piece[at];
-        let open = done.open;
-        let act = open.act(byte);
+        let begun = done.begun;
+        let act = begun.act(byte);
         match put(done, act, byte, &mut *letters, &mut *lengths, &mut *counts) {
             Step::Full => {
                 return Filled::Full { at, tape: done };
@@ -217,11 +238,15 @@ pub fn read_on(
 }
 
 // The end of a text.
-pub fn finish(tape: Tape, letters: &mut [u8], lengths: &mut [u16], counts: &mut [u8]) -> Step {
-    let open = tape.open;
+pub fn finish(tape: Tape, letters: &mut [u8], lengths: &mut [u16], counts: &mut [u8]) -> Step
+    ensures { λ r. ⌜ ActDone tape (ended (tape .begun) (tape .begun .mode)) 0
+        (buffers (now (letters .entry)) (now (lengths .entry)) (now (counts .entry))) r
+        (buffers (now (letters .exit)) (now (lengths .exit)) (now (counts .exit))) ⌝ }
+{
+    let begun = tape.begun;
     put(
         tape,
-        open.end(),
+        begun.end(),
         0,
         &mut *letters,
         &mut *lengths,

@@ -2,6 +2,8 @@
 use crate::wrong;
 use text::letter::is_letter;
 use text::refusal;
+ghost use mathlib.Core.Path.{_≡_};
+ghost use Rattle.braces.specs.Notation.{white, inside, nothing, brace, lettered, opened, comma, closed, actOf, ended};
 
 // Where a byte stands: between segments, in letters outside braces, or inside braces.
 pub enum Mode {
@@ -11,7 +13,7 @@ pub enum Mode {
 }
 
 // The segment that stands open: how many of its variants are closed, the letters of all of them, and those of the open one.
-pub struct Open {
+pub struct Begun {
     pub mode: Mode,
     pub variants: usize,
     pub letters: usize,
@@ -21,25 +23,46 @@ pub struct Open {
 // What a byte does, and what stands open behind it: nothing is put, or the letter itself, or the open variant is closed, or it and its
 // segment are; or the byte is wrong here.
 pub enum Act {
-    Pass(Open),
-    Letter(Open),
-    Variant(Open),
-    Segment(Open),
+    Pass(Begun),
+    Letter(Begun),
+    Variant(Begun),
+    Segment(Begun),
     Wrong(u64),
 }
 
 // Space, tab and line ends.
-fn is_white(byte: u8) -> bool {
-    match byte {
-        b' ' | b'\t' | b'\r' | b'\n' => true,
-        _ => false,
+fn is_white(byte: u8) -> bool
+    ensures { λ r. ⌜ r ≡ white byte ⌝ }
+{
+    if byte == b' ' {
+        return true;
+    }
+    if byte == b'\t' {
+        return true;
+    }
+    if byte == b'\r' {
+        return true;
+    }
+    byte == b'\n'
+}
+
+// A letter between segments begins one outside braces.
+fn inside(mode: Mode) -> Mode
+    ensures { λ r. ⌜ r ≡ inside mode ⌝ }
+{
+    match mode {
+        Mode::Between => Mode::Bare,
+        Mode::Bare => Mode::Bare,
+        Mode::Braced => Mode::Braced,
     }
 }
 
-impl Open {
+impl Begun {
     // Nothing stands open, as before the first byte.
-    pub fn nothing() -> Open {
-        Open {
+    pub fn nothing() -> Begun
+        ensures { λ r. ⌜ r ≡ nothing ⌝ }
+    {
+        Begun {
             mode: Mode::Between,
             variants: 0,
             letters: 0,
@@ -48,8 +71,10 @@ impl Open {
     }
 
     // A segment in braces, of which nothing has been read.
-    fn brace() -> Open {
-        Open {
+    fn brace() -> Begun
+        ensures { λ r. ⌜ r ≡ brace ⌝ }
+    {
+        Begun {
             mode: Mode::Braced,
             variants: 0,
             letters: 0,
@@ -58,8 +83,9 @@ impl Open {
     }
 
     // A letter: one more of the open variant, or the first of a segment outside braces.
-    fn letter(self) -> Act {
-        let mode = self.mode;
+    fn letter(self) -> Act
+        ensures { λ r. ⌜ r ≡ lettered self ⌝ }
+    {
         let letters = self.letters;
         let spelt = self.spelt;
         if refusal::GREATEST_STRETCH <= letters {
@@ -68,13 +94,10 @@ impl Open {
         if refusal::GREATEST_STRETCH <= spelt {
             return Act::Wrong(wrong::LONG);
         }
-        let inside = match mode {
-            Mode::Between => Mode::Bare,
-            Mode::Bare => Mode::Bare,
-            Mode::Braced => Mode::Braced,
-        };
-        Act::Letter(Open {
-            mode: inside,
+        let before = self.mode;
+        let mode = inside(before);
+        Act::Letter(Begun {
+            mode,
             variants: self.variants,
             letters: letters + 1,
             spelt: spelt + 1,
@@ -82,17 +105,21 @@ impl Open {
     }
 
     // A brace that opens; letters outside braces end before it.
-    fn opened(self) -> Act {
+    fn opened(self) -> Act
+        ensures { λ r. ⌜ r ≡ opened (self .mode) ⌝ }
+    {
         let mode = self.mode;
         match mode {
-            Mode::Between => Act::Pass(Open::brace()),
-            Mode::Bare => Act::Segment(Open::brace()),
+            Mode::Between => Act::Pass(Begun::brace()),
+            Mode::Bare => Act::Segment(Begun::brace()),
             Mode::Braced => Act::Wrong(wrong::OPENED),
         }
     }
 
     // A comma: the next variant of the segment begins.
-    fn comma(self) -> Act {
+    fn comma(self) -> Act
+        ensures { λ r. ⌜ r ≡ comma (self .mode) (self .variants) (self .letters) ⌝ }
+    {
         let mode = self.mode;
         let variants = self.variants;
         match mode {
@@ -102,7 +129,7 @@ impl Open {
                 if 254 <= variants {
                     return Act::Wrong(wrong::VARIANTS);
                 }
-                Act::Variant(Open {
+                Act::Variant(Begun {
                     mode: Mode::Braced,
                     variants: variants + 1,
                     letters: self.letters,
@@ -113,37 +140,47 @@ impl Open {
     }
 
     // A brace that closes.
-    fn closed(self) -> Act {
+    fn closed(self) -> Act
+        ensures { λ r. ⌜ r ≡ closed (self .mode) ⌝ }
+    {
         let mode = self.mode;
         match mode {
             Mode::Between => Act::Wrong(wrong::CLOSED),
             Mode::Bare => Act::Wrong(wrong::CLOSED),
-            Mode::Braced => Act::Segment(Open::nothing()),
+            Mode::Braced => Act::Segment(Begun::nothing()),
         }
     }
 
     // What a byte does.
-    pub fn act(self, byte: u8) -> Act {
+    pub fn act(self, byte: u8) -> Act
+        ensures { λ r. ⌜ r ≡ actOf self byte ⌝ }
+    {
         if is_white(byte) {
             return Act::Pass(self);
         }
         if is_letter(byte) {
             return self.letter();
         }
-        match byte {
-            b'{' => self.opened(),
-            b',' => self.comma(),
-            b'}' => self.closed(),
-            _ => Act::Wrong(wrong::LETTER),
+        if byte == b'{' {
+            return self.opened();
         }
+        if byte == b',' {
+            return self.comma();
+        }
+        if byte == b'}' {
+            return self.closed();
+        }
+        Act::Wrong(wrong::LETTER)
     }
 
     // What the end of the text does.
-    pub fn end(self) -> Act {
+    pub fn end(self) -> Act
+        ensures { λ r. ⌜ r ≡ ended self (self .mode) ⌝ }
+    {
         let mode = self.mode;
         match mode {
             Mode::Between => Act::Pass(self),
-            Mode::Bare => Act::Segment(Open::nothing()),
+            Mode::Bare => Act::Segment(Begun::nothing()),
             Mode::Braced => Act::Wrong(wrong::ENDED),
         }
     }

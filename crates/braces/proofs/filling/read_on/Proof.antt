@@ -1,0 +1,72 @@
+-- `braces::filling::read_on` meets its contract. The loop's invariant, `Reaching`: what is held and what the rest of the piece puts is what it was. The
+-- measure is the number of bytes left.
+use borrow.Author.Needs.{needs}
+use Prim.Native.Nat.{_-_}
+use lib.ListN.{length}
+use Rattle.braces.specs.Filling.{buffers}
+use Rattle.braces.proofs.Fillings.{Reaching, reach-none, reach-more, reach-full, reach-wrong, reach-all}
+use Rattle.braces.proofs.filling.read_on.Statement.{statement}
+use Rattle.braces.proofs.filling.read_on.Tie as tie
+
+abbrev Inv-loop : tie.InvT-loop
+Inv-loop piece from letters₀ lengths₀ counts₀ done₀ at₀ letters lengths counts done at =
+    Reaching done₀ piece at₀ (buffers letters₀ lengths₀ counts₀) done at (buffers letters lengths counts)
+
+abbrev μ-loop : tie.MeasureT-loop
+μ-loop piece from letters₀ lengths₀ counts₀ done₀ at₀ letters lengths counts done at = length piece - at
+
+loop-holds : tie.Need-loop-holds Inv-loop μ-loop
+loop-holds c = reach-none _ _ _ _
+
+returns : tie.Need-returns Inv-loop μ-loop
+returns c =
+    let p = c .before .before .before .before .before .before .before .before in
+    let a = p .before .before .before .before in
+    let l = a .before .before .before in
+    reach-full (l .before .loop .inv) (l .loop-test .taken) _ (a .act .ensures) _ _ (p .put .ensures) (c .enum-told .given .1)
+
+returns-2 : tie.Need-returns-2 Inv-loop μ-loop
+returns-2 c =
+    let p = c .before .before .before .before .before .before .before .before .before in
+    let a = p .before .before .before .before in
+    let l = a .before .before .before in
+    reach-wrong (l .before .loop .inv) (l .loop-test .taken) _ (a .act .ensures) _ _ (p .put .ensures) _ (c .before .number .given .1)
+
+loop-again : tie.Need-loop-again Inv-loop μ-loop
+loop-again c =
+    let p = c .before .before .before .before .before .before .before .before .before in
+    let a = p .before .before .before .before in
+    let l = a .before .before .before in
+    reach-more (l .before .loop .inv) (l .loop-test .taken) _ (a .act .ensures) _ _ (p .put .ensures) _ (c .before .next .given .1)
+
+returns-3 : tie.Need-returns-3 Inv-loop μ-loop
+returns-3 c = reach-all (c .before .loop .inv) (c .loop-test .left)
+
+pub read-on-spec : {M : Type 1} → statement M
+read-on-spec =
+    tie.close
+    (tie.spec
+    Inv-loop
+    μ-loop
+    loop-holds
+    (λ c. search needs)
+    (λ c κs. search needs)
+    (λ c κs. search needs)
+    (λ c. search needs)
+    (λ c. search needs)
+    (λ c. search needs)
+    (λ c. search needs)
+    returns
+    (λ c. search needs)
+    (λ c. search needs)
+    (λ c. search needs)
+    (λ c. search needs)
+    returns-2
+    (λ c. search needs)
+    (λ c. search needs)
+    (λ c. search needs)
+    loop-again
+    (λ c. search needs)
+    (λ c. search needs)
+    (λ c. search needs)
+    returns-3)
