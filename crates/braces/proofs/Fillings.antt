@@ -190,9 +190,12 @@ wrong-done t a x b n e = (refl, λ k. e)
 -- how far a piece is read
 pub record Reaching (t : Tape) (piece : List ℕ) (from : ℕ) (b : Buffers) (u : Tape) (at : ℕ) (c : Buffers) : Type 0 where
   pub keeps : Keeps t piece from b u at c
+  pub same-letters : length (c .letters) ≡ length (b .letters)
+  pub same-lengths : length (c .lengths) ≡ length (b .lengths)
+  pub same-counts : length (c .counts) ≡ length (b .counts)
 
 pub reach-none : (t : Tape) (piece : List ℕ) (from : ℕ) (b : Buffers) → Reaching t piece from b t from b
-reach-none t piece from b = record { keeps = refl }
+reach-none t piece from b = record { keeps = refl; same-letters = refl; same-lengths = refl; same-counts = refl }
 
 module _ {t : Tape} {piece : List ℕ} {from : ℕ} {b : Buffers} {u : Tape} {at : ℕ} {c : Buffers} (h : Reaching t piece from b u at c) where
   module _ (inside : at < length piece) (a : Act) (is : a ≡ actOf (u .begun) (getD piece at 0)) (r : Step) (d : Buffers)
@@ -201,11 +204,18 @@ module _ {t : Tape} {piece : List ℕ} {from : ℕ} {b : Buffers} {u : Tape} {at
     unfolding reads
     next = let one : at + 1 ≡ suc at = add-one at in rw (one, is, drop-cons piece at 0 inside)
 
-    pub reach-more : (v : Tape) → r ≡ Done v → Reaching t piece from b v (at + 1) d
+    pub reach-more :
+        (v : Tape) → r ≡ Done v → length (d .letters) ≡ length (c .letters) → length (d .lengths) ≡ length (c .lengths) →
+        length (d .counts) ≡ length (c .counts) → Reaching t piece from b v (at + 1) d
     unfolding ActDone
-    reach-more v e =
+    reach-more v e one two three =
         let q : ActDone u a (getD piece at 0) c (Done v) d = rw e at p in
-        record { keeps = q (λ (o : Begun). reads o (drop (at + 1) piece)) ∙ ap (heldIn u c) next ∙ h .keeps }
+        record {
+          keeps = q (λ (o : Begun). reads o (drop (at + 1) piece)) ∙ ap (heldIn u c) next ∙ h .keeps;
+          same-letters = one ∙ h .same-letters;
+          same-lengths = two ∙ h .same-lengths;
+          same-counts = three ∙ h .same-counts;
+        }
 
     pub reach-full : r ≡ Full → PieceRead t piece from b (Filled.Full at u) d
     unfolding ActDone PieceRead

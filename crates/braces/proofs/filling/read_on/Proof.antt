@@ -2,6 +2,7 @@
 -- measure is the number of bytes left.
 use borrow.Author.Needs.{needs}
 use Prim.Native.Nat.{_-_}
+use mathlib.Core.Path.{_∙_}
 use lib.ListN.{length}
 use Rattle.braces.specs.Filling.{buffers}
 use Rattle.braces.proofs.Fillings.{Reaching, reach-none, reach-more, reach-full, reach-wrong, reach-all}
@@ -17,6 +18,33 @@ abbrev μ-loop : tie.MeasureT-loop
 
 loop-holds : tie.Need-loop-holds Inv-loop μ-loop
 loop-holds c = reach-none _ _ _ _
+
+same-length : tie.Need-same-length Inv-loop μ-loop
+same-length c = let p = c .before .before .before .before .before .before .before .before in p .put .kept .1 .1 .1 .0 ∙ p .before .before .before .before .before .before .before .before .loop .inv .same-letters
+
+same-length-2 : tie.Need-same-length-2 Inv-loop μ-loop
+same-length-2 c = let p = c .before .before .before .before .before .before .before .before in p .put .kept .1 .1 .1 .1 .0 ∙ p .before .before .before .before .before .before .before .before .loop .inv .same-lengths
+
+same-length-3 : tie.Need-same-length-3 Inv-loop μ-loop
+same-length-3 c = let p = c .before .before .before .before .before .before .before .before in p .put .kept .1 .1 .1 .1 .1 .0 ∙ p .before .before .before .before .before .before .before .before .loop .inv .same-counts
+
+same-length-4 : tie.Need-same-length-4 Inv-loop μ-loop
+same-length-4 c = let p = c .before .before .before .before .before .before .before .before .before in p .put .kept .1 .1 .1 .0 ∙ p .before .before .before .before .before .before .before .before .loop .inv .same-letters
+
+same-length-5 : tie.Need-same-length-5 Inv-loop μ-loop
+same-length-5 c = let p = c .before .before .before .before .before .before .before .before .before in p .put .kept .1 .1 .1 .1 .0 ∙ p .before .before .before .before .before .before .before .before .loop .inv .same-lengths
+
+same-length-6 : tie.Need-same-length-6 Inv-loop μ-loop
+same-length-6 c = let p = c .before .before .before .before .before .before .before .before .before in p .put .kept .1 .1 .1 .1 .1 .0 ∙ p .before .before .before .before .before .before .before .before .loop .inv .same-counts
+
+same-length-7 : tie.Need-same-length-7 Inv-loop μ-loop
+same-length-7 c = c .before .loop .inv .same-letters
+
+same-length-8 : tie.Need-same-length-8 Inv-loop μ-loop
+same-length-8 c = c .before .loop .inv .same-lengths
+
+same-length-9 : tie.Need-same-length-9 Inv-loop μ-loop
+same-length-9 c = c .before .loop .inv .same-counts
 
 returns : tie.Need-returns Inv-loop μ-loop
 returns c =
@@ -38,6 +66,7 @@ loop-again c =
     let a = p .before .before .before .before in
     let l = a .before .before .before in
     reach-more (l .before .loop .inv) (l .loop-test .taken) _ (a .act .ensures) _ _ (p .put .ensures) _ (c .before .next .given .1)
+    (p .put .kept .1 .1 .1 .0) (p .put .kept .1 .1 .1 .1 .0) (p .put .kept .1 .1 .1 .1 .1 .0)
 
 returns-3 : tie.Need-returns-3 Inv-loop μ-loop
 returns-3 c = reach-all (c .before .loop .inv) (c .loop-test .left)
@@ -53,20 +82,20 @@ read-on-spec =
     (λ c κs. search needs)
     (λ c κs. search needs)
     (λ c. search needs)
-    (λ c. search needs)
-    (λ c. search needs)
-    (λ c. search needs)
+    same-length
+    same-length-2
+    same-length-3
     returns
     (λ c. search needs)
-    (λ c. search needs)
-    (λ c. search needs)
-    (λ c. search needs)
+    same-length-4
+    same-length-5
+    same-length-6
     returns-2
     (λ c. search needs)
     (λ c. search needs)
     (λ c. search needs)
     loop-again
-    (λ c. search needs)
-    (λ c. search needs)
-    (λ c. search needs)
+    same-length-7
+    same-length-8
+    same-length-9
     returns-3)
