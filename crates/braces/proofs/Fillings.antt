@@ -82,7 +82,7 @@ module _ (t : Tape) (o : Begun) (l c left : List ℕ) (r : Step) (p : VariantPut
   segment-done u e k =
       let q : VariantPut t o l (Done u) left = rw e at p in
       let whole : _≡_ {A = Tape} (record { letters = u .letters; lengths = u .lengths; counts = t .counts + 1; begun = o })
-          (record { letters = t .letters; lengths = t .lengths + 1; counts = t .counts + 1; begun = o }) =
+      (record { letters = t .letters; lengths = t .lengths + 1; counts = t .counts + 1; begun = o }) =
       ap (λ (v : Tape). record { letters = v .letters; lengths = v .lengths; counts = t .counts + 1; begun = o }) (q .0) in
       (whole, q .1, refl, q .2, k)
 

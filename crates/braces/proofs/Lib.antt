@@ -3,3 +3,4 @@ pub mod Acts
 pub mod Cuts
 pub mod Fillings
 pub mod Lines
+pub mod Shows

@@ -1,7 +1,9 @@
 -- The notation of a text: every segment in braces, its variants parted by commas.
 use Prim.Native.Nat.{ℕ, _<_}
 use mathlib.Core.Path.{_≡_}
+use mathlib.Core.Bool.{Bool}
 use mathlib.Core.List.{List, [], _∷_, _++_}
+use lib.Dec.{ltb}
 use lib.ListN.{length}
 use Rattle.text.specs.Text.{Segment, Text, segment}
 use Rattle.text.specs.Refusal.{ok, refused}
@@ -11,23 +13,22 @@ use Rattle.lines.specs.Puts.{Put}
 use Rattle.braces.specs.declared.braced.Braced.{Braced}
 use Rattle.braces.specs.declared.braced.Braced.the-variants.{Bytes, Refused}
 
--- the variants behind one, and the brace that closes
-unfoldable pub more : Segment → List ℕ
-more [] = 0x7D ∷ []
-more (v ∷ g) = (0x2C ∷ []) ++ (v ++ more g)
+-- the variants of a segment, the first behind this mark and each further one behind a comma, and the brace that closes
+unfoldable pub listed : ℕ → Segment → List ℕ
+listed mark [] = 0x7D ∷ []
+listed mark (v ∷ g) = (mark ∷ []) ++ (v ++ listed 0x2C g)
 
--- the variants behind the brace that opens
-unfoldable pub body : Segment → List ℕ
-body [] = 0x7D ∷ []
-body (v ∷ g) = v ++ more g
-
--- a segment
-unfoldable pub braced : Segment → List ℕ
-braced g = (0x7B ∷ []) ++ body g
+-- a segment: it has a variant
+abbrev pub braced : Segment → List ℕ
+braced g = listed 0x7B g
 
 -- a text
 unfoldable pub inBraces : Text → List ℕ
 inBraces T = bytesOf braced T
+
+-- whether variant v of segment j is there, in an accepted stretch
+unfoldable pub ThereIs : List ℕ → ℕ → ℕ → Bool → Type 0
+ThereIs s j v r = (t : Text) → stretchOf s ≡ ok t → j < length t → r ≡ ltb v (length (segment t j))
 
 -- segment j of an accepted stretch is put
 unfoldable pub SegmentShown : List ℕ → ℕ → List ℕ → ℕ → List ℕ → ℕ → Type 0

@@ -6,7 +6,7 @@ use stretch::check;
 use stretch::letters;
 use stretch::read;
 use text::Refusal;
-ghost use Rattle.braces.specs.Braces.{SegmentShown, BracesPut};
+ghost use Rattle.braces.specs.Braces.{ThereIs, SegmentShown, BracesPut};
 
 // The place behind the braces, or why the stretch is refused.
 pub enum Braced {
@@ -14,23 +14,32 @@ pub enum Braced {
     Refused(Refusal),
 }
 
+// Whether a segment of a sound stretch has a variant of this number.
+fn is_there(stretch: &[u8], segment: usize, variant: usize) -> bool
+    ensures { λ r. ⌜ ThereIs (now (stretch .entry)) segment variant r ⌝ }
+{
+    match read(stretch, segment, variant) {
+        Got::Variant { segment: found, .. } => found == segment,
+        Got::End { .. } => false,
+        Got::Refused { .. } => false,
+    }
+}
+
 // One segment of a sound stretch.
 fn put_segment(stretch: &[u8], segment: usize, out: &mut [u8], at: usize) -> usize
     ensures { λ r. ⌜ SegmentShown (now (stretch .entry)) segment (now (out .entry)) at (now (out .exit)) r ⌝ }
 {
-    let mut next = put_bytes(b"{", &mut *out, at);
+    let mut mark = b'{';
+    let mut next = at;
     let mut variant = 0;
     while variant < 255 {
-        let Got::Variant { segment: found, .. } = read(stretch, segment, variant) else {
-            return put_bytes(b"}", &mut *out, next);
-        };
-        if found != segment {
+        if !is_there(stretch, segment, variant) {
             return put_bytes(b"}", &mut *out, next);
         }
-        if 0 < variant {
-            next = put_bytes(b",", &mut *out, next);
-        }
-        next = put_bytes(letters(stretch, segment, variant), &mut *out, next);
+        let sign = [mark];
+        let start = put_bytes(&sign, &mut *out, next);
+        next = put_bytes(letters(stretch, segment, variant), &mut *out, start);
+        mark = b',';
         variant += 1;
     }
     put_bytes(b"}", &mut *out, next)

@@ -1,59 +1,35 @@
+-- `braces::braced::put_braces` meets its contract. The loop's invariant, `Bracing`: the segments before this one are put. The measure is the
+-- number of segments left.
+use borrow.Author.Needs.{needs}
+use Prim.Native.Nat.{_-_}
+use mathlib.Core.Path.{sym, ap, _∙_}
+use Rattle.stretch.specs.Answers.{toldChecked}
+use Rattle.stretch.proofs.ReadsAtPlace.{check-accepted}
+use Rattle.braces.proofs.Shows.{Bracing, bracing-none, bracing-more, bracing-end, bracing-length, refused-braces}
 use Rattle.braces.proofs.braced.put_braces.Statement.{statement}
 use Rattle.braces.proofs.braced.put_braces.Tie as tie
-use Rattle.braces.proofs.braced.put_braces.Reads as reads
-use Rattle.braces.proofs.braced.put_braces.Lts as lts
-use Rattle.braces.proofs.braced.put_segment.Reads as put-segment-reads
-use Rattle.stretch.proofs.check.Reads as check-reads
 
 abbrev Inv-loop : tie.InvT-loop
-Inv-loop stretch out₀ segments next₀ segment₀ out next segment = ?
+Inv-loop stretch out₀ segments next₀ segment₀ out next segment = Bracing stretch segments out₀ out next segment
 
 abbrev μ-loop : tie.MeasureT-loop
-μ-loop stretch out₀ segments next₀ segment₀ out next segment = ?
+μ-loop stretch out₀ segments next₀ segment₀ out next segment = segments - segment
 
--- src/braced.rt:43:11
-check-requires : tie.Need-check-requires Inv-loop μ-loop
-check-requires c κs = ?
-
--- src/braced.rt:44:26
-enum-known-wrong : tie.Need-enum-known-wrong Inv-loop μ-loop
-enum-known-wrong c = ?
-
--- src/braced.rt:45:26
-enum-known-segments : tie.Need-enum-known-segments Inv-loop μ-loop
-enum-known-segments c = ?
-
--- src/braced.rt:48:13
 loop-holds : tie.Need-loop-holds Inv-loop μ-loop
-loop-holds c = ?
+loop-holds c =
+    bracing-none _ _ _ (check-accepted _ _ _ (sym (ap toldChecked (c .before .segments .given .1)) ∙ c .before .before .before .check .ensures))
 
--- src/braced.rt:49:17
-put-segment-requires : tie.Need-put-segment-requires Inv-loop μ-loop
-put-segment-requires c κs = ?
-
--- src/braced.rt:50:17
-add-segment : tie.Need-add-segment Inv-loop μ-loop
-add-segment c = ?
-
--- src/braced.rt:48:13
-loop-less : tie.Need-loop-less Inv-loop μ-loop
-loop-less c = ?
-
--- src/braced.rt:48:13
 loop-again : tie.Need-loop-again Inv-loop μ-loop
-loop-again c = ?
+loop-again c = let l = c .before .before .before .before in bracing-more (l .before .loop .inv) (l .loop-test .taken) (c .before .before .put-segment .ensures)
 
--- src/braced.rt:40:1
 returns : tie.Need-returns Inv-loop μ-loop
-returns c = ?
+returns c = refused-braces _ _ _ (sym (ap toldChecked (c .before .wrong .given .1)) ∙ c .before .before .before .check .ensures)
 
--- src/braced.rt:40:1
 same-length : tie.Need-same-length Inv-loop μ-loop
-same-length c = ?
+same-length c = bracing-length (c .before .loop .inv)
 
--- src/braced.rt:40:1
 returns-2 : tie.Need-returns-2 Inv-loop μ-loop
-returns-2 c = ?
+returns-2 c = bracing-end (c .before .loop .inv) (c .loop-test .left)
 
 pub put-braces-spec : {M : Type 1} → statement M
 put-braces-spec =
@@ -61,13 +37,13 @@ put-braces-spec =
     (tie.spec
     Inv-loop
     μ-loop
-    check-requires
-    enum-known-wrong
-    enum-known-segments
+    (λ c κs. search needs)
+    (λ c. search needs)
+    (λ c. search needs)
     loop-holds
-    put-segment-requires
-    add-segment
-    loop-less
+    (λ c κs. search needs)
+    (λ c. search needs)
+    (λ c. search needs)
     loop-again
     returns
     same-length
