@@ -1,4 +1,5 @@
 // A stretch back to braces.
+use crate::messages::write_front;
 use braces::Braced;
 use braces::put_braces;
 use text::refusal;
@@ -12,10 +13,10 @@ pub fn print_braces() {
         Braced::Refused(wrong) => {
             let mut line = [0u8; 64];
             let end = lines::put_refusal(wrong, &mut line, 0);
-            io::write_all(1, &line[..end]);
+            write_front(&line, end);
         }
         Braced::Bytes(end) => {
-            io::write_all(1, &out[..end]);
+            write_front(&out, end);
             io::write_all(1, b"\n");
         }
     }

@@ -44,7 +44,7 @@ fn write_stretch(
             say(b"refused ", wrong.number);
             false
         }
-        Written::Bytes(n) => make_stretch(name, number, &out[..n]),
+        Written::Bytes(n) => make_stretch(name, number, &out, n),
     }
 }
 
@@ -56,17 +56,73 @@ fn flush(text: Text, name: &[u8], letters: &mut [u8], lengths: &mut [u16], count
     if written == u64::MAX {
         return Came::Stop;
     }
-    if !write_stretch(name, written + 1, tape, letters, lengths, counts) {
+    let number = written + 1;
+    if !write_stretch(name, number, tape, letters, lengths, counts) {
         return Came::Stop;
     }
+    let rest = cut(tape, &mut *letters, &mut *lengths);
     Came::On(Text {
-        tape: cut(tape, &mut *letters, &mut *lengths),
+        tape: rest,
         place,
-        written: written + 1,
+        written: number,
     })
 }
 
-// One piece more. A turn ends with the piece or with a stretch; nothing counts how many.
+// What a turn over a piece comes to: all of it is read; or a stretch is written, and the rest of the piece is to be read from a place on.
+enum Turned {
+    Over(Text),
+    Rest { text: Text, from: usize },
+    Stop,
+}
+
+// Reads a piece from a place on, until it ends or a stretch is full.
+fn turn(
+    text: Text,
+    name: &[u8],
+    piece: &[u8],
+    from: usize,
+    letters: &mut [u8],
+    lengths: &mut [u16],
+    counts: &mut [u8],
+) -> Turned {
+    let tape = text.tape;
+    let place = text.place;
+    let written = text.written;
+    match read_on(
+        tape,
+        piece,
+        from,
+        &mut *letters,
+        &mut *lengths,
+        &mut *counts,
+    ) {
+        Filled::All(next) => Turned::Over(Text {
+            tape: next,
+            place: place.behind(piece, piece.len()),
+            written,
+        }),
+        Filled::Wrong { at, number } => {
+            say_wrong(number, place.behind(piece, at));
+            Turned::Stop
+        }
+        Filled::Full { at, tape: next } => {
+            let full = Text {
+                tape: next,
+                place,
+                written,
+            };
+            match flush(full, name, &mut *letters, &mut *lengths, counts) {
+                Came::Stop => Turned::Stop,
+                Came::On(rest) => Turned::Rest {
+                    text: rest,
+                    from: at,
+                },
+            }
+        }
+    }
+}
+
+// One piece more. Nothing counts its turns, so the loop counts down from a number that no run uses up.
 fn take_piece(
     text: Text,
     name: &[u8],
@@ -75,46 +131,34 @@ fn take_piece(
     lengths: &mut [u16],
     counts: &mut [u8],
 ) -> Came {
-    let place = text.place;
     let mut held = text;
     let mut from = 0;
     let mut turns = u64::MAX;
     while 0 < turns {
-        let tape = held.tape;
-        let written = held.written;
-        match read_on(
-            tape,
+        match turn(
+            held,
+            name,
             piece,
             from,
             &mut *letters,
             &mut *lengths,
             &mut *counts,
         ) {
-            Filled::All(next) => {
-                return Came::On(Text {
-                    tape: next,
-                    place: place.behind(piece, piece.len()),
-                    written,
-                });
+            Turned::Over(all) => {
+                return Came::On(all);
             }
-            Filled::Wrong { at, number } => {
-                say_wrong(number, place.behind(piece, at));
+            Turned::Stop => {
                 return Came::Stop;
             }
-            Filled::Full { at, tape: next } => {
-                let full = Text {
-                    tape: next,
-                    place,
-                    written,
-                };
-                let Came::On(rest) = flush(full, name, &mut *letters, &mut *lengths, counts) else {
-                    return Came::Stop;
-                };
+            Turned::Rest {
+                text: rest,
+                from: at,
+            } => {
                 held = rest;
                 from = at;
+                turns -= 1;
             }
         }
-        turns -= 1;
     }
     Came::Stop
 }
@@ -126,51 +170,65 @@ fn write_last(text: Text, name: &[u8], letters: &[u8], lengths: &[u16], counts: 
     if written == u64::MAX {
         return;
     }
-    let number = if written == 0 { 0 } else { written + 1 };
+    let all = written + 1;
+    let number = if written == 0 { 0 } else { all };
     if write_stretch(name, number, tape, letters, lengths, counts) {
-        say(b"stretches ", written + 1);
+        say(b"stretches ", all);
     }
 }
 
-// The end of the text. Where it has no room, a stretch is written first; then there is room.
+// The end of the text. What stands open has room, since each of its letters was put only with room for its end.
 fn end_text(text: Text, name: &[u8], letters: &mut [u8], lengths: &mut [u16], counts: &mut [u8]) {
-    let mut held = text;
-    let mut turns = 2;
-    while 0 < turns {
-        let tape = held.tape;
-        let place = held.place;
-        let written = held.written;
-        match finish(tape, &mut *letters, &mut *lengths, &mut *counts) {
-            Step::Done(next) => {
-                let last = Text {
-                    tape: next,
-                    place,
-                    written,
-                };
-                write_last(last, name, letters, lengths, counts);
-                return;
-            }
-            Step::Wrong(number) => {
-                say_wrong(number, place);
-                return;
-            }
-            Step::Full => {
-                let Came::On(rest) = flush(held, name, &mut *letters, &mut *lengths, counts) else {
-                    return;
-                };
-                held = rest;
-            }
+    let tape = text.tape;
+    let place = text.place;
+    let written = text.written;
+    match finish(tape, &mut *letters, &mut *lengths, &mut *counts) {
+        Step::Full => {}
+        Step::Wrong(number) => {
+            say_wrong(number, place);
         }
-        turns -= 1;
+        Step::Done(next) => {
+            let last = Text {
+                tape: next,
+                place,
+                written,
+            };
+            write_last(last, name, letters, lengths, counts);
+        }
     }
 }
 
-// Reads standard input to its end, and writes its stretches to files of this name.
-pub fn convert(name: &[u8]) {
-    let mut letters = [0u8; refusal::GREATEST_STRETCH];
-    let mut lengths = [0u16; MOST_VARIANTS];
-    let mut counts = [0u8; refusal::MOST_IN_STRETCH];
+// Reads the next piece of standard input, or ends the text.
+fn next_piece(
+    text: Text,
+    name: &[u8],
+    letters: &mut [u8],
+    lengths: &mut [u16],
+    counts: &mut [u8],
+) -> Came {
     let mut piece = io::large_buffer();
+    let got = libc::read(0, &mut piece);
+    if got < 0 {
+        os::fail(b"standard input");
+        return Came::Stop;
+    }
+    let n = io::count(got, &piece);
+    if n == 0 {
+        end_text(text, name, &mut *letters, &mut *lengths, &mut *counts);
+        return Came::Stop;
+    }
+    take_piece(
+        text,
+        name,
+        &piece[..n],
+        &mut *letters,
+        &mut *lengths,
+        &mut *counts,
+    )
+}
+
+// Reads standard input to its end. Nothing counts its pieces either.
+fn take_all(name: &[u8], letters: &mut [u8], lengths: &mut [u16], counts: &mut [u8]) {
     let mut text = Text {
         tape: Tape::empty(),
         place: Place::first(),
@@ -178,27 +236,22 @@ pub fn convert(name: &[u8]) {
     };
     let mut turns = u64::MAX;
     while 0 < turns {
-        let got = libc::read(0, &mut piece);
-        if got < 0 {
-            os::fail(b"standard input");
-            return;
+        match next_piece(text, name, &mut *letters, &mut *lengths, &mut *counts) {
+            Came::Stop => {
+                return;
+            }
+            Came::On(next) => {
+                text = next;
+                turns -= 1;
+            }
         }
-        if got == 0 {
-            end_text(text, name, &mut letters, &mut lengths, &mut counts);
-            return;
-        }
-        let n = io::count(got, &piece);
-        let Came::On(next) = take_piece(
-            text,
-            name,
-            &piece[..n],
-            &mut letters,
-            &mut lengths,
-            &mut counts,
-        ) else {
-            return;
-        };
-        text = next;
-        turns -= 1;
     }
+}
+
+// Writes the stretches of the text on standard input to files of this name.
+pub fn convert(name: &[u8]) {
+    let mut letters = [0u8; refusal::GREATEST_STRETCH];
+    let mut lengths = [0u16; MOST_VARIANTS];
+    let mut counts = [0u8; refusal::MOST_IN_STRETCH];
+    take_all(name, &mut letters, &mut lengths, &mut counts);
 }

@@ -2,13 +2,21 @@
 use braces::Place;
 use lines::put_line;
 
-// A word, a number, and for something wrong the line and column.
+// Writes the first n of these bytes to standard output, where there are so many.
+pub fn write_front(bytes: &[u8], n: usize) {
+    if n <= bytes.len() {
+        io::write_all(1, &bytes[0..n]);
+    }
+}
+
+// A line of a word and a number.
 pub fn say(word: &[u8], number: u64) {
     let mut line = [0u8; 64];
     let end = put_line(word, number, &mut line, 0);
-    io::write_all(1, &line[..end]);
+    write_front(&line, end);
 }
 
+// What is wrong, and its line and column.
 pub fn say_wrong(number: u64, place: Place) {
     say(b"wrong ", number);
     say(b"line ", place.line as u64);
