@@ -102,7 +102,8 @@ module _ {d : List ℕ} {from n : ℕ} {l : List ℕ} {i : ℕ} (m : Moving d fr
   moving-end k = let all : i ≡ n = omega (arith, m .upto) in rw all at (m .moved)
 
 -- a front of n members, k of which are at its end
-front-cut : (l : List ℕ) (n k : ℕ) (left : List ℕ) → k ≤ n → take k left ≡ take k (drop (n - k) l) → take n l ≡ take (n - k) l ++ take k left
+front-cut :
+    (l : List ℕ) (n k : ℕ) (left : List ℕ) → k ≤ n → take k left ≡ take k (drop (n - k) l) → take n l ≡ take (n - k) l ++ take k left
 front-cut l n k left le e =
     let split : n ≡ (n - k) + k = omega arith in
     ap (λ (m : ℕ). take m l) split ∙ take-add (n - k) k l ∙ ap (λ (r : List ℕ). take (n - k) l ++ r) (sym e)
@@ -111,12 +112,13 @@ pub cut-off :
     (t : Tape) (letters lengths left behind : List ℕ) → Within t (length letters) (length lengths) →
     take (t .begun .letters) left ≡ take (t .begun .letters) (drop (t .letters - t .begun .letters) letters) →
     take (t .begun .variants) behind ≡ take (t .begun .variants) (drop (t .lengths - t .begun .variants) lengths) →
-    CutOff t letters lengths (record { letters = t .begun .letters; lengths = t .begun .variants; counts = 0; begun = t .begun }) left behind
+    CutOff t letters lengths (record { letters = t .begun .letters; lengths = t .begun .variants; counts = 0; begun = t .begun })
+    left behind
 cut-off t letters lengths left behind w e f =
     record {
       letters-kept = front-cut letters (t .letters) (t .begun .letters) left (w .letters-open) e;
       lengths-kept = front-cut lengths (t .lengths) (t .begun .variants) behind (w .lengths-open) f;
-      open-kept = refl;
+      begun-kept = refl;
       counts-none = refl;
     }
 

@@ -34,7 +34,7 @@ closedLengths t lengths = take (t .lengths - t .begun .variants) lengths
 pub record CutOff (t : Tape) (letters lengths : List ℕ) (u : Tape) (left behind : List ℕ) : Type 0 where
   pub letters-kept : take (t .letters) letters ≡ closedLetters t letters ++ take (u .letters) left
   pub lengths-kept : take (t .lengths) lengths ≡ closedLengths t lengths ++ take (u .lengths) behind
-  pub open-kept : u .begun ≡ t .begun
+  pub begun-kept : u .begun ≡ t .begun
   pub counts-none : u .counts ≡ 0
 
 -- what a cut promises of a tape that lies within its buffers

@@ -18,8 +18,8 @@ pub struct Tape {
     pub begun: Begun,
 }
 
-// What a byte comes to: it is done; or a stretch has no room for it, so that the closed segments are to be written and cut off before; or it
-// is wrong.
+// What a byte comes to: it is done; or a stretch has no room for it, so that the closed segments are to be written and cut off
+// before; or it is wrong.
 pub enum Step {
     Done(Tape),
     Full,

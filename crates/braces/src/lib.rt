@@ -3,7 +3,7 @@
 mod braced;
 mod cutting;
 mod filling;
-pub mod notation;
+mod notation;
 mod place;
 mod repetition;
 pub mod wrong;
@@ -17,4 +17,6 @@ pub use filling::Step;
 pub use filling::Tape;
 pub use filling::finish;
 pub use filling::read_on;
+pub use notation::Begun;
+pub use notation::Mode;
 pub use place::Place;

@@ -59,7 +59,7 @@ fn inside(mode: Mode) -> Mode
 
 impl Begun {
     // Nothing stands open, as before the first byte.
-    pub fn nothing() -> Begun
+    pub(crate) fn nothing() -> Begun
         ensures { λ r. ⌜ r ≡ nothing ⌝ }
     {
         Begun {
@@ -152,7 +152,7 @@ impl Begun {
     }
 
     // What a byte does.
-    pub fn act(self, byte: u8) -> Act
+    pub(crate) fn act(self, byte: u8) -> Act
         ensures { λ r. ⌜ r ≡ actOf self byte ⌝ }
     {
         if is_white(byte) {
@@ -174,7 +174,7 @@ impl Begun {
     }
 
     // What the end of the text does.
-    pub fn end(self) -> Act
+    pub(crate) fn end(self) -> Act
         ensures { λ r. ⌜ r ≡ ended self (self .mode) ⌝ }
     {
         let mode = self.mode;

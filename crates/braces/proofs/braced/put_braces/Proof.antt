@@ -1,4 +1,5 @@
--- `braces::braced::put_braces` meets its contract. The loop's invariant, `Bracing`: the segments before this one are put. The measure is the
+-- `braces::braced::put_braces` meets its contract.
+-- The loop's invariant, `Bracing`: the segments before this one are put. The measure is the
 -- number of segments left.
 use borrow.Author.Needs.{needs}
 use Prim.Native.Nat.{_-_}
@@ -17,10 +18,13 @@ abbrev μ-loop : tie.MeasureT-loop
 
 loop-holds : tie.Need-loop-holds Inv-loop μ-loop
 loop-holds c =
-    bracing-none _ _ _ (check-accepted _ _ _ (sym (ap toldChecked (c .before .segments .given .1)) ∙ c .before .before .before .check .ensures))
+    let d = c .before .before .before in
+    bracing-none _ _ _ (check-accepted _ _ _ (sym (ap toldChecked (c .before .segments .given .1)) ∙ d .check .ensures))
 
 loop-again : tie.Need-loop-again Inv-loop μ-loop
-loop-again c = let l = c .before .before .before .before in bracing-more (l .before .loop .inv) (l .loop-test .taken) (c .before .before .put-segment .ensures)
+loop-again c =
+    let l = c .before .before .before .before in
+    bracing-more (l .before .loop .inv) (l .loop-test .taken) (c .before .before .put-segment .ensures)
 
 returns : tie.Need-returns Inv-loop μ-loop
 returns c = refused-braces _ _ _ (sym (ap toldChecked (c .before .wrong .given .1)) ∙ c .before .before .before .check .ensures)

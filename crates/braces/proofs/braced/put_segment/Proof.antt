@@ -20,19 +20,22 @@ loop-holds : tie.Need-loop-holds Inv-loop μ-loop
 loop-holds c = showing-none _ _ _ _
 
 same-length : tie.Need-same-length Inv-loop μ-loop
-same-length c = showing-length (c .before .before .before .before .before .before .before .before .loop .inv) (c .before .before .put-bytes .ensures)
+same-length c =
+    let d = c .before .before in
+    showing-length (d .before .before .before .before .before .before .loop .inv) (d .put-bytes .ensures)
 
 returns : tie.Need-returns Inv-loop μ-loop
 returns c =
     let f = c .before .before .before .before .before in
-    showing-over (f .before .before .before .loop .inv) (c .before .before .put-bytes .ensures) _ (f .before .is-there .ensures) (not-true _ (f .if1 .taken))
+    showing-over (f .before .before .before .loop .inv) (c .before .before .put-bytes .ensures) _ (f .before .is-there .ensures)
+    (not-true _ (f .if1 .taken))
 
 loop-again : tie.Need-loop-again Inv-loop μ-loop
 loop-again c =
     let p = c .before .before .before .before .before .before .before in
     let f = p .before .before .before in
-    showing-more (f .before .before .before .loop .inv) _ (f .before .is-there .ensures) (not-false _ (f .if1 .left)) (p .put-bytes2 .ensures)
-    _ (c .before .before .before .before .letters .ensures) (c .before .before .put-bytes3 .ensures)
+    showing-more (f .before .before .before .loop .inv) _ (f .before .is-there .ensures) (not-false _ (f .if1 .left))
+    (p .put-bytes2 .ensures) _ (c .before .before .before .before .letters .ensures) (c .before .before .put-bytes3 .ensures)
 
 same-length-2 : tie.Need-same-length-2 Inv-loop μ-loop
 same-length-2 c = showing-length (c .before .before .before .before .before .before .loop .inv) (c .before .before .put-bytes4 .ensures)

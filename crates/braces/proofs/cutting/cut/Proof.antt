@@ -12,7 +12,9 @@ returns : tie.Need-returns
 returns c = cut-not _ _ _ _ _ _ (within-not _ _ _ _ (c .before .is-within .ensures) (not-true _ (c .if1 .taken)))
 
 -- the tape lies within its buffers
-within : (c : tie.Else1) → let a = c .before .before .before .before .before .args in Within (a .tape) (length (a .letters .now)) (length (a .lengths .now))
+within :
+    (c : tie.Else1) →
+    let a = c .before .before .before .before .before .args in Within (a .tape) (length (a .letters .now)) (length (a .lengths .now))
 within c = within-is _ _ _ _ (c .before .is-within .ensures) (not-false _ (c .if1 .left))
 
 sub-move-letters : tie.Need-sub-move-letters
@@ -28,7 +30,9 @@ move-lengths-requires : tie.Need-move-lengths-requires
 move-lengths-requires c κs = let w = within (c .before .before .before .before .before) in omega (arith, w .lengths-open, w .lengths-in)
 
 returns-2 : tie.Need-returns-2
-returns-2 c = cut-done _ _ _ _ _ (c .before .before .before .before .before .before .move-letters .ensures) (c .before .before .move-lengths .ensures)
+returns-2 c =
+    let d = c .before .before in
+    cut-done _ _ _ _ _ (d .before .before .before .before .move-letters .ensures) (d .move-lengths .ensures)
 
 pub cut-spec : {M : Type 1} → statement M
 cut-spec =

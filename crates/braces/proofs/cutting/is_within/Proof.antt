@@ -14,7 +14,10 @@ returns-3 : tie.Need-returns-3
 returns-3 c = far-open _ _ _ (c .if3 .taken)
 
 returns-4 : tie.Need-returns-4
-returns-4 c = last-open _ _ _ (c .before .before .before .before .before .before .before .if1 .left) (c .before .before .before .before .before .if2 .left) (c .before .before .if3 .left)
+returns-4 c =
+    let d = c .before .before in
+    let e = d .before .before .before in
+    last-open _ _ _ (e .before .before .if1 .left) (e .if2 .left) (d .if3 .left)
 
 pub is-within-spec : {M : Type 1} → statement M
 is-within-spec = tie.close (tie.spec returns returns-2 returns-3 returns-4)

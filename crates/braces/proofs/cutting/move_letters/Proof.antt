@@ -1,4 +1,5 @@
--- `braces::cutting::move_letters` meets its contract. The loop's invariant, `Moving`: i members have been moved. The measure is the number of those left.
+-- `braces::cutting::move_letters` meets its contract.
+-- The loop's invariant, `Moving`: i members have been moved. The measure is the number of those left.
 use borrow.Author.Needs.{needs}
 use Prim.Native.Nat.{_-_}
 use native.Mathlib.Omega.{arith}

@@ -16,7 +16,10 @@ returns-2 : tie.Need-returns-2
 returns-2 c = closed-not _ _ _ _ _ _ _ (within-not _ _ _ _ (c .before .is-within .ensures) (not-true _ (c .if2 .taken)))
 
 -- the tape lies within its buffers
-within : (c : tie.Else2) → let a = c .before .before .before .before .before .before .before .before .args in Within (a .tape) (length (a .letters .now)) (length (a .lengths .now))
+within :
+    (c : tie.Else2) →
+    let a = c .before .before .before .before .before .before .before .before .args in
+    Within (a .tape) (length (a .letters .now)) (length (a .lengths .now))
 within c = within-is _ _ _ _ (c .before .is-within .ensures) (not-false _ (c .if2 .left))
 
 sub-spelt : tie.Need-sub-spelt

@@ -11,7 +11,9 @@ returns-2 : tie.Need-returns-2
 returns-2 c = let d = c .before .before in letter-done _ _ _ _ _ (d .before .before .before .act2 .given .1) _ _ (d .put-letter .ensures)
 
 returns-3 : tie.Need-returns-3
-returns-3 c = let d = c .before .before in variant-done _ _ _ _ _ (d .before .before .before .before .act3 .given .1) _ _ (d .put-variant .ensures)
+returns-3 c =
+    let d = c .before .before in
+    variant-done _ _ _ _ _ (d .before .before .before .before .act3 .given .1) _ _ (d .put-variant .ensures)
 
 returns-4 : tie.Need-returns-4
 returns-4 c =

@@ -1,4 +1,5 @@
--- `braces::filling::read_on` meets its contract. The loop's invariant, `Reaching`: what is held and what the rest of the piece puts is what it was. The
+-- `braces::filling::read_on` meets its contract.
+-- The loop's invariant, `Reaching`: what is held and what the rest of the piece puts is what it was. The
 -- measure is the number of bytes left.
 use borrow.Author.Needs.{needs}
 use Prim.Native.Nat.{_-_}
@@ -20,22 +21,34 @@ loop-holds : tie.Need-loop-holds Inv-loop μ-loop
 loop-holds c = reach-none _ _ _ _
 
 same-length : tie.Need-same-length Inv-loop μ-loop
-same-length c = let p = c .before .before .before .before .before .before .before .before in p .put .kept .1 .1 .1 .0 ∙ p .before .before .before .before .before .before .before .before .loop .inv .same-letters
+same-length c =
+    let p = c .before .before .before .before .before .before .before .before in
+    p .put .kept .1 .1 .1 .0 ∙ p .before .before .before .before .before .before .before .before .loop .inv .same-letters
 
 same-length-2 : tie.Need-same-length-2 Inv-loop μ-loop
-same-length-2 c = let p = c .before .before .before .before .before .before .before .before in p .put .kept .1 .1 .1 .1 .0 ∙ p .before .before .before .before .before .before .before .before .loop .inv .same-lengths
+same-length-2 c =
+    let p = c .before .before .before .before .before .before .before .before in
+    p .put .kept .1 .1 .1 .1 .0 ∙ p .before .before .before .before .before .before .before .before .loop .inv .same-lengths
 
 same-length-3 : tie.Need-same-length-3 Inv-loop μ-loop
-same-length-3 c = let p = c .before .before .before .before .before .before .before .before in p .put .kept .1 .1 .1 .1 .1 .0 ∙ p .before .before .before .before .before .before .before .before .loop .inv .same-counts
+same-length-3 c =
+    let p = c .before .before .before .before .before .before .before .before in
+    p .put .kept .1 .1 .1 .1 .1 .0 ∙ p .before .before .before .before .before .before .before .before .loop .inv .same-counts
 
 same-length-4 : tie.Need-same-length-4 Inv-loop μ-loop
-same-length-4 c = let p = c .before .before .before .before .before .before .before .before .before in p .put .kept .1 .1 .1 .0 ∙ p .before .before .before .before .before .before .before .before .loop .inv .same-letters
+same-length-4 c =
+    let p = c .before .before .before .before .before .before .before .before .before in
+    p .put .kept .1 .1 .1 .0 ∙ p .before .before .before .before .before .before .before .before .loop .inv .same-letters
 
 same-length-5 : tie.Need-same-length-5 Inv-loop μ-loop
-same-length-5 c = let p = c .before .before .before .before .before .before .before .before .before in p .put .kept .1 .1 .1 .1 .0 ∙ p .before .before .before .before .before .before .before .before .loop .inv .same-lengths
+same-length-5 c =
+    let p = c .before .before .before .before .before .before .before .before .before in
+    p .put .kept .1 .1 .1 .1 .0 ∙ p .before .before .before .before .before .before .before .before .loop .inv .same-lengths
 
 same-length-6 : tie.Need-same-length-6 Inv-loop μ-loop
-same-length-6 c = let p = c .before .before .before .before .before .before .before .before .before in p .put .kept .1 .1 .1 .1 .1 .0 ∙ p .before .before .before .before .before .before .before .before .loop .inv .same-counts
+same-length-6 c =
+    let p = c .before .before .before .before .before .before .before .before .before in
+    p .put .kept .1 .1 .1 .1 .1 .0 ∙ p .before .before .before .before .before .before .before .before .loop .inv .same-counts
 
 same-length-7 : tie.Need-same-length-7 Inv-loop μ-loop
 same-length-7 c = c .before .loop .inv .same-letters

@@ -1,4 +1,5 @@
--- `eds::forth::take_all` is safe and ends. The loop's invariant: the buffers are as long as they were. The measure is the number of turns left.
+-- `eds::forth::take_all` is safe and ends.
+-- The loop's invariant: the buffers are as long as they were. The measure is the number of turns left.
 use mathlib.Core.Path.{_≡_, refl, _∙_}
 use lib.ListN.{length}
 use borrow.Author.Needs.{needs}
@@ -16,13 +17,19 @@ loop-holds : tie.Need-loop-holds Inv-loop μ-loop
 loop-holds c = (refl, refl, refl)
 
 same-length : tie.Need-same-length Inv-loop μ-loop
-same-length c = let p = c .before .before .before .before .before .before .before .before in p .next-piece .kept .1 .1 .0 ∙ p .before .before .before .before .before .loop .inv .0
+same-length c =
+    let p = c .before .before .before .before .before .before .before .before in
+    p .next-piece .kept .1 .1 .0 ∙ p .before .before .before .before .before .loop .inv .0
 
 same-length-2 : tie.Need-same-length-2 Inv-loop μ-loop
-same-length-2 c = let p = c .before .before .before .before .before .before .before .before in p .next-piece .kept .1 .1 .1 .0 ∙ p .before .before .before .before .before .loop .inv .1
+same-length-2 c =
+    let p = c .before .before .before .before .before .before .before .before in
+    p .next-piece .kept .1 .1 .1 .0 ∙ p .before .before .before .before .before .loop .inv .1
 
 same-length-3 : tie.Need-same-length-3 Inv-loop μ-loop
-same-length-3 c = let p = c .before .before .before .before .before .before .before .before in p .next-piece .kept .1 .1 .1 .1 .0 ∙ p .before .before .before .before .before .loop .inv .2
+same-length-3 c =
+    let p = c .before .before .before .before .before .before .before .before in
+    p .next-piece .kept .1 .1 .1 .1 .0 ∙ p .before .before .before .before .before .loop .inv .2
 
 same-length-4 : tie.Need-same-length-4 Inv-loop μ-loop
 same-length-4 c = c .before .loop .inv .0

@@ -1,4 +1,5 @@
--- `braces::place::Place::behind` meets its contract. The loop's invariant, `Behind`: the bytes left lead from here to where all of them lead. The measure
+-- `braces::place::Place::behind` meets its contract.
+-- The loop's invariant, `Behind`: the bytes left lead from here to where all of them lead. The measure
 -- is the number of bytes left.
 use borrow.Author.Needs.{needs}
 use Prim.Native.Nat.{_-_}
