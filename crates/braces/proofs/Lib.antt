@@ -1,0 +1,8 @@
+-- What is proved of the calls, and the laws of the definitions in specs/.
+pub mod Acts
+pub mod Cuts
+pub mod Fillings
+pub mod Lines
+pub mod ReadsBack
+pub mod Shows
+pub mod Theorems

@@ -1,0 +1,105 @@
+// The cut between segments: the closed ones are gone, and what stands open begins the buffers anew.
+use crate::filling::Tape;
+use stretch::Written;
+use stretch::write;
+use text::Refusal;
+use text::refusal;
+ghost use Prim.Native.Nat.{_+_, _≤_};
+ghost use mathlib.Core.Path.{_≡_};
+ghost use lib.ListN.{length, take, drop};
+ghost use Rattle.braces.specs.Cutting.{IsWithin, ClosedWritten, Cut};
+
+// Whether a tape lies within buffers of these lengths, and what stands open within the tape.
+fn is_within(tape: Tape, letters: usize, lengths: usize) -> bool
+    ensures { λ r. ⌜ IsWithin tape letters lengths r ⌝ }
+{
+    let begun = tape.begun;
+    if letters < tape.letters {
+        return false;
+    }
+    if lengths < tape.lengths {
+        return false;
+    }
+    if tape.letters < begun.letters {
+        return false;
+    }
+    begun.variants <= tape.lengths
+}
+
+// Moves n members from place `from` on to the front.
+fn move_letters(letters: &mut [u8], from: usize, n: usize)
+    requires { ⌜ from + n ≤ length (now letters) ⌝ }
+    ensures { λ r. ⌜ take n (now (letters .exit)) ≡ take n (drop from (now (letters .entry))) ⌝ }
+{
+    let mut i = 0;
+    while i < n {
+        letters[i] = letters[from + i];
+        i += 1;
+    }
+}
+
+fn move_lengths(lengths: &mut [u16], from: usize, n: usize)
+    requires { ⌜ from + n ≤ length (now lengths) ⌝ }
+    ensures { λ r. ⌜ take n (now (lengths .exit)) ≡ take n (drop from (now (lengths .entry))) ⌝ }
+{
+    let mut i = 0;
+    while i < n {
+        lengths[i] = lengths[from + i];
+        i += 1;
+    }
+}
+
+// Writes the closed segments as a stretch. Numbers that no tape has are refused as 14.
+pub fn write_closed(
+    tape: Tape,
+    letters: &[u8],
+    lengths: &[u16],
+    counts: &[u8],
+    out: &mut [u8],
+) -> Written
+    ensures { λ r. ⌜ ClosedWritten tape (now (letters .entry)) (now (lengths .entry)) (now (counts .entry))
+        (now (out .entry)) r (now (out .exit)) ⌝ }
+{
+    let begun = tape.begun;
+    let wild = Written::Refused(Refusal {
+        number: refusal::WRITE_SUMS,
+        place: 0,
+    });
+    let segments = tape.counts;
+    if counts.len() < segments {
+        return wild;
+    }
+    if !is_within(tape, letters.len(), lengths.len()) {
+        return wild;
+    }
+    let spelt = tape.letters - begun.letters;
+    let variants = tape.lengths - begun.variants;
+    write(
+        &letters[..spelt],
+        &lengths[..variants],
+        &counts[..segments],
+        &mut *out,
+    )
+}
+
+// The tape of what stands open, moved to the front. Numbers that no tape has leave all as it is.
+pub fn cut(tape: Tape, letters: &mut [u8], lengths: &mut [u16]) -> Tape
+    ensures { λ r. ⌜ Cut tape (now (letters .entry)) (now (lengths .entry)) r (now (letters .exit)) (now (lengths .exit)) ⌝ }
+{
+    let begun = tape.begun;
+    let spelt = begun.letters;
+    let variants = begun.variants;
+    let letters_end = tape.letters;
+    let lengths_end = tape.lengths;
+    if !is_within(tape, letters.len(), lengths.len()) {
+        return tape;
+    }
+    move_letters(&mut *letters, letters_end - spelt, spelt);
+    move_lengths(&mut *lengths, lengths_end - variants, variants);
+    Tape {
+        letters: spelt,
+        lengths: variants,
+        counts: 0,
+        begun,
+    }
+}
