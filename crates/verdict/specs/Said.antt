@@ -1,0 +1,71 @@
+-- The lines that the desk prints, as bytes.
+use Prim.Native.Nat.{ℕ}
+use mathlib.Core.Bool.{Bool, cond, _&&_}
+use mathlib.Core.List.{List, [], _∷_, _++_}
+use lib.Dec.{eqb}
+use Rattle.lines.specs.Decimal.{digits}
+use Rattle.verdict.specs.Standing.{plus}
+use Rattle.verdict.specs.declared.standing.Standing.{Standing}
+
+-- ` ends in segment `
+abbrev pub endsWord : List ℕ
+endsWord = 0x20 ∷ 0x65 ∷ 0x6E ∷ 0x64 ∷ 0x73 ∷ 0x20 ∷ 0x69 ∷ 0x6E ∷ 0x20 ∷ 0x73 ∷ 0x65 ∷ 0x67 ∷ 0x6D ∷ 0x65 ∷ 0x6E ∷ 0x74 ∷ 0x20 ∷ []
+
+-- ` of the text, segment `
+abbrev pub textWord : List ℕ
+textWord = 0x20 ∷ 0x6F ∷ 0x66 ∷ 0x20 ∷ 0x74 ∷ 0x68 ∷ 0x65 ∷ 0x20 ∷ 0x74 ∷ 0x65 ∷ 0x78 ∷ 0x74 ∷ 0x2C ∷ 0x20 ∷ 0x73 ∷ 0x65 ∷ 0x67 ∷ 0x6D ∷ 0x65 ∷ 0x6E ∷ 0x74 ∷ 0x20 ∷ []
+
+-- ` of `
+abbrev pub ofWord : List ℕ
+ofWord = 0x20 ∷ 0x6F ∷ 0x66 ∷ 0x20 ∷ []
+
+-- ` clear` and the line's end
+abbrev pub clearWord : List ℕ
+clearWord = 0x20 ∷ 0x63 ∷ 0x6C ∷ 0x65 ∷ 0x61 ∷ 0x72 ∷ 0x0A ∷ []
+
+-- ` held, `
+abbrev pub heldWord : List ℕ
+heldWord = 0x20 ∷ 0x68 ∷ 0x65 ∷ 0x6C ∷ 0x64 ∷ 0x2C ∷ 0x20 ∷ []
+
+-- ` segments` and the line's end
+abbrev pub segmentsWord : List ℕ
+segmentsWord = 0x20 ∷ 0x73 ∷ 0x65 ∷ 0x67 ∷ 0x6D ∷ 0x65 ∷ 0x6E ∷ 0x74 ∷ 0x73 ∷ 0x0A ∷ []
+
+-- `refused `
+abbrev pub refusedWord : List ℕ
+refusedWord = 0x72 ∷ 0x65 ∷ 0x66 ∷ 0x75 ∷ 0x73 ∷ 0x65 ∷ 0x64 ∷ 0x20 ∷ []
+
+-- ` at `
+abbrev pub atWord : List ℕ
+atWord = 0x20 ∷ 0x61 ∷ 0x74 ∷ 0x20 ∷ []
+
+-- ` in `
+abbrev pub inWord : List ℕ
+inWord = 0x20 ∷ 0x69 ∷ 0x6E ∷ 0x20 ∷ []
+
+-- `clear` and the line's end
+abbrev pub clearLine : List ℕ
+clearLine = 0x63 ∷ 0x6C ∷ 0x65 ∷ 0x61 ∷ 0x72 ∷ 0x0A ∷ []
+
+-- `held` and the line's end
+abbrev pub heldLine : List ℕ
+heldLine = 0x68 ∷ 0x65 ∷ 0x6C ∷ 0x64 ∷ 0x0A ∷ []
+
+-- a segment in which a sequence ends, with so many segments in the files before: its number in the text, and in its file
+unfoldable pub hitLine : ℕ → ℕ → ℕ → List ℕ → List ℕ
+hitLine label before j name =
+    digits label ++ endsWord ++ digits (plus before j) ++ textWord ++ digits j ++ ofWord ++ name ++ (10 ∷ [])
+
+-- where a sequence stands behind the whole text: clear, or in how many of the segments it ends
+unfoldable pub standingLine : ℕ → Standing → List ℕ
+standingLine label x =
+    cond (eqb (x .ends) 0) (digits label ++ clearWord)
+    (digits label ++ heldWord ++ digits (x .ends) ++ ofWord ++ digits (x .segments) ++ segmentsWord)
+
+-- a file that is refused: the number, the place, and the file
+unfoldable pub refusedLine : ℕ → ℕ → List ℕ → List ℕ
+refusedLine n p name = refusedWord ++ digits n ++ atWord ++ digits p ++ inWord ++ name ++ (10 ∷ [])
+
+-- the last line: `clear` if every file was read and accepted, and so many as none of the sequences ended
+unfoldable pub lastLine : Bool → ℕ → List ℕ
+lastLine whole held = cond (whole && eqb held 0) clearLine heldLine

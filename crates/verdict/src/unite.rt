@@ -1,0 +1,42 @@
+// Marks of the two strands, united, and the marked segments one after another.
+ghost use mathlib.Core.Path.{_≡_};
+ghost use Prim.Native.Nat.{_≤_};
+ghost use lib.ListN.{length, take};
+ghost use Rattle.search.specs.Either.{united};
+ghost use Rattle.lines.specs.Answer.{markedFrom};
+ghost use Rattle.verdict.specs.Standing.{nextMarked};
+
+// Unites the front of `own` with the marks of the other strand, and tells how many segments are marked then.
+pub fn unite(other: &[u8], own: &mut [u8]) -> usize
+    requires { ⌜ length (now other) ≤ length (now own) ⌝ }
+    ensures { λ r. ⌜ r ≡ length (markedFrom 0 (united (take (length (now (other .entry))) (now (own .entry))) (now (other .entry)))) ⌝ }
+    ensures { λ r. ⌜ take (length (now (other .entry))) (now (own .exit))
+        ≡ united (take (length (now (other .entry))) (now (own .entry))) (now (other .entry)) ⌝ }
+{
+    let mut marked = 0;
+    let mut i = 0;
+    while i < other.len() {
+        if own[i] < other[i] {
+            own[i] = other[i];
+        }
+        if own[i] == 1 {
+            marked += 1;
+        }
+        i += 1;
+    }
+    marked
+}
+
+// The first marked segment from `from` on; the number of segments where there is none.
+pub fn next_marked(marks: &[u8], from: usize) -> usize
+    ensures { λ r. ⌜ r ≡ nextMarked (now (marks .entry)) from ⌝ }
+{
+    let mut j = from;
+    while j < marks.len() {
+        if marks[j] == 1 {
+            return j;
+        }
+        j += 1;
+    }
+    j
+}

@@ -1,0 +1,2 @@
+-- The list of withheld sequences: kinds of bytes, decimal numbers, and what a line says.
+pub mod Kinds
