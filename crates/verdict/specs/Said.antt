@@ -51,21 +51,28 @@ clearLine = 0x63 ∷ 0x6C ∷ 0x65 ∷ 0x61 ∷ 0x72 ∷ 0x0A ∷ []
 abbrev pub heldLine : List ℕ
 heldLine = 0x68 ∷ 0x65 ∷ 0x6C ∷ 0x64 ∷ 0x0A ∷ []
 
+-- a word and a number
+unfoldable pub counted : List ℕ → ℕ → List ℕ
+counted word n = word ++ digits n
+
+-- a word, a file's name, and the line's end
+unfoldable pub named : List ℕ → List ℕ → List ℕ
+named word name = word ++ name ++ (10 ∷ [])
+
 -- a segment in which a sequence ends, with so many segments in the files before: its number in the text, and in its file
 unfoldable pub hitLine : ℕ → ℕ → ℕ → List ℕ → List ℕ
-hitLine label before j name =
-    digits label ++ endsWord ++ digits (plus before j) ++ textWord ++ digits j ++ ofWord ++ name ++ (10 ∷ [])
+hitLine label before j name = digits label ++ counted endsWord (plus before j) ++ counted textWord j ++ named ofWord name
 
 -- where a sequence stands behind the whole text: clear, or in how many of the segments it ends
 unfoldable pub standingLine : ℕ → Standing → List ℕ
 standingLine label x =
     cond (eqb (x .ends) 0) (digits label ++ clearWord)
-    (digits label ++ heldWord ++ digits (x .ends) ++ ofWord ++ digits (x .segments) ++ segmentsWord)
+    (digits label ++ counted heldWord (x .ends) ++ counted ofWord (x .segments) ++ segmentsWord)
 
 -- a file that is refused: the number, the place, and the file
 unfoldable pub refusedLine : ℕ → ℕ → List ℕ → List ℕ
-refusedLine n p name = refusedWord ++ digits n ++ atWord ++ digits p ++ inWord ++ name ++ (10 ∷ [])
+refusedLine n p name = counted refusedWord n ++ counted atWord p ++ named inWord name
 
--- the last line: `clear` if every file was read and accepted, and so many as none of the sequences ended
+-- the last line: `clear` if every file was read and accepted and the sequences end in no segment
 unfoldable pub lastLine : Bool → ℕ → List ℕ
-lastLine whole held = cond (whole && eqb held 0) clearLine heldLine
+lastLine whole ends = cond (whole && eqb ends 0) clearLine heldLine

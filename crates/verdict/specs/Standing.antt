@@ -1,6 +1,6 @@
 -- Where a withheld sequence stands behind the stretches of a text, searched one after another on both strands.
 use Prim.Native.Nat.{ℕ, _+_, min}
-use mathlib.Core.Bool.{Bool, not}
+use mathlib.Core.Bool.{Bool, not, cond}
 use mathlib.Core.List.{List, [], _∷_}
 use lib.Dec.{eqb}
 use lib.ListN.{length, drop}
@@ -20,6 +20,10 @@ use Rattle.verdict.specs.declared.standing.Passed.the-variants.{To, Refu
 -- a sum that stays at the greatest number of 64 bits
 unfoldable pub plus : ℕ → ℕ → ℕ
 plus a b = min (a + b) 0xffffffffffffffff
+
+-- 1 for a mark of 1, and 0 for every other
+abbrev pub one : ℕ → ℕ
+one x = cond (eqb x 1) 1 0
 
 -- the first place from `from` on whose mark is 1
 unfoldable pub nextMarked : List ℕ → ℕ → ℕ
@@ -63,3 +67,8 @@ begun = record { given = record { bits = 1 }; opposite = record { bits = 1 }; se
 unfoldable pub stands : List ℕ → Standing → List (List ℕ) → Outcome Standing
 stands P x [] = ok x
 stands P x (s ∷ ss) = after (passing P x s mostInStretch) λ t. stands P (stood P x t) ss
+
+-- the sum of what the sequences of a list end in, behind all stretches; the first refusal refuses all
+unfoldable pub night : List (List ℕ) → List (List ℕ) → Outcome ℕ
+night [] ss = ok 0
+night (P ∷ Ps) ss = after (stands P begun ss) λ x. after (night Ps ss) λ n. ok (plus (x .ends) n)
