@@ -1,8 +1,7 @@
 // Kinds of bytes in the text of a list, and the place where bytes of a kind end.
 ghost use mathlib.Core.Path.{_≡_};
-ghost use Prim.Native.Nat.{_+_};
-ghost use lib.ListN.{drop};
-ghost use Rattle.text.specs.Letter.{firstNot};
+ghost use Prim.Native.Nat.{_≤_, max};
+ghost use lib.ListN.{length};
 ghost use Rattle.withheld.specs.Kinds.{of, past};
 
 // Blanks part a label from its sequence: space, tab, and the carriage return of a line's end. A word is whatever is no blank and begins
@@ -38,6 +37,7 @@ fn is_kind(kind: Kind, byte: u8) -> bool
 // The first place from `from` on whose byte is not of a kind; the end where there is none.
 pub fn past(kind: Kind, text: &[u8], from: usize) -> usize
     ensures { λ r. ⌜ r ≡ past kind (now (text .entry)) from ⌝ }
+    ensures { λ r. ⌜ (from ≤ r) × (r ≤ max from (length (now (text .entry)))) ⌝ }
 {
     let mut i = from;
     while i < text.len() {

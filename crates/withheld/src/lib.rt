@@ -2,9 +2,9 @@
 // by blanks; what stands behind a `#` is a comment, and a line with nothing else is passed over. A list is read line by line, where
 // it stands, since nothing of it is copied.
 mod classes;
-mod line;
-mod number;
+mod reading;
+mod decimal;
 
-pub use line::Fault;
-pub use line::Line;
-pub use line::line_at;
+pub use reading::Fault;
+pub use reading::Line;
+pub use reading::line_at;

@@ -1,11 +1,15 @@
 // The lines of a list.
 use crate::classes::Kind;
 use crate::classes::past;
-use crate::number::Number;
-use crate::number::number;
+use crate::decimal::Number;
+use crate::decimal::told;
 use text::Refusal;
 use text::pattern::PatternIs;
 use text::pattern::check;
+ghost use mathlib.Core.Path.{_≡_};
+ghost use Prim.Native.Nat.{_≤_};
+ghost use lib.ListN.{length};
+ghost use Rattle.withheld.specs.Line.{endsAt, sequenceOf, entryOf, behind, lineOf, Inside, Onward};
 
 // What is wrong with a line.
 pub enum Fault {
@@ -44,7 +48,9 @@ pub enum Line {
 }
 
 // Whether nothing stands from a place on: a line ends there, or a comment begins.
-fn ends_at(line: &[u8], at: usize) -> bool {
+fn ends_at(line: &[u8], at: usize) -> bool
+    ensures { λ r. ⌜ r ≡ endsAt (now (line .entry)) at ⌝ }
+{
     if line.len() <= at {
         return true;
     }
@@ -52,7 +58,10 @@ fn ends_at(line: &[u8], at: usize) -> bool {
 }
 
 // The sequence from `start` on, behind its label.
-fn sequence(line: &[u8], label: u64, start: usize) -> Entry {
+fn sequence(line: &[u8], label: u64, start: usize) -> Entry
+    requires { ⌜ start ≤ length (now line) ⌝ }
+    ensures { λ r. ⌜ (r ≡ sequenceOf (now (line .entry)) label start) × Inside (length (now (line .entry))) r ⌝ }
+{
     let end = past(Kind::Word, line, start);
     if let PatternIs::Refused(refused) = check(&line[start..end]) {
         return Entry::Wrong(Fault::Sequence(refused));
@@ -65,7 +74,9 @@ fn sequence(line: &[u8], label: u64, start: usize) -> Entry {
 }
 
 // What a line says, without its end.
-fn entry(line: &[u8]) -> Entry {
+fn content(line: &[u8]) -> Entry
+    ensures { λ r. ⌜ (r ≡ entryOf (now (line .entry))) × Inside (length (now (line .entry))) r ⌝ }
+{
     let first = past(Kind::Blank, line, 0);
     if ends_at(line, first) {
         return Entry::Nothing;
@@ -74,7 +85,7 @@ fn entry(line: &[u8]) -> Entry {
     if digits == first {
         return Entry::Wrong(Fault::NoLabel);
     }
-    let Number::Is(label) = number(&line[first..digits]) else {
+    let Number::Is(label) = told(&line[first..digits]) else {
         return Entry::Wrong(Fault::LargeLabel);
     };
     let start = past(Kind::Blank, line, digits);
@@ -87,19 +98,33 @@ fn entry(line: &[u8]) -> Entry {
     sequence(line, label, start)
 }
 
+// Where the line behind one that stops at `stop` begins: there is a line's end at most.
+fn behind(list: &[u8], stop: usize) -> usize
+    ensures { λ r. ⌜ r ≡ behind (now (list .entry)) stop ⌝ }
+{
+    if stop < list.len() {
+        return stop + 1;
+    }
+    stop
+}
+
 // The line that begins at a place of a list.
-pub fn line_at(list: &[u8], at: usize) -> Line {
+pub fn line_at(list: &[u8], at: usize) -> Line
+    ensures { λ r. ⌜ r ≡ lineOf (now (list .entry)) at ⌝ }
+    ensures { λ r. ⌜ Onward at (length (now (list .entry))) r ⌝ }
+{
     if list.len() <= at {
         return Line::End;
     }
     let stop = past(Kind::InLine, list, at);
-    match entry(&list[at..stop]) {
-        Entry::Nothing => Line::Nothing { next: stop + 1 },
+    let next = behind(list, stop);
+    match content(&list[at..stop]) {
+        Entry::Nothing => Line::Nothing { next },
         Entry::Withheld { label, start, end } => Line::Withheld {
             label,
             start: at + start,
             end: at + end,
-            next: stop + 1,
+            next,
         },
         Entry::Wrong(fault) => Line::Wrong(fault),
     }
