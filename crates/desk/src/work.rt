@@ -98,7 +98,7 @@ fn tell_hits(label: u64, before: u64, name: &[u8], marks: &[u8]) -> bool {
     let mut out = [0u8; 4352];
     let mut j = next_marked(marks, 0);
     while j < marks.len() {
-        let end = put_hit(label, before, j, name, &mut out);
+        let end = put_hit(label, before, j as u64, name, &mut out);
         if !print(&out[..end]) {
             return false;
         }

@@ -1,16 +1,26 @@
 -- Laws of the lines that the desk prints, by their cases.
-use Prim.Native.Nat.{ℕ}
+use Prim.Native.Nat.{ℕ, _-_, _≤_}
+use native.Mathlib.Omega.{arith}
 use mathlib.Core.Path.{_≡_, sym, ap}
 use mathlib.Core.Bool.{Bool, true, false, cond}
 use mathlib.Core.List.{List, _++_}
 use borrow.Author.Tests.{eq-eqb, ne-eqb}
 use lib.Dec.{eqb}
+use lib.ListN.{length, length-take}
+use lib.Seq.{length-take-le}
 use Rattle.lines.specs.Decimal.{digits}
 use Rattle.lines.specs.Puts.{Put}
+use Rattle.lines.proofs.Putting.{put-length}
 use Rattle.verdict.specs.Standing.{plus}
 use Rattle.verdict.specs.Said.{endsWord, textWord, ofWord, clearWord, heldWord, segmentsWord, clearLine, heldLine, counted, named}
-use Rattle.verdict.specs.Said.{hitLine, standingLine, lastLine}
+use Rattle.verdict.specs.Said.{hitLine, standingLine, lastLine, Fits}
 use Rattle.verdict.specs.declared.standing.Standing.{Standing}
+
+-- what is put from the start on stands in front of the buffer
+pub put-fits : {d xs out : List ℕ} {next : ℕ} → Put d 0 xs out next → Put d 0 xs out next × Fits next out
+put-fits {d} {xs} {out} {next} p =
+    let inside : next ≤ length out = omega (arith, p .place, put-length p, length-take (length d - 0) xs) in
+    (p, (inside, sym (length-take-le next out inside)))
 
 module _ {d out : List ℕ} {at next : ℕ} where
   pub hit-put : (label before j : ℕ) {number : ℕ} (name : List ℕ) → number ≡ plus before j

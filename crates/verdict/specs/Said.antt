@@ -1,8 +1,10 @@
 -- The lines that the desk prints, as bytes.
-use Prim.Native.Nat.{ℕ}
+use Prim.Native.Nat.{ℕ, _≤_}
+use mathlib.Core.Path.{_≡_}
 use mathlib.Core.Bool.{Bool, cond, _&&_}
 use mathlib.Core.List.{List, [], _∷_, _++_}
 use lib.Dec.{eqb}
+use lib.ListN.{length, take}
 use Rattle.lines.specs.Decimal.{digits}
 use Rattle.verdict.specs.Standing.{plus}
 use Rattle.verdict.specs.declared.standing.Standing.{Standing}
@@ -51,6 +53,22 @@ clearLine = 0x63 ∷ 0x6C ∷ 0x65 ∷ 0x61 ∷ 0x72 ∷ 0x0A ∷ []
 abbrev pub heldLine : List ℕ
 heldLine = 0x68 ∷ 0x65 ∷ 0x6C ∷ 0x64 ∷ 0x0A ∷ []
 
+-- `unread `
+abbrev pub unreadWord : List ℕ
+unreadWord = 0x75 ∷ 0x6E ∷ 0x72 ∷ 0x65 ∷ 0x61 ∷ 0x64 ∷ 0x20 ∷ []
+
+-- ` files` and the line's end
+abbrev pub filesWord : List ℕ
+filesWord = 0x20 ∷ 0x66 ∷ 0x69 ∷ 0x6C ∷ 0x65 ∷ 0x73 ∷ 0x0A ∷ []
+
+-- `line `
+abbrev pub lineWord : List ℕ
+lineWord = 0x6C ∷ 0x69 ∷ 0x6E ∷ 0x65 ∷ 0x20 ∷ []
+
+-- ` of the list: `
+abbrev pub listWord : List ℕ
+listWord = 0x20 ∷ 0x6F ∷ 0x66 ∷ 0x20 ∷ 0x74 ∷ 0x68 ∷ 0x65 ∷ 0x20 ∷ 0x6C ∷ 0x69 ∷ 0x73 ∷ 0x74 ∷ 0x3A ∷ 0x20 ∷ []
+
 -- a word and a number
 unfoldable pub counted : List ℕ → ℕ → List ℕ
 counted word n = word ++ digits n
@@ -76,3 +94,19 @@ refusedLine n p name = counted refusedWord n ++ counted atWord p ++ named inWord
 -- the last line: `clear` if every file was read and accepted and the sequences end in no segment
 unfoldable pub lastLine : Bool → ℕ → List ℕ
 lastLine whole ends = cond (whole && eqb ends 0) clearLine heldLine
+
+-- a file that could not be read
+unfoldable pub unreadLine : List ℕ → List ℕ
+unreadLine name = named unreadWord name
+
+-- how many of the files are done
+unfoldable pub doneLine : ℕ → ℕ → List ℕ
+doneLine done all = digits done ++ counted ofWord all ++ filesWord
+
+-- the words in front of what is wrong with a line of the list
+unfoldable pub faultWords : ℕ → List ℕ
+faultWords line = counted lineWord line ++ listWord
+
+-- r bytes stand in front of the buffer; the second part says it as a caller needs it who cuts them off
+abbrev pub Fits : ℕ → List ℕ → Type 0
+Fits r out = (r ≤ length out) × (r ≡ length (take r out))

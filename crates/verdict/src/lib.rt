@@ -5,10 +5,13 @@ mod standing;
 mod sum;
 mod unite;
 
+pub use said::put_done;
+pub use said::put_fault;
 pub use said::put_hit;
 pub use said::put_last;
 pub use said::put_refused;
 pub use said::put_standing;
+pub use said::put_unread;
 pub use standing::Passed;
 pub use standing::Standing;
 pub use standing::pass;

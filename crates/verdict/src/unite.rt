@@ -40,7 +40,7 @@ pub fn unite(other: &[u8], own: &mut [u8]) -> usize
 
 // The first marked segment from `from` on; the number of segments where there is none.
 pub fn next_marked(marks: &[u8], from: usize) -> usize
-    ensures { λ r. ⌜ r ≡ nextMarked (now (marks .entry)) from ⌝ }
+    ensures { λ r. ⌜ (r ≡ nextMarked (now (marks .entry)) from) × (from ≤ r) ⌝ }
 {
     let mut j = from;
     while j < marks.len() {

@@ -1,7 +1,7 @@
 -- `verdict::said::put_hit` meets its contract: the label, the two numbers and the name, one behind another.
 use Rattle.lines.proofs.Putting.{put-more}
 use Rattle.verdict.specs.Said.{hitLine}
-use Rattle.verdict.proofs.Saying.{hit-put}
+use Rattle.verdict.proofs.Saying.{put-fits, hit-put}
 use borrow.Author.Needs.{needs}
 use Rattle.verdict.proofs.said.put_hit.Statement.{statement}
 use Rattle.verdict.proofs.said.put_hit.Tie as tie
@@ -40,7 +40,7 @@ returns c =
     let n = k .before .before .before .before .before in
     let l = n .before .before .before .before .before in
     let p = l .before .before in
-    hit-put _ _ _ _ (p .plus .ensures) (put-more (put-more (put-more (l .put-number .ensures) (n .put-counted .ensures)) (k .put-counted2 .ensures)) (d .put-named .ensures))
+    put-fits (hit-put _ _ _ _ (p .plus .ensures) (put-more (put-more (put-more (l .put-number .ensures) (n .put-counted .ensures)) (k .put-counted2 .ensures)) (d .put-named .ensures)))
 
 pub put-hit-spec : {M : Type 1} → statement M
 put-hit-spec =

@@ -1,7 +1,7 @@
 -- `verdict::said::put_last` meets its contract: clear only where neither test is met.
 use borrow.Author.Needs.{needs}
 use borrow.Author.Tests.{not-true, not-false}
-use Rattle.verdict.proofs.Saying.{last-part, last-held, last-clear}
+use Rattle.verdict.proofs.Saying.{put-fits, last-part, last-held, last-clear}
 use Rattle.verdict.proofs.said.put_last.Statement.{statement}
 use Rattle.verdict.proofs.said.put_last.Tie as tie
 
@@ -9,19 +9,19 @@ returns : tie.Need-returns
 returns c =
     let d = c .before .before in
     let t = d .before .before .before in
-    last-part _ (not-true _ (t .if1 .taken)) (d .put-bytes .ensures)
+    put-fits (last-part _ (not-true _ (t .if1 .taken)) (d .put-bytes .ensures))
 
 returns-2 : tie.Need-returns-2
 returns-2 c =
     let d = c .before .before in
     let t = d .before .before .before in
-    last-held (not-false _ (t .before .if1 .left)) (t .if2 .taken) (d .put-bytes2 .ensures)
+    put-fits (last-held (not-false _ (t .before .if1 .left)) (t .if2 .taken) (d .put-bytes2 .ensures))
 
 returns-3 : tie.Need-returns-3
 returns-3 c =
     let d = c .before .before in
     let t = d .before .before .before in
-    last-clear (not-false _ (t .before .if1 .left)) (t .if2 .left) (d .put-bytes3 .ensures)
+    put-fits (last-clear (not-false _ (t .before .if1 .left)) (t .if2 .left) (d .put-bytes3 .ensures))
 
 pub put-last-spec : {M : Type 1} → statement M
 put-last-spec =

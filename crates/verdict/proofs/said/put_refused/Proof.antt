@@ -1,6 +1,7 @@
 -- `verdict::said::put_refused` meets its contract: the number, the place and the name, one behind another.
 use Rattle.lines.proofs.Putting.{put-more}
 use Rattle.verdict.specs.Said.{refusedLine}
+use Rattle.verdict.proofs.Saying.{put-fits}
 use borrow.Author.Needs.{needs}
 use Rattle.verdict.proofs.said.put_refused.Statement.{statement}
 use Rattle.verdict.proofs.said.put_refused.Tie as tie
@@ -32,7 +33,7 @@ returns c =
     let d = c .before .before in
     let p = d .before .before .before .before .before in
     let n = p .before .before .before .before .before in
-    put-more (put-more (n .put-counted .ensures) (p .put-counted2 .ensures)) (d .put-named .ensures)
+    put-fits (put-more (put-more (n .put-counted .ensures) (p .put-counted2 .ensures)) (d .put-named .ensures))
 
 pub put-refused-spec : {M : Type 1} → statement M
 put-refused-spec =

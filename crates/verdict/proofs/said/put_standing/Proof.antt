@@ -1,6 +1,6 @@
 -- `verdict::said::put_standing` meets its contract, whether the sequence ends anywhere or not.
 use Rattle.lines.proofs.Putting.{put-more}
-use Rattle.verdict.proofs.Saying.{clear-put, held-put}
+use Rattle.verdict.proofs.Saying.{put-fits, clear-put, held-put}
 use borrow.Author.Needs.{needs}
 use Rattle.verdict.proofs.said.put_standing.Statement.{statement}
 use Rattle.verdict.proofs.said.put_standing.Tie as tie
@@ -22,7 +22,7 @@ returns c =
     let d = c .before .before in
     let t = d .before .before .before in
     let l = t .before .before .before .before in
-    clear-put _ _ (t .if1 .taken) (put-more (l .put-number .ensures) (d .put-bytes .ensures))
+    put-fits (clear-put _ _ (t .if1 .taken) (put-more (l .put-number .ensures) (d .put-bytes .ensures)))
 
 slice-aggregate-put-counted : tie.Need-slice-aggregate-put-counted
 slice-aggregate-put-counted c = search needs
@@ -52,8 +52,8 @@ returns-2 c =
     let e = s .before .before .before .before .before in
     let t = e .before .before .before in
     let l = t .before .before .before .before in
-    held-put _ _ (t .if1 .left)
-    (put-more (put-more (put-more (l .put-number .ensures) (e .put-counted .ensures)) (s .put-counted2 .ensures)) (d .put-bytes2 .ensures))
+    put-fits (held-put _ _ (t .if1 .left)
+    (put-more (put-more (put-more (l .put-number .ensures) (e .put-counted .ensures)) (s .put-counted2 .ensures)) (d .put-bytes2 .ensures)))
 
 pub put-standing-spec : {M : Type 1} → statement M
 put-standing-spec =

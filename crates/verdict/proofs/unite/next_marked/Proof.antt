@@ -21,7 +21,8 @@ shared-slice-read-if1 c = search needs
 returns : tie.Need-returns Inv-loop μ-loop
 returns c =
     let t = c .before .before in
-    passing-marked (t .before .loop .inv) (t .loop-test .taken) (c .if1 .taken)
+    let p = t .before .loop .inv in
+    (passing-marked p (t .loop-test .taken) (c .if1 .taken), p .upto)
 
 add-j : tie.Need-add-j Inv-loop μ-loop
 add-j c = search needs
@@ -35,7 +36,7 @@ loop-again c =
     passing-more (t .before .loop .inv) (t .loop-test .taken) (c .if1 .left)
 
 returns-2 : tie.Need-returns-2 Inv-loop μ-loop
-returns-2 c = passing-end (c .before .loop .inv) (c .loop-test .left)
+returns-2 c = let p = c .before .loop .inv in (passing-end p (c .loop-test .left), p .upto)
 
 pub next-marked-spec : {M : Type 1} → statement M
 next-marked-spec =
