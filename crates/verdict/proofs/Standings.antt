@@ -142,12 +142,11 @@ module _ (P : List ℕ) (x : Standing) (s : List ℕ) (room : ℕ) where
           sym (g .state) ∙ ap (run (opposite P) (x .opposite .bits)) both in
           let is : record { segments = n; standing = record { given = own; opposite = turned; segments = all; ends = ends } } ≡ behind P x t =
           λ i.
-              record {
-                segments = sym (f .count) i;
-                standing =
-                    record { given = record { bits = sym (f .state) i }; opposite = record { bits = back i }; segments = many i; ends = more i };
-              } in
-          (
+          record {
+            segments = sym (f .count) i;
+            standing =
+                record { given = record { bits = sym (f .state) i }; opposite = record { bits = back i }; segments = many i; ends = more i };
+          } in (
             ap ok is ∙ sym (ap (λ (o : Outcome Text). after o (λ u. ok (behind P x u))) passes-text),
             λ u h.
                 let same : t ≡ u = ok-inj (sym passes-text ∙ h) in

@@ -2,9 +2,10 @@
 // by blanks; what stands behind a `#` is a comment, and a line with nothing else is passed over. A list is read line by line, where
 // it stands, since nothing of it is copied.
 mod classes;
-mod reading;
 mod decimal;
+mod reading;
 
 pub use reading::Fault;
 pub use reading::Line;
 pub use reading::line_at;
+pub use reading::part;

@@ -9,7 +9,7 @@ use text::pattern::check;
 ghost use mathlib.Core.Path.{_≡_};
 ghost use Prim.Native.Nat.{_≤_};
 ghost use lib.ListN.{length};
-ghost use Rattle.withheld.specs.Line.{endsAt, sequenceOf, entryOf, behind, lineOf, Inside, Onward};
+ghost use Rattle.withheld.specs.Line.{between, endsAt, sequenceOf, entryOf, behind, lineOf, Inside, Onward};
 
 // What is wrong with a line.
 pub enum Fault {
@@ -28,7 +28,11 @@ pub enum Fault {
 // What a line says: nothing; or a label and where its sequence stands.
 pub enum Entry {
     Nothing,
-    Withheld { label: u64, start: usize, end: usize },
+    Withheld {
+        label: u64,
+        start: usize,
+        end: usize,
+    },
     Wrong(Fault),
 }
 
@@ -128,4 +132,20 @@ pub fn line_at(list: &[u8], at: usize) -> Line
         },
         Entry::Wrong(fault) => Line::Wrong(fault),
     }
+}
+
+// The bytes from one place of a list up to another, as far as they are there.
+pub fn part(list: &[u8], start: usize, end: usize) -> &[u8]
+    ensures { λ r. ⌜ now r ≡ between (now (list .entry)) start end ⌝ }
+{
+    if list.len() < start {
+        return &list[..0];
+    }
+    if end < start {
+        return &list[..0];
+    }
+    if list.len() < end {
+        return &list[start..];
+    }
+    &list[start..end]
 }

@@ -52,10 +52,9 @@ returns-3 c =
     let d = j .before in
     let i = d .before in
     let e = i .before in
-    let p = e .before in
-    (
+    let p = e .before in (
       says-large _ (p .past .ensures .0) (e .ends-at .ensures) (i .if1 .left) (d .past2 .ensures .0) (j .if2 .left) (n .told .ensures)
-      (c .enum-told .given .1),
+          (c .enum-told .given .1),
       tt,
     )
 
@@ -71,10 +70,9 @@ returns-4 c =
     let d = j .before in
     let i = d .before in
     let e = i .before in
-    let p = e .before in
-    (
+    let p = e .before in (
       says-joined _ (p .past .ensures .0) (e .ends-at .ensures) (i .if1 .left) (d .past2 .ensures .0) (j .if2 .left) (n .told .ensures)
-      (k .label .given .1) (s .past3 .ensures .0) (c .if3 .taken),
+          (k .label .given .1) (s .past3 .ensures .0) (c .if3 .taken),
       tt,
     )
 
@@ -92,10 +90,9 @@ returns-5 c =
     let d = j .before in
     let i = d .before in
     let e = i .before in
-    let p = e .before in
-    (
+    let p = e .before in (
       says-no-sequence _ (p .past .ensures .0) (e .ends-at .ensures) (i .if1 .left) (d .past2 .ensures .0) (j .if2 .left) (n .told .ensures)
-      (k .label .given .1) (s .past3 .ensures .0) (t .if3 .left) (f .ends-at2 .ensures) (c .if4 .taken),
+          (k .label .given .1) (s .past3 .ensures .0) (t .if3 .left) (f .ends-at2 .ensures) (c .if4 .taken),
       tt,
     )
 
@@ -114,10 +111,9 @@ returns-6 c =
     let d = j .before in
     let i = d .before in
     let e = i .before in
-    let p = e .before in
-    (
+    let p = e .before in (
       says-sequence _ (p .past .ensures .0) (e .ends-at .ensures) (i .if1 .left) (d .past2 .ensures .0) (j .if2 .left) (n .told .ensures)
-      (k .label .given .1) (s .past3 .ensures .0) (t .if3 .left) (f .ends-at2 .ensures) (u .if4 .left) (c .sequence .ensures .0),
+          (k .label .given .1) (s .past3 .ensures .0) (t .if3 .left) (f .ends-at2 .ensures) (u .if4 .left) (c .sequence .ensures .0),
       c .sequence .ensures .1,
     )
 

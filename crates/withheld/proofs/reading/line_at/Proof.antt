@@ -57,8 +57,7 @@ returns-2 c =
     let n = c .before .before in
     let b = n .before .before in
     let p = b .before in
-    let t = p .before in
-    (
+    let t = p .before in (
       line-is _ _ (t .if1 .left) (p .past .ensures .0) (b .behind .ensures) (n .content .ensures .0) (c .enum-told .given .1),
       behind-on _ (b .behind .ensures) (t .if1 .left) (p .past .ensures .1 .0),
     )
@@ -70,8 +69,7 @@ returns-3 c =
     let b = n .before .before in
     let p = b .before in
     let t = p .before in
-    let i = inside-at (k .label .given .1) (n .content .ensures .1) in
-    (
+    let i = inside-at (k .label .given .1) (n .content .ensures .1) in (
       line-is _ _ (t .if1 .left) (p .past .ensures .0) (b .behind .ensures) (n .content .ensures .0) (k .label .given .1),
       (
         omega (arith, i .0),
@@ -86,8 +84,7 @@ returns-4 c =
     let n = k .before .before in
     let b = n .before .before in
     let p = b .before in
-    let t = p .before in
-    (
+    let t = p .before in (
       line-is _ _ (t .if1 .left) (p .past .ensures .0) (b .behind .ensures) (n .content .ensures .0) (k .fault .given .1),
       tt,
     )

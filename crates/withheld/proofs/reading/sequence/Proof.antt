@@ -45,10 +45,9 @@ returns-2 c =
     let b = e .before in
     let s = b .before in
     let k = s .before .before in
-    let p = k .before .before in
-    (
+    let p = k .before .before in (
       sequence-more _ _ _ (p .past .ensures .0) _ (k .check .ensures) (s .enum-told .given .1) (b .past2 .ensures .0) (e .ends-at .ensures)
-      (not-true _ (c .if1 .taken)),
+          (not-true _ (c .if1 .taken)),
       tt,
     )
 
@@ -58,10 +57,9 @@ returns-3 c =
     let b = e .before in
     let s = b .before in
     let k = s .before .before in
-    let p = k .before .before in
-    (
+    let p = k .before .before in (
       sequence-is _ _ _ (p .past .ensures .0) _ (k .check .ensures) (s .enum-told .given .1) (b .past2 .ensures .0) (e .ends-at .ensures)
-      (not-false _ (c .if1 .left)),
+          (not-false _ (c .if1 .left)),
       (p .past .ensures .1 .0, omega (arith, p .past .ensures .1 .1, p .before .before .pre)),
     )
 
