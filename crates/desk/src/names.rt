@@ -1,5 +1,6 @@
 // The files' names: words of the command line, or lines of a file.
 use lines::put_bytes;
+use stretch::number::wide;
 use text::compare::same;
 ghost use Rattle.io.specs.Counts.{Counts};
 
@@ -79,7 +80,7 @@ fn count_names(fd: i32) -> usize {
         inside: false,
         more: true,
     };
-    let mut left = 65536;
+    let mut left: usize = 65536;
     while 0 < left {
         counted = count_some(counted, fd);
         if !counted.more {
@@ -127,17 +128,17 @@ pub fn asked() -> Files {
 }
 
 // The next byte of a file, as a number; 256 where there is none.
-fn next_byte(fd: i32) -> u32 {
+fn next_byte(fd: i32) -> usize {
     let mut one = [0u8; 1];
     let got = libc::read(fd, &mut one);
     if got != 1 {
         return 256;
     }
-    one[0] as u32
+    wide(one[0])
 }
 
 // Whether a name of n bytes ends with this byte: there is none, or a line with a name ends.
-fn ends_name(byte: u32, n: usize) -> bool {
+fn ends_name(byte: usize, n: usize) -> bool {
     match byte {
         256 => true,
         10 => 0 < n,
@@ -146,7 +147,7 @@ fn ends_name(byte: u32, n: usize) -> bool {
 }
 
 // Puts a byte behind a name of n bytes, unless it ends a line.
-fn put_byte(byte: u32, name: &mut [u8], n: usize) -> usize {
+fn put_byte(byte: usize, name: &mut [u8], n: usize) -> usize {
     match byte {
         10 | 13 => n,
         _ => {
@@ -159,7 +160,7 @@ fn put_byte(byte: u32, name: &mut [u8], n: usize) -> usize {
 // The next name of a file of names; lines without one are passed over. One that is too long for a path is cut, and names no file.
 fn next_name(fd: i32, name: &mut [u8]) -> usize {
     let mut n = 0;
-    let mut left = 65536;
+    let mut left: usize = 65536;
     while 0 < left {
         let byte = next_byte(fd);
         if ends_name(byte, n) {

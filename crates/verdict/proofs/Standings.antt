@@ -4,6 +4,7 @@ use native.Mathlib.Omega.{arith}
 use mathlib.Core.Path.{_≡_, refl, sym, ap, ap₂, _∙_}
 use mathlib.Core.Bool.{true}
 use mathlib.Core.List.{List, _++_}
+use borrow.Author.Tests.{leb-true}
 use lib.Dec.{leb}
 use lib.ListN.{length, take, drop, length-append}
 use lib.Seq.{take-at}
@@ -26,18 +27,31 @@ use Rattle.search.specs.declared.state.Sought.{Sought}
 use Rattle.search.specs.declared.state.Sought.the-variants.{Marked, Refused}
 use Rattle.search.proofs.Entries.{Entered, entering-after, entered}
 use Rattle.lines.specs.Answer.{markedFrom}
-use Rattle.verdict.specs.Standing.{plus, passing, bothMarks, stood, Behind, behind}
+use Rattle.verdict.specs.Standing.{plus, passing, bothMarks, stood, Behind, behind, toldPassed}
 use Rattle.verdict.specs.declared.standing.Standing.{Standing}
+use Rattle.verdict.specs.declared.standing.Passed.{Passed}
+use Rattle.verdict.specs.declared.standing.Passed.the-variants.{To}
 
--- what an accepted search from a state has found of its pattern, its state and its stretch
+-- what an accepted search from a state has found of its pattern, its state and its stretch, and that there was room for its marks
 pub sought-sound : (P : List ℕ) (st : ℕ) (s : List ℕ) (room : ℕ) (t : Text) → seeking P st s room ≡ ok t
-    → Entered P st s × (stretchOf s ≡ ok t)
+    → Entered P st s × (stretchOf s ≡ ok t) × (length t ≤ room)
 unfolding seeking into
 sought-sound P st s room t e =
     let (_, f, g) = after-met (entering P st s (ok (tt {0}))) (λ _. stretchInto s room) t (sym (entering-after P st s (stretchInto s room)) ∙ e) in
     let (u, h, k) = after-met (stretchOf s) (λ x. demand (leb (length x) room) 10 0 (ok x)) t g in
-    let (_, same) = demand-met (leb (length u) room) 10 0 (ok u) t k in
-    (entered P st s f, h ∙ same)
+    let (fit, same) = demand-met (leb (length u) room) 10 0 (ok u) t k in
+    let few : length u ≤ room = leb-true (length u) room fit in
+    (entered P st s f, h ∙ same, rw (ok-inj same) at few)
+
+-- an accepted stretch has no more segments than there is room for marks
+pub passed-room : (P : List ℕ) (x : Standing) (s : List ℕ) (room : ℕ) {r : Passed} {n : ℕ} {y : Standing}
+    → toldPassed r ≡ after (passing P x s room) (λ t. ok (behind P x t)) → r ≡ To n y → n ≤ room
+unfolding passing
+passed-room P x s room {r} {n} {y} told e =
+    let (t, met, is) = told-met (passing P x s room) (behind P x) (record { segments = n; standing = y }) (sym told ∙ ap toldPassed e) in
+    let (_, _, own) = after-met (seeking P (x .opposite .bits) s mostInStretch) (λ _. seeking P (x .given .bits) s room) t met in
+    let count : length t ≡ n = ap (λ (b : Behind). b .segments) is in
+    omega (arith, sought-sound P (x .given .bits) s room t own .2, count)
 
 -- a search that was accepted: its text, the state behind it, and its marks in front of the buffer
 pub record Found (P Q : List ℕ) (st : ℕ) (s : List ℕ) (room n : ℕ) (reached : State) (left : List ℕ) : Type 0 where

@@ -8,7 +8,8 @@ use mathlib.Core.Bool.{Bool, true, false, cond}
 use mathlib.Core.List.{List, []}
 use borrow.Author.Tests.{eq-eqb, ne-eqb, le-leb, lt-leb, lt-ltb, le-ltb}
 use lib.Dec.{eqb, leb}
-use lib.ListN.{length, getD, take, drop}
+use lib.ListN.{length, getD, take, drop, length-drop, drop-of-length-le}
+use lib.Seq.{take-all, take-nil}
 use Rattle.text.specs.Refusal.{Outcome, ok, refused, pattern, toldPattern}
 use Rattle.text.specs.declared.refusal.Refusal.{Refusal}
 use Rattle.text.specs.declared.pattern.PatternIs.{PatternIs}
@@ -146,3 +147,18 @@ module _ (s : List ℕ) (at : ℕ) where
       let there : next ≡ behind s (past InLine s at) = n ∙ ap (behind s) e in
       let said : entryOf (between s at (past InLine s at)) ≡ y = sym (sym same ∙ is ∙ ap (λ (k : ℕ). entryOf (between s at k)) e) in
       rw (lt-leb (length s) at h, said, there) refl
+
+-- a part of a list, as far as it is there
+module _ (s : List ℕ) (start end : ℕ) where
+  pub part-far : length s < start → [] ≡ between s start end
+  part-far l = let far : length s ≤ start = omega arith in sym (rw (drop-of-length-le s far) (take-nil (end - start)))
+
+  pub part-none : end < start → [] ≡ between s start end
+  part-none l = let none : end - start ≡ 0 = omega arith in sym (rw none refl)
+
+  pub part-front : length s < end → take (length s - start) (drop start s) ≡ between s start end
+  part-front l =
+      let left : length (drop start s) ≡ length s - start = length-drop start s in
+      let few : length (drop start s) ≤ length s - start = omega arith in
+      let enough : length (drop start s) ≤ end - start = omega arith in
+      take-all (length s - start) (drop start s) few ∙ sym (take-all (end - start) (drop start s) enough)
