@@ -5,11 +5,11 @@ use Prim.Native.Nat.{ℕ, zero, suc, _+_, _≤_, _<_, _^_, min}
 use native.Mathlib.Omega.{arith}
 use mathlib.Core.Path.{_≡_, refl, sym, ap, ap₂, _∙_}
 use mathlib.Core.Logic.{_⊎_, ⊎-elim, _↔_}
-use mathlib.Core.Bool.{Bool, true, false}
+use mathlib.Core.Bool.{Bool, true, false, cond}
 use mathlib.Core.List.{List, [], _∷_, _++_, append-assoc, append-nil}
 use mathlib.Core.List.{List·Memᴰ, List·Memᴰ·cases-cons, List·Memᴰ·not-nil, Memᴰ·cast}
-use lib.Dec.{eqb}
-use lib.ListN.{length, getD, length-append}
+use borrow.Author.Tests.{ne-eqb}
+use lib.ListN.{length, getD, length-append, List·getD-append}
 use Rattle.text.specs.Text.{Text}
 use Rattle.text.specs.Occurrence.{EndsIn}
 use Rattle.text.specs.State.{isState, fresh, run, marksFrom, marks}
@@ -23,11 +23,13 @@ use Rattle.stretch.specs.Reading.{stretchOf}
 use Rattle.search.specs.Answers.{seeking}
 use Rattle.search.specs.Chain.{stretchesText}
 use Rattle.search.specs.Either.{united, eitherMarks}
+use Rattle.search.proofs.Eithers.{united-length}
 use Rattle.lines.specs.Answer.{markedFrom}
 use Rattle.lines.specs.declared.strands.Strands.the-variants.{Either}
 use Rattle.lines.proofs.Screens.{on-ends, on-length}
 use Rattle.lines.proofs.Named.{named-is, is-named}
 use Rattle.verdict.specs.Standing.{plus, passing, bothMarks, stood, begun, stands, night}
+use Rattle.verdict.specs.Said.{clearLine, heldLine, lastLine, nightLine}
 use Rattle.verdict.specs.declared.standing.Standing.{Standing}
 use Rattle.verdict.proofs.Standings.{sought-sound}
 use Rattle.verdict.proofs.Rows.{united-append, count-append, getD-behind, plus-cut}
@@ -127,3 +129,89 @@ pub stands-clear : (P : List ℕ) (ss : List (List ℕ)) (y : Standing) → Soun
 stands-clear P ss y sound e none =
     let z = stands-text P ss y e in
     (z .text, z .accepted, λ j h. (let c : ⊥ = omega (arith, none, z .at .ends, ends-some P (z .text) j sound h) in c))
+
+-- a line that says `clear` says it of a whole text in which nothing ends
+line-clear : (whole : Bool) (ends : ℕ) → lastLine whole ends ≡ clearLine → (whole ≡ true) × (ends ≡ 0)
+unfolding lastLine
+line-clear false ends e = absurd (let z : ⊥ = omega (arith, ap (λ (l : List ℕ). getD l 0 0) e) in z)
+line-clear true zero e = (refl, refl)
+line-clear true (suc n) e =
+    let some : suc n ≡ 0 → ⊥ = λ h. (let z : ⊥ = omega arith in z) in
+    let held : lastLine true (suc n) ≡ heldLine = rw (ne-eqb (suc n) 0 some) refl in
+    absurd (let z : ⊥ = omega (arith, ap (λ (l : List ℕ). getD l 0 0) (sym held ∙ e)) in z)
+
+night-none : (Ps ss : List (List ℕ)) (n : ℕ) → night Ps ss ≡ ok n → n ≡ 0 → (P : List ℕ) → List·Memᴰ P Ps
+    → (y : Standing) × (stands P begun ss ≡ ok y) × (y .ends ≡ 0)
+unfolding night plus
+night-none [] ss n e none P m = absurd (List·Memᴰ·not-nil m)
+night-none (Q ∷ Ps) ss n e none P m =
+    let (y, here, more) = after-met (stands Q begun ss) (λ x. after (night Ps ss) λ k. ok (plus (x .ends) k)) n e in
+    let (k, there, sum) = after-met (night Ps ss) (λ k. ok (plus (y .ends) k)) n more in
+    let zero-sum : min (y .ends + k) most ≡ 0 = ok-inj sum ∙ none in
+    let own : y .ends ≡ 0 = omega (arith, zero-sum) in
+    let rest : k ≡ 0 = omega (arith, zero-sum) in
+    ⊎-elim
+    (λ (same : P ≡ Q). (y, ap (λ (R : List ℕ). stands R begun ss) same ∙ here, own))
+    (λ (later : List·Memᴰ P Ps). night-none Ps ss k there rest P later)
+    (List·Memᴰ·cases-cons m)
+
+night-zero : (o : Outcome ℕ) → nightLine o ≡ clearLine → o ≡ ok 0
+night-zero (ok n) e = ap ok (line-clear true n e .1)
+night-zero (refused n p) e = let z : _≡_ {A = Bool} false true = line-clear false 0 e .0 in absurd (false-true z)
+  where
+    false-true : _≡_ {A = Bool} false true → ⊥
+    false-true e = let z : _≡_ {A = ℕ} 0 1 = ap (λ (b : Bool). cond b 1 0) e in (let y : ⊥ = omega arith in y)
+
+-- `clear` is said of a list of sequences and a row of stretches, of any number, only if every stretch was accepted and no occurrence of any
+-- of the sequences, on either strand, ends anywhere in the text of all the stretches, across every cut
+pub night-clear : (Ps ss : List (List ℕ)) → nightLine (night Ps ss) ≡ clearLine → (P : List ℕ) → List·Memᴰ P Ps → SoundPattern P
+    → (T : Text) × (stretchesText ss ≡ ok T) × ((j : ℕ) → EndsOnEither P T j → ⊥)
+night-clear Ps ss e P m sound =
+    let (y, met, none) = night-none Ps ss 0 (night-zero (night Ps ss) e) refl P m in
+    stands-clear P ss y sound met none
+
+-- a file behind others: with T the text of those before, t its own and U that of those behind, segment j of it is reported exactly when an
+-- occurrence ends, on either strand, in segment `length T + j` of the whole text
+module _ (P : List ℕ) (T t U : Text) (x : Standing) (a : At P T x) where
+  both-append : bothMarks P x (t ++ U) ≡ bothMarks P x t ++ united (marksFrom P (run P (x .given .bits) t) U)
+      (marksFrom (opposite P) (run (opposite P) (x .opposite .bits) t) U)
+  unfolding bothMarks
+  both-append =
+      let same : length (marksFrom P (x .given .bits) t) ≡ length (marksFrom (opposite P) (x .opposite .bits) t) =
+      marks-length P (x .given .bits) t ∙ sym (marks-length (opposite P) (x .opposite .bits) t) in
+      ap₂ united (marks-append P (x .given .bits) t U) (marks-append (opposite P) (x .opposite .bits) t U) ∙ united-append _ _ _ _ same
+
+  both-length : length (bothMarks P x t) ≡ length t
+  unfolding bothMarks
+  both-length =
+      let same : length (marksFrom P (x .given .bits) t) ≡ length (marksFrom (opposite P) (x .opposite .bits) t) =
+      marks-length P (x .given .bits) t ∙ sym (marks-length (opposite P) (x .opposite .bits) t) in
+      united-length _ _ same ∙ marks-length P (x .given .bits) t
+
+  mark-there : (j : ℕ) → j < length t → getD (eitherMarks P (T ++ (t ++ U))) (length T + j) 0 ≡ getD (bothMarks P x t) j 0
+  mark-there j l =
+      let far : length T ≡ length (eitherMarks P T) = sym (on-length P T Either) in
+      let inside : j < length (bothMarks P x t) = omega (arith, both-length) in
+      ap₂ (λ (marks : List ℕ) (i : ℕ). getD marks (i + j) 0) (marks-behind P T (t ++ U) x a) far
+      ∙ getD-behind (eitherMarks P T) (bothMarks P x (t ++ U)) j
+      ∙ ap (λ (l : List ℕ). getD l j 0) both-append
+      ∙ List·getD-append (bothMarks P x t) _ 0 j inside
+
+  pub reported : (j : ℕ) → SoundPattern P → j < length t
+      → List·Memᴰ j (markedFrom 0 (bothMarks P x t)) ↔ EndsOnEither P (T ++ (t ++ U)) (length T + j)
+  reported j sound l = (
+    λ m.
+        let (k, is, marked) = named-is 0 (bothMarks P x t) j m in
+        let same : k ≡ j = omega (arith, is) in
+        on-ends P (T ++ (t ++ U)) Either (length T + j) (sound .some) .0 (mark-there j l ∙ ap (λ (i : ℕ). getD (bothMarks P x t) i 0) (sym same) ∙ marked),
+    λ h.
+        let marked : getD (bothMarks P x t) j 0 ≡ 1 =
+        sym (mark-there j l) ∙ on-ends P (T ++ (t ++ U)) Either (length T + j) (sound .some) .1 h in
+        let same : j ≡ 0 + j = omega arith in
+        Memᴰ·cast same (is-named 0 (bothMarks P x t) j marked),
+  )
+
+  -- and with that number in the text
+  pub numbered : (j : ℕ) → length T + j ≤ most → plus (x .segments) j ≡ length T + j
+  unfolding plus
+  numbered j l = let own : x .segments ≡ length T = omega (arith, a .segments) in omega (arith, own)

@@ -1,10 +1,11 @@
 -- The lines that the desk prints, as bytes.
 use Prim.Native.Nat.{ℕ, _≤_}
 use mathlib.Core.Path.{_≡_}
-use mathlib.Core.Bool.{Bool, cond, _&&_}
+use mathlib.Core.Bool.{Bool, true, false, cond, _&&_}
 use mathlib.Core.List.{List, [], _∷_, _++_}
 use lib.Dec.{eqb}
 use lib.ListN.{length, take}
+use Rattle.text.specs.Refusal.{Outcome, ok, refused}
 use Rattle.lines.specs.Decimal.{digits}
 use Rattle.verdict.specs.Standing.{plus}
 use Rattle.verdict.specs.declared.standing.Standing.{Standing}
@@ -110,3 +111,8 @@ faultWords line = counted lineWord line ++ listWord
 -- r bytes stand in front of the buffer; the second part says it as a caller needs it who cuts them off
 abbrev pub Fits : ℕ → List ℕ → Type 0
 Fits r out = (r ≤ length out) × (r ≡ length (take r out))
+
+-- the last line of a night: of a text that is not whole it is never `clear`
+abbrev pub nightLine : Outcome ℕ → List ℕ
+nightLine (ok ends) = lastLine true ends
+nightLine (refused n p) = lastLine false 0
