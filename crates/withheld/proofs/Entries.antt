@@ -23,9 +23,7 @@ use Rattle.withheld.specs.declared.decimal.Number.the-variants.{Is, Larg
 use Rattle.withheld.specs.declared.reading.Fault.{Fault}
 use Rattle.withheld.specs.declared.reading.Fault.the-variants.{NoLabel, LargeLabel, NoSequence, Sequence, More}
 use Rattle.withheld.specs.declared.reading.Entry.{Entry}
-use Rattle.withheld.specs.declared.reading.Entry.the-variants as entry
 use Rattle.withheld.specs.declared.reading.Line.{Line}
-use Rattle.withheld.specs.declared.reading.Line.the-variants as line
 
 module _ (l : List ℕ) (at : ℕ) where
   pub ends-behind : length l ≤ at → true ≡ endsAt l at
@@ -56,7 +54,7 @@ behind-on s {at} {stop} {next} e l h =
     omega arith)
 
 -- the places of a sequence
-pub inside-at : {n : ℕ} {x : Entry} {label start end : ℕ} → x ≡ entry.Withheld label start end → Inside n x → (start ≤ end) × (end ≤ n)
+pub inside-at : {n : ℕ} {x : Entry} {label start end : ℕ} → x ≡ Entry.Withheld label start end → Inside n x → (start ≤ end) × (end ≤ n)
 inside-at e h = rw e at h
 
 -- a sequence and what stands behind it
@@ -65,7 +63,7 @@ module _ (l : List ℕ) (label start : ℕ) {end : ℕ} (e : end ≡ past Word l
     asked : toldPattern r ≡ pattern (between l start (past Word l start)) (ok (tt {0}))
     asked = told ∙ ap (λ (n : ℕ). pattern (between l start n) (ok (tt {0}))) e
 
-    pub sequence-not : (w : Refusal) → r ≡ Refused w → entry.Wrong (Sequence w) ≡ sequenceOf l label start
+    pub sequence-not : (w : Refusal) → r ≡ Refused w → Entry.Wrong (Sequence w) ≡ sequenceOf l label start
     unfolding sequenceOf closedBy
     sequence-not w is = rw (← asked, is) refl
 
@@ -73,20 +71,20 @@ module _ (l : List ℕ) (label start : ℕ) {end : ℕ} (e : end ≡ past Word l
       here : endsAt l (past Blank l (past Word l start)) ≡ last
       here = sym (f ∙ ap (endsAt l) (b ∙ ap (past Blank l) e))
 
-      pub sequence-more : last ≡ false → entry.Wrong More ≡ sequenceOf l label start
+      pub sequence-more : last ≡ false → Entry.Wrong More ≡ sequenceOf l label start
       unfolding sequenceOf closedBy
       sequence-more h = rw (← asked, is, here, h) refl
 
-      pub sequence-is : last ≡ true → entry.Withheld label start end ≡ sequenceOf l label start
+      pub sequence-is : last ≡ true → Entry.Withheld label start end ≡ sequenceOf l label start
       unfolding sequenceOf closedBy
-      sequence-is h = rw (← asked, is, here, h) (ap (λ (n : ℕ). entry.Withheld label start n) e)
+      sequence-is h = rw (← asked, is, here, h) (ap (λ (n : ℕ). Entry.Withheld label start n) e)
 
 -- what a line says: nothing, or a label and what stands behind it
 module _ (l : List ℕ) {first : ℕ} (a : first ≡ past Blank l 0) {none : Bool} (f : none ≡ endsAt l first) where
   begun : endsAt l (past Blank l 0) ≡ none
   begun = sym (f ∙ ap (endsAt l) a)
 
-  pub says-nothing : none ≡ true → entry.Nothing ≡ entryOf l
+  pub says-nothing : none ≡ true → Entry.Nothing ≡ entryOf l
   unfolding entryOf
   says-nothing h = rw (begun, h) refl
 
@@ -95,7 +93,7 @@ module _ (l : List ℕ) {first : ℕ} (a : first ≡ past Blank l 0) {none : Boo
     unfolding entryOf
     labels = rw (begun, some) (ap (labelOf l) (sym a))
 
-    pub says-no-label : digits ≡ first → entry.Wrong NoLabel ≡ entryOf l
+    pub says-no-label : digits ≡ first → Entry.Wrong NoLabel ≡ entryOf l
     unfolding labelOf
     says-no-label h = let same : past Digit l first ≡ first = sym b ∙ h in sym (labels ∙ rw (eq-eqb (past Digit l first) first same) refl)
 
@@ -107,12 +105,12 @@ module _ (l : List ℕ) {first : ℕ} (a : first ≡ past Blank l 0) {none : Boo
           let told : numberOf (between l first (past Digit l first)) ≡ r = sym (g ∙ ap (λ (n : ℕ). numberOf (between l first n)) b) in
           labels ∙ rw (ne-eqb (past Digit l first) first differ, told, b) refl
 
-      pub says-large : r ≡ Large → entry.Wrong LargeLabel ≡ entryOf l
+      pub says-large : r ≡ Large → Entry.Wrong LargeLabel ≡ entryOf l
       unfolding labelled
       says-large h = sym (numbered ∙ rw h refl)
 
       module _ {label : ℕ} (is : r ≡ Is label) {start : ℕ} (s : start ≡ past Blank l digits) where
-        pub says-joined : start ≡ digits → entry.Wrong NoSequence ≡ entryOf l
+        pub says-joined : start ≡ digits → Entry.Wrong NoSequence ≡ entryOf l
         unfolding labelled
         says-joined h =
             let same : past Blank l digits ≡ digits = sym s ∙ h in
@@ -125,7 +123,7 @@ module _ (l : List ℕ) {first : ℕ} (a : first ≡ past Blank l 0) {none : Boo
           ended : endsAt l (past Blank l digits) ≡ last
           ended = sym (k ∙ ap (endsAt l) s)
 
-          pub says-no-sequence : last ≡ true → entry.Wrong NoSequence ≡ entryOf l
+          pub says-no-sequence : last ≡ true → Entry.Wrong NoSequence ≡ entryOf l
           unfolding labelled
           says-no-sequence h = sym (numbered ∙ rw (is, ne-eqb (past Blank l digits) digits apart, ended, h) refl)
 
@@ -136,7 +134,7 @@ module _ (l : List ℕ) {first : ℕ} (a : first ≡ past Blank l 0) {none : Boo
 
 -- a line of a list
 module _ (s : List ℕ) (at : ℕ) where
-  pub line-none : length s ≤ at → line.End ≡ lineOf s at
+  pub line-none : length s ≤ at → Line.End ≡ lineOf s at
   unfolding lineOf
   line-none h = rw (le-leb (length s) at h) refl
 

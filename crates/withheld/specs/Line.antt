@@ -12,9 +12,7 @@ use Rattle.withheld.specs.declared.decimal.Number.{Number}
 use Rattle.withheld.specs.declared.decimal.Number.the-variants.{Is, Large}
 use Rattle.withheld.specs.declared.reading.Fault.the-variants.{NoLabel, LargeLabel, NoSequence, Sequence, More}
 use Rattle.withheld.specs.declared.reading.Entry.{Entry}
-use Rattle.withheld.specs.declared.reading.Entry.the-variants as entry
 use Rattle.withheld.specs.declared.reading.Line.{Line}
-use Rattle.withheld.specs.declared.reading.Line.the-variants as line
 
 -- nothing stands from a place on: the line ends there, or a comment begins
 unfoldable pub endsAt : List ℕ → ℕ → Bool
@@ -27,8 +25,8 @@ between l from to = take (to - from) (drop from l)
 -- a sequence and what stands behind it
 unfoldable pub closedBy : List ℕ → ℕ → ℕ → ℕ → Outcome (Unit {0}) → Entry
 closedBy l label start end (ok _) =
-    cond (endsAt l (past Blank l end)) (entry.Withheld label start end) (entry.Wrong More)
-closedBy l label start end (refused n p) = entry.Wrong (Sequence (record { number = n; place = p }))
+    cond (endsAt l (past Blank l end)) (Entry.Withheld label start end) (Entry.Wrong More)
+closedBy l label start end (refused n p) = Entry.Wrong (Sequence (record { number = n; place = p }))
 
 -- the sequence from `start` on, behind its label
 unfoldable pub sequenceOf : List ℕ → ℕ → ℕ → Entry
@@ -37,20 +35,20 @@ sequenceOf l label start =
 
 -- what stands behind the digits of a label
 unfoldable pub labelled : List ℕ → ℕ → Number → Entry
-labelled l digits Large = entry.Wrong LargeLabel
+labelled l digits Large = Entry.Wrong LargeLabel
 labelled l digits (Is label) =
-    cond (eqb (past Blank l digits) digits) (entry.Wrong NoSequence)
-    (cond (endsAt l (past Blank l digits)) (entry.Wrong NoSequence) (sequenceOf l label (past Blank l digits)))
+    cond (eqb (past Blank l digits) digits) (Entry.Wrong NoSequence)
+    (cond (endsAt l (past Blank l digits)) (Entry.Wrong NoSequence) (sequenceOf l label (past Blank l digits)))
 
 -- a line that begins to say something at `first`
 unfoldable pub labelOf : List ℕ → ℕ → Entry
 labelOf l first =
-    cond (eqb (past Digit l first) first) (entry.Wrong NoLabel)
+    cond (eqb (past Digit l first) first) (Entry.Wrong NoLabel)
     (labelled l (past Digit l first) (numberOf (between l first (past Digit l first))))
 
 -- what a line says
 unfoldable pub entryOf : List ℕ → Entry
-entryOf l = cond (endsAt l (past Blank l 0)) entry.Nothing (labelOf l (past Blank l 0))
+entryOf l = cond (endsAt l (past Blank l 0)) Entry.Nothing (labelOf l (past Blank l 0))
 
 -- where the line behind one that stops at `stop` begins
 unfoldable pub behind : List ℕ → ℕ → ℕ
@@ -58,23 +56,23 @@ behind s stop = cond (ltb stop (length s)) (stop + 1) stop
 
 -- what a line says, by places in its list
 abbrev pub placed : ℕ → ℕ → Entry → Line
-placed at next entry.Nothing = line.Nothing next
-placed at next (entry.Withheld label start end) = line.Withheld label (at + start) (at + end) next
-placed at next (entry.Wrong fault) = line.Wrong fault
+placed at next Entry.Nothing = Line.Nothing next
+placed at next (Entry.Withheld label start end) = Line.Withheld label (at + start) (at + end) next
+placed at next (Entry.Wrong fault) = Line.Wrong fault
 
 -- the line that begins at a place of a list
 unfoldable pub lineOf : List ℕ → ℕ → Line
-lineOf s at = cond (leb (length s) at) line.End (placed at (behind s (past InLine s at)) (entryOf (between s at (past InLine s at))))
+lineOf s at = cond (leb (length s) at) Line.End (placed at (behind s (past InLine s at)) (entryOf (between s at (past InLine s at))))
 
 -- a sequence stands in a line of n bytes
 abbrev pub Inside : ℕ → Entry → Type 0
-Inside n entry.Nothing = Unit {0}
-Inside n (entry.Withheld label start end) = (start ≤ end) × (end ≤ n)
-Inside n (entry.Wrong fault) = Unit {0}
+Inside n Entry.Nothing = Unit {0}
+Inside n (Entry.Withheld label start end) = (start ≤ end) × (end ≤ n)
+Inside n (Entry.Wrong fault) = Unit {0}
 
 -- a sequence stands in a list of n bytes, and the next line begins behind this one
 abbrev pub Onward : ℕ → ℕ → Line → Type 0
-Onward at n (line.Nothing next) = at < next
-Onward at n (line.Withheld label start end next) = (start ≤ end) × (end ≤ n) × (at < next)
-Onward at n (line.Wrong fault) = Unit {0}
-Onward at n line.End = Unit {0}
+Onward at n (Line.Nothing next) = at < next
+Onward at n (Line.Withheld label start end next) = (start ≤ end) × (end ≤ n) × (at < next)
+Onward at n (Line.Wrong fault) = Unit {0}
+Onward at n Line.End = Unit {0}
