@@ -1,4 +1,5 @@
 # What the toolchain makes of the crates, how to run it here, and packages. Sourced from the top folder.
+top_folder=$PWD
 
 # The toolchain's folder with its compiler, the loader that programs run with and, on Arm, an emulator.
 toolchain() {
@@ -20,14 +21,14 @@ keep_runtime() {
     mv "$runtime.new" "$runtime"
 }
 
-# Runs a program of target/bin as rt does, with the words behind its name.
-run_program() {
-    emulator=$runtime/qemu-x86_64
-    [ -x "$emulator" ] || emulator=''
-    program=$1
+# Runs a program of target/bin as rt does, with the words behind its name, from whatever folder.
+run_program() (
+    runs="$top_folder/$runtime" program=$top_folder/target/bin/$1
     shift
-    $emulator "$runtime/ld-linux-x86-64.so.2" --library-path "$runtime" "target/bin/$program" "$@"
-}
+    set -- "$runs/ld-linux-x86-64.so.2" --library-path "$runs" "$program" "$@"
+    [ ! -x "$runs/qemu-x86_64" ] || set -- "$runs/qemu-x86_64" "$@"
+    exec "$@"
+)
 
 # Ends what rt has started, all of it, and then the script. rt starts provers that a Ctrl-C does not reach, so it has a group of its own.
 end_prover() {

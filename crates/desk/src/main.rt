@@ -1,0 +1,48 @@
+// The release desk's night: screens a text of many stretches for a list of withheld sequences, on both strands, and prints the lines of
+// crate `verdict`. The words behind the program's name are the list's file, then the files of the stretches in order, or `-l` and a file
+// with one name to a line. The lines that decide go to descriptor 3 as well, once all that stands before them is written: a program
+// has no status, and who reads there need not read what may be long.
+mod list;
+mod names;
+mod read;
+mod tell;
+mod work;
+
+use list::is_sound;
+use names::asked;
+use read::read_file;
+use tell::say;
+use work::screen;
+
+// Screens the files that the command line names for the sequences of a list.
+fn screen_for(list: &[u8]) {
+    if !is_sound(list) {
+        return;
+    }
+    let files = asked();
+    if files.count == 0 {
+        say(b"there is no file to screen\n");
+        return;
+    }
+    screen(list, files);
+}
+
+fn main() {
+    if os::arg_count() < 3 {
+        say(b"usage: desk LIST FILE... or desk LIST -l NAMES\n");
+        return;
+    }
+    let mut bytes = io::large_buffer();
+    let mut name = io::buffer();
+    let n = os::arg(1, &mut name);
+    let got = read_file(&name[..n], &mut bytes);
+    let count = got.count;
+    if !got.whole {
+        return;
+    }
+    if count == 65536 {
+        say(b"the list has more than 65535 bytes\n");
+        return;
+    }
+    screen_for(&bytes[..count]);
+}

@@ -1,0 +1,6 @@
+-- Laws of the definitions in specs/.
+pub mod Saying
+pub mod Uniting
+pub mod Standings
+pub mod Rows
+pub mod Theorems

@@ -1,0 +1,13 @@
+-- `verdict::said::put_unread` meets its contract.
+use borrow.Author.Needs.{needs}
+use Rattle.verdict.specs.Said.{unreadLine}
+use Rattle.verdict.proofs.Saying.{put-fits}
+use Rattle.verdict.proofs.said.put_unread.Statement.{statement}
+use Rattle.verdict.proofs.said.put_unread.Tie as tie
+
+returns : tie.Need-returns
+unfolding unreadLine
+returns c = put-fits (c .before .before .put-named .ensures)
+
+pub put-unread-spec : {M : Type 1} → statement M
+put-unread-spec = tie.close (tie.spec (λ c. search needs) (λ c κs. search needs) (λ c. search needs) returns)

@@ -1,0 +1,3 @@
+-- What the desk decides: where a sequence stands behind stretches, and the lines that say so.
+pub mod Standing
+pub mod Said

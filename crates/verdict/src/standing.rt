@@ -1,0 +1,83 @@
+// Where a withheld sequence stands behind the stretches of a text that were searched so far, and how one more stretch moves it.
+use crate::sum::plus;
+use crate::unite::unite;
+use search::Sought;
+use search::State;
+use text::Refusal;
+use text::refusal;
+use text::strand::Strand;
+ghost use mathlib.Core.Path.{_≡_};
+ghost use lib.ListN.{length};
+ghost use Rattle.text.specs.Refusal.{ok, after};
+ghost use Rattle.search.specs.Answers.{MarksOf};
+ghost use Rattle.verdict.specs.Standing.{passing, behind, bothMarks, toldPassed};
+
+// What the strand as given and the opposite one carry, the number of segments, and the number of those in which the sequence ends on
+// either strand.
+pub struct Standing {
+    pub given: State,
+    pub opposite: State,
+    pub segments: u64,
+    pub ends: u64,
+}
+
+impl Standing {
+    // Nothing is searched yet.
+    pub const BEGUN: Standing = Standing {
+        given: State { bits: 1 },
+        opposite: State { bits: 1 },
+        segments: 0,
+        ends: 0,
+    };
+}
+
+// The segment count of a stretch, and where the sequence stands behind it.
+pub enum Passed {
+    To { segments: usize, standing: Standing },
+    Refused(Refusal),
+}
+
+// Searches one more stretch on both strands, each from where it stands, and marks the segments in which the sequence ends on either. A
+// refusal is that of the search; the marks are then of no meaning.
+pub fn pass(pattern: &[u8], standing: Standing, stretch: &[u8], marks: &mut [u8]) -> Passed
+    ensures { λ r. ⌜ toldPassed r ≡ after (passing (now (pattern .entry)) standing (now (stretch .entry)) (length (now (marks .entry))))
+        (λ t. ok (behind (now (pattern .entry)) standing t)) ⌝ }
+    ensures { λ r. ⌜ MarksOf (bothMarks (now (pattern .entry)) standing)
+        (passing (now (pattern .entry)) standing (now (stretch .entry)) (length (now (marks .entry)))) (now (marks .exit)) ⌝ }
+{
+    let mut other = [0u8; refusal::MOST_IN_STRETCH];
+    let turned = standing.opposite;
+    match turned.through(pattern, Strand::Opposite, stretch, &mut other) {
+        Sought::Refused(refused) => Passed::Refused(refused),
+        Sought::Marked {
+            segments: _,
+            size: _,
+            ends: _,
+            state: opposite,
+        } => {
+            let own = standing.given;
+            match own.through(pattern, Strand::Given, stretch, &mut *marks) {
+                Sought::Refused(refused) => Passed::Refused(refused),
+                Sought::Marked {
+                    segments,
+                    size: _,
+                    ends: _,
+                    state: given,
+                } => {
+                    let marked = unite(&other[..segments], &mut *marks);
+                    let all = plus(standing.segments, segments as u64);
+                    let ends = plus(standing.ends, marked as u64);
+                    Passed::To {
+                        segments,
+                        standing: Standing {
+                            given,
+                            opposite,
+                            segments: all,
+                            ends,
+                        },
+                    }
+                }
+            }
+        }
+    }
+}

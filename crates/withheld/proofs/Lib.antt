@@ -1,0 +1,4 @@
+-- Laws of the definitions in specs/.
+pub mod Skips
+pub mod Values
+pub mod Entries

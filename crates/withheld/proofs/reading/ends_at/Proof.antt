@@ -1,0 +1,14 @@
+-- `withheld::reading::ends_at` meets its contract: the line's end, or the byte of a comment.
+use borrow.Author.Needs.{needs}
+use Rattle.withheld.proofs.Entries.{ends-behind, ends-here}
+use Rattle.withheld.proofs.reading.ends_at.Statement.{statement}
+use Rattle.withheld.proofs.reading.ends_at.Tie as tie
+
+returns : tie.Need-returns
+returns c = ends-behind _ _ (c .if1 .taken)
+
+returns-2 : tie.Need-returns-2
+returns-2 c = ends-here _ _ (c .before .if1 .left)
+
+pub ends-at-spec : {M : Type 1} → statement M
+ends-at-spec = tie.close (tie.spec returns (λ c. search needs) returns-2)
