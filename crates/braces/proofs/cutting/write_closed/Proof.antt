@@ -38,7 +38,7 @@ slice-aggregate-write-3 : tie.Need-slice-aggregate-write-3
 slice-aggregate-write-3 c = sym (length-take-le _ _ (c .before .before .before .before .before .before .before .before .before .if1 .left))
 
 returns-3 : tie.Need-returns-3
-returns-3 c = let d = c .before .before in closed-done _ _ _ _ _ _ _ (d .write .ensures .0) (d .write .ensures .1)
+returns-3 c = let d = c .before .before in closed-done _ _ _ _ _ _ _ (d .write .ensures .0) (d .write .ensures .1 .1)
 
 pub write-closed-spec : {M : Type 1} → statement M
 write-closed-spec =

@@ -11,8 +11,8 @@ array-share-prefix-other c =
     let o = s .before .before .before .before .before .before .before .before in
     let two = s .before .before .before .before .through2 in
     let one = s .before .before .before .before .before .before .before .before .before .before .before .through in
-    let f = sought-found _ _ _ _ _ _ _ _ (two .ensures .0) (two .ensures .1) _ _ _ _ (s .segments .given .1) in
-    let g = sought-found _ _ _ _ _ _ _ _ (one .ensures .0) (one .ensures .1) _ _ _ _ (o .opposite .given .1) in
+    let f = sought-found _ _ _ _ _ _ _ _ (two .ensures .0) (two .ensures .1 .1) _ _ _ _ (s .segments .given .1) in
+    let g = sought-found _ _ _ _ _ _ _ _ (one .ensures .0) (one .ensures .1 .1) _ _ _ _ (o .opposite .given .1) in
     turned-long _ (s .before .before .before .before .before .before .before .before .before .before .before .before .before .before .before .before .before .args .standing) _ _ g f
 
 slice-aggregate-unite : tie.Need-slice-aggregate-unite
@@ -21,8 +21,8 @@ slice-aggregate-unite c =
     let o = s .before .before .before .before .before .before .before .before in
     let two = s .before .before .before .before .through2 in
     let one = s .before .before .before .before .before .before .before .before .before .before .before .through in
-    let f = sought-found _ _ _ _ _ _ _ _ (two .ensures .0) (two .ensures .1) _ _ _ _ (s .segments .given .1) in
-    let g = sought-found _ _ _ _ _ _ _ _ (one .ensures .0) (one .ensures .1) _ _ _ _ (o .opposite .given .1) in
+    let f = sought-found _ _ _ _ _ _ _ _ (two .ensures .0) (two .ensures .1 .1) _ _ _ _ (s .segments .given .1) in
+    let g = sought-found _ _ _ _ _ _ _ _ (one .ensures .0) (one .ensures .1 .1) _ _ _ _ (o .opposite .given .1) in
     turned-count _ (s .before .before .before .before .before .before .before .before .before .before .before .before .before .before .before .before .before .args .standing) _ _ g f
 
 unite-requires : tie.Need-unite-requires
@@ -31,22 +31,22 @@ unite-requires c κs =
     let o = s .before .before .before .before .before .before .before .before in
     let two = s .before .before .before .before .through2 in
     let one = s .before .before .before .before .before .before .before .before .before .before .before .through in
-    let f = sought-found _ _ _ _ _ _ _ _ (two .ensures .0) (two .ensures .1) _ _ _ _ (s .segments .given .1) in
-    let g = sought-found _ _ _ _ _ _ _ _ (one .ensures .0) (one .ensures .1) _ _ _ _ (o .opposite .given .1) in
+    let f = sought-found _ _ _ _ _ _ _ _ (two .ensures .0) (two .ensures .1 .1) _ _ _ _ (s .segments .given .1) in
+    let g = sought-found _ _ _ _ _ _ _ _ (one .ensures .0) (one .ensures .1 .1) _ _ _ _ (o .opposite .given .1) in
     turned-room _ (s .before .before .before .before .before .before .before .before .before .before .before .before .before .before .before .before .before .args .standing) _ _ g f
 
 returns : tie.Need-returns
 returns c =
     let d = c .before .before .before .before in
-    passes-other _ _ _ _ _ _ _ (sought-not _ _ _ _ _ _ _ _ (d .through .ensures .0) (d .through .ensures .1) _ (c .before .refused .given .1))
+    passes-other _ _ _ _ _ _ _ (sought-not _ _ _ _ _ _ _ _ (d .through .ensures .0) (d .through .ensures .1 .1) _ (c .before .refused .given .1))
 
 returns-2 : tie.Need-returns-2
 returns-2 c =
     let two = c .before .before .before .before .before .through2 in
     let one = c .before .before .before .before .before .before .before .before .before .before .before .before .through in
     let o = c .before .before .before .before .before .before .before .before .before in
-    let g = sought-found _ _ _ _ _ _ _ _ (one .ensures .0) (one .ensures .1) _ _ _ _ (o .opposite .given .1) in
-    passes-own _ _ _ _ g _ _ _ (sought-not _ _ _ _ _ _ _ _ (two .ensures .0) (two .ensures .1) _ (c .before .refused2 .given .1))
+    let g = sought-found _ _ _ _ _ _ _ _ (one .ensures .0) (one .ensures .1 .1) _ _ _ _ (o .opposite .given .1) in
+    passes-own _ _ _ _ g _ _ _ (sought-not _ _ _ _ _ _ _ _ (two .ensures .0) (two .ensures .1 .1) _ (c .before .refused2 .given .1))
 
 returns-3 : tie.Need-returns-3
 returns-3 c =
@@ -55,8 +55,8 @@ returns-3 c =
     let o = s .before .before .before .before .before .before .before .before in
     let two = s .before .before .before .before .through2 in
     let one = s .before .before .before .before .before .before .before .before .before .before .before .through in
-    let f = sought-found _ _ _ _ _ _ _ _ (two .ensures .0) (two .ensures .1) _ _ _ _ (s .segments .given .1) in
-    let g = sought-found _ _ _ _ _ _ _ _ (one .ensures .0) (one .ensures .1) _ _ _ _ (o .opposite .given .1) in
+    let f = sought-found _ _ _ _ _ _ _ _ (two .ensures .0) (two .ensures .1 .1) _ _ _ _ (s .segments .given .1) in
+    let g = sought-found _ _ _ _ _ _ _ _ (one .ensures .0) (one .ensures .1 .1) _ _ _ _ (o .opposite .given .1) in
     passes-through _ _ _ _ g f _ _ _ _ (c .before .plus .ensures) (c .plus2 .ensures) (u .unite .ensures .0) (u .unite .ensures .1)
 
 pub pass-spec : {M : Type 1} → statement M
