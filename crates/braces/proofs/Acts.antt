@@ -1,17 +1,17 @@
 -- Laws of the notation: what each test of a byte makes of it.
 use Prim.Native.Nat.{ℕ, _+_, _<_, _≤_}
-use mathlib.Core.Path.{_≡_, refl, sym, ap, _∙_}
+use mathlib.Core.Path.{_≡_}
 use mathlib.Core.Bool.{true, false}
-use lib.Dec.{eqb, leb}
+use lib.Dec.{eqb}
 use borrow.Author.Tests.{eq-eqb, ne-eqb, le-leb, lt-leb}
 use Rattle.text.specs.Letter.{letter}
 use Rattle.stretch.specs.Bytes.{greatestStretch}
-use Rattle.braces.specs.Notation.{white, nothing, brace, inside, lettered, opened, comma, closed, actOf, ended}
+use Rattle.braces.specs.Notation.{white, inside, lettered, opened, comma, closed, actOf}
 use Rattle.braces.specs.declared.notation.Mode.{Mode}
-use Rattle.braces.specs.declared.notation.Mode.the-variants.{Between, Bare, Braced}
+use Rattle.braces.specs.declared.notation.Mode.the-variants.{Braced}
 use Rattle.braces.specs.declared.notation.Begun.{Begun}
 use Rattle.braces.specs.declared.notation.Act.{Act}
-use Rattle.braces.specs.declared.notation.Act.the-variants.{Pass, Letter, Variant, Segment, Wrong}
+use Rattle.braces.specs.declared.notation.Act.the-variants.{Pass, Letter, Variant, Wrong}
 
 -- white space
 pub white-space : (x : ℕ) → x ≡ 0x20 → true ≡ white x

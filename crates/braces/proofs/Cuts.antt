@@ -15,7 +15,6 @@ use Rattle.stretch.specs.Encoding.{encode}
 use Rattle.stretch.specs.Answers.{toldWritten, written, leftBy}
 use Rattle.stretch.specs.declared.writer.Written.{Written}
 use Rattle.braces.specs.Cutting.{Within, IsWithin, CutOff, Cut, closedWriting, ClosedWritten}
-use Rattle.braces.specs.declared.notation.Begun.{Begun}
 use Rattle.braces.specs.declared.filling.Tape.{Tape}
 
 -- whether a tape lies within its buffers

@@ -7,9 +7,9 @@ use mathlib.Core.List.{List, [], _∷_, _++_, append-assoc}
 use lib.ListN.{length, take, drop, getD, set, drop-of-length-le}
 use lib.Seq.{take-suc-set, drop-cons}
 use Rattle.braces.specs.Notation.{actOf}
-use Rattle.braces.specs.Reading.{Read, rests, onto, acted, reads}
+use Rattle.braces.specs.Reading.{Read, onto, acted, reads}
 use Rattle.braces.specs.Filling.{isFull, LetterPut, VariantPut, SegmentPut, Buffers, buffers, heldIn}
-use Rattle.braces.specs.Filling.{ActDone, Keeps, Stuck, PieceRead}
+use Rattle.braces.specs.Filling.{ActDone, Keeps, PieceRead}
 use Rattle.braces.specs.declared.notation.Begun.{Begun}
 use Rattle.braces.specs.declared.notation.Act.{Act}
 use Rattle.braces.specs.declared.notation.Act.the-variants.{Pass, Letter, Variant, Segment, Wrong}

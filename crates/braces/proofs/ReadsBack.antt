@@ -1,27 +1,25 @@
 -- Laws of the way back: the notation of a text, read, puts the text's own letters, lengths and counts.
-use Prim.Native.Nat.{ℕ, zero, suc, _+_, _-_, _<_, _≤_}
-use native.Mathlib.Numerals.{add-one}
+use Prim.Native.Nat.{ℕ, suc, _+_, _<_, _≤_}
 use native.Mathlib.Omega.{arith}
 use mathlib.Core.Path.{_≡_, refl, sym, ap, _∙_}
 use mathlib.Core.Logic.{⊎-elim}
-use mathlib.Core.Bool.{Bool, true, false, _||_, _&&_, cond}
-use mathlib.Core.List.{List, [], _∷_, _++_, map, map-append, flatten, append-nil, append-assoc}
+use mathlib.Core.Bool.{Bool, true, false, _||_, _&&_}
+use mathlib.Core.List.{List, [], _∷_, _++_, map, map-append, flatten, append-assoc}
 use lib.Dec.{eqb, leb, ltb}
 use lib.ListN.{length, length-append}
-use borrow.Author.Tests.{eqb-true, le-leb, lt-leb, leb-true, ltb-true}
+use borrow.Author.Tests.{eqb-true, lt-leb, leb-true, ltb-true}
 use Rattle.text.specs.Letter.{base, letter, every}
 use Rattle.text.specs.Text.{Variant, Segment, Text}
 use Rattle.text.proofs.Truth.{or-cases, and-left, and-right}
 use Rattle.stretch.specs.Bytes.{greatestStretch, wordBytes}
 use Rattle.stretch.specs.Encoding.{bytesOf, encodeVariant, encodeSegment, encode, all, distinct, writableSegment, writable}
 use Rattle.stretch.specs.Writing.{lettersOf, lengthsOf, countsOf}
-use Rattle.braces.specs.Notation.{white, nothing, brace, lettered, opened, comma, closed, actOf}
-use Rattle.braces.specs.Reading.{Read, rests, onto, acted, reads}
+use Rattle.braces.specs.Notation.{white, nothing, brace, lettered, actOf}
+use Rattle.braces.specs.Reading.{Read, onto, reads}
 use Rattle.braces.specs.Braces.{listed, braced, inBraces}
-use Rattle.braces.specs.declared.notation.Mode.the-variants.{Between, Bare, Braced}
+use Rattle.braces.specs.declared.notation.Mode.the-variants.{Braced}
 use Rattle.braces.specs.declared.notation.Begun.{Begun}
-use Rattle.braces.specs.declared.notation.Act.{Act}
-use Rattle.braces.specs.declared.notation.Act.the-variants.{Pass, Letter, Variant as Ends, Segment as Closes, Wrong}
+use Rattle.braces.specs.declared.notation.Act.the-variants.{Pass, Letter, Variant as Ends, Segment as Closes}
 
 -- inside braces: k variants are closed, and m letters are read, p of them of the open variant
 abbrev inside : ℕ → ℕ → ℕ → Begun

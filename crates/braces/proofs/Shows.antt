@@ -1,9 +1,9 @@
 -- Laws of the braces of a stretch, variant by variant and segment by segment.
-use Prim.Native.Nat.{ℕ, zero, suc, _+_, _-_, _<_, _≤_}
+use Prim.Native.Nat.{ℕ, zero, suc, _+_, _<_, _≤_}
 use native.Mathlib.Numerals.{add-one}
 use native.Mathlib.Omega.{arith}
 use mathlib.Core.Path.{_≡_, refl, sym, ap, _∙_}
-use mathlib.Core.Bool.{Bool, true, false, cond, _&&_, false≢true}
+use mathlib.Core.Bool.{Bool, true, false, cond}
 use mathlib.Core.List.{List, [], _∷_, _++_, append-nil, append-assoc}
 use lib.Dec.{eqb, ltb, leb}
 use lib.ListN.{length, drop, getD, drop-of-length-le}
@@ -23,7 +23,7 @@ use Rattle.stretch.proofs.Stands.{Bytes}
 use Rattle.stretch.proofs.Theorems.{accepted-writable, accepted-letters}
 use Rattle.lines.specs.Puts.{Put}
 use Rattle.lines.proofs.Putting.{put-none, put-more, put-length}
-use Rattle.braces.specs.Braces.{listed, braced, inBraces, ThereIs, SegmentShown, Shown, BracesPut}
+use Rattle.braces.specs.Braces.{listed, braced, inBraces, ThereIs, SegmentShown, BracesPut}
 use Rattle.braces.specs.declared.braced.Braced.{Braced}
 use Rattle.braces.specs.declared.braced.Braced.the-variants.{Refused}
 

@@ -4,7 +4,6 @@ use borrow.Author.Needs.{needs}
 use Prim.Native.Nat.{_-_}
 use native.Mathlib.Omega.{arith}
 use borrow.Author.Tests.{not-true, not-false}
-use mathlib.Core.Path.{_∙_}
 use Rattle.braces.proofs.Shows.{Showing, showing-none, showing-over, showing-last, showing-length, showing-more}
 use Rattle.braces.proofs.braced.put_segment.Statement.{statement}
 use Rattle.braces.proofs.braced.put_segment.Tie as tie

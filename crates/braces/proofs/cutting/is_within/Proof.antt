@@ -1,5 +1,4 @@
 -- `braces::cutting::is_within` meets its contract.
-use borrow.Author.Needs.{needs}
 use Rattle.braces.proofs.Cuts.{far-letters, far-lengths, far-open, last-open}
 use Rattle.braces.proofs.cutting.is_within.Statement.{statement}
 use Rattle.braces.proofs.cutting.is_within.Tie as tie

@@ -2,7 +2,6 @@
 -- The loop's invariant, `Moving`: i members have been moved. The measure is the number of those left.
 use borrow.Author.Needs.{needs}
 use Prim.Native.Nat.{_-_}
-use native.Mathlib.Omega.{arith}
 use Rattle.braces.proofs.Cuts.{Moving, moving-none, moving-more, moving-end}
 use Rattle.braces.proofs.cutting.move_lengths.Statement.{statement}
 use Rattle.braces.proofs.cutting.move_lengths.Tie as tie

@@ -1,5 +1,4 @@
 -- `braces::filling::full` meets its contract.
-use borrow.Author.Needs.{needs}
 use Rattle.braces.proofs.Fillings.{full-wrong, full-full}
 use Rattle.braces.proofs.filling.full.Statement.{statement}
 use Rattle.braces.proofs.filling.full.Tie as tie

@@ -1,5 +1,4 @@
 -- `braces::notation::is_white` meets its contract.
-use borrow.Author.Needs.{needs}
 use Rattle.braces.proofs.Acts.{white-space, white-tab, white-return, white-feed}
 use Rattle.braces.proofs.notation.is_white.Statement.{statement}
 use Rattle.braces.proofs.notation.is_white.Tie as tie

@@ -1,7 +1,6 @@
 -- `braces::repetition::stands` is safe and ends. Nothing has to hold from turn to turn; the measure is the number of lengths left.
 use borrow.Author.Needs.{needs}
 use Prim.Native.Nat.{_-_}
-use native.Mathlib.Omega.{arith}
 use lib.ListN.{length}
 use Rattle.braces.proofs.repetition.stands.Statement.{statement}
 use Rattle.braces.proofs.repetition.stands.Tie as tie
