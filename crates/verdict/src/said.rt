@@ -5,7 +5,8 @@ use lines::put_bytes;
 use lines::put_number;
 use text::Refusal;
 ghost use Rattle.lines.specs.Puts.{Put};
-ghost use Rattle.verdict.specs.Said.{counted, named, hitLine, standingLine, refusedLine, unreadLine, lastLine, doneLine, faultWords, Fits};
+ghost use Rattle.verdict.specs.Said.{counted, named, hitLine, standingLine, refusedLine, unreadLine};
+ghost use Rattle.verdict.specs.Said.{lastLine, doneLine, faultWords, Fits};
 
 // A word and a number.
 fn put_counted(word: &[u8], number: u64, out: &mut [u8], at: usize) -> usize

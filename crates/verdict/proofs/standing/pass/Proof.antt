@@ -1,7 +1,7 @@
 -- `verdict::standing::pass` meets its contract: a refusal of either search is its own, and else the marks of the two are united.
 use borrow.Author.Needs.{needs}
-use Rattle.text.specs.Strand.{opposite}
-use Rattle.verdict.proofs.Standings.{sought-not, sought-found, passes-other, passes-own, turned-long, turned-count, turned-room, passes-through}
+use Rattle.verdict.proofs.Standings.{sought-not, sought-found, passes-other, passes-own, passes-through}
+use Rattle.verdict.proofs.Standings.{turned-long, turned-count, turned-room}
 use Rattle.verdict.proofs.standing.pass.Statement.{statement}
 use Rattle.verdict.proofs.standing.pass.Tie as tie
 
@@ -13,7 +13,8 @@ array-share-prefix-other c =
     let one = s .before .before .before .before .before .before .before .before .before .before .before .through in
     let f = sought-found _ _ _ _ _ _ _ _ (two .ensures .0) (two .ensures .1 .1) _ _ _ _ (s .segments .given .1) in
     let g = sought-found _ _ _ _ _ _ _ _ (one .ensures .0) (one .ensures .1 .1) _ _ _ _ (o .opposite .given .1) in
-    turned-long _ (s .before .before .before .before .before .before .before .before .before .before .before .before .before .before .before .before .before .args .standing) _ _ g f
+    let x = s .before .before .before .before .before .before .before .before .before .before .before .before .before .before .before .before .before .args .standing in
+    turned-long _ x _ _ g f
 
 slice-aggregate-unite : tie.Need-slice-aggregate-unite
 slice-aggregate-unite c =
@@ -23,7 +24,8 @@ slice-aggregate-unite c =
     let one = s .before .before .before .before .before .before .before .before .before .before .before .through in
     let f = sought-found _ _ _ _ _ _ _ _ (two .ensures .0) (two .ensures .1 .1) _ _ _ _ (s .segments .given .1) in
     let g = sought-found _ _ _ _ _ _ _ _ (one .ensures .0) (one .ensures .1 .1) _ _ _ _ (o .opposite .given .1) in
-    turned-count _ (s .before .before .before .before .before .before .before .before .before .before .before .before .before .before .before .before .before .args .standing) _ _ g f
+    let x = s .before .before .before .before .before .before .before .before .before .before .before .before .before .before .before .before .before .args .standing in
+    turned-count _ x _ _ g f
 
 unite-requires : tie.Need-unite-requires
 unite-requires c κs =
@@ -33,7 +35,8 @@ unite-requires c κs =
     let one = s .before .before .before .before .before .before .before .before .before .before .before .through in
     let f = sought-found _ _ _ _ _ _ _ _ (two .ensures .0) (two .ensures .1 .1) _ _ _ _ (s .segments .given .1) in
     let g = sought-found _ _ _ _ _ _ _ _ (one .ensures .0) (one .ensures .1 .1) _ _ _ _ (o .opposite .given .1) in
-    turned-room _ (s .before .before .before .before .before .before .before .before .before .before .before .before .before .before .before .before .before .args .standing) _ _ g f
+    let x = s .before .before .before .before .before .before .before .before .before .before .before .before .before .before .before .before .before .args .standing in
+    turned-room _ x _ _ g f
 
 returns : tie.Need-returns
 returns c =

@@ -1,4 +1,5 @@
--- `verdict::unite::next_marked` meets its contract. The loop's invariant, `Passing`: no segment before j is marked. The measure is the number of marks left.
+-- `verdict::unite::next_marked` meets its contract. The loop's invariant, `Passing`: no segment before j is marked. The measure
+-- is the number of marks left.
 use Prim.Native.Nat.{_-_}
 use lib.ListN.{length}
 use borrow.Author.Needs.{needs}
