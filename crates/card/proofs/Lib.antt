@@ -18,6 +18,7 @@ pub mod RowWalks
 pub mod OfStretches
 pub mod Calls
 pub mod TextCalls
+pub mod Gatherings
 pub mod Groupings
 pub mod Neutral
 pub mod Told

@@ -6,7 +6,7 @@ use native.Mathlib.Omega.{arith}
 use mathlib.Core.Path.{_≡_}
 use mathlib.Core.Logic.{_↔_}
 use mathlib.Core.Bool.{true}
-use mathlib.Core.List.{List, _++_, map}
+use mathlib.Core.List.{List, [], _++_, map}
 use lib.ListN.{length}
 use Rattle.text.specs.Text.{Text}
 use Rattle.text.specs.Occurrence.{EndsIn}
@@ -18,13 +18,17 @@ use Rattle.text.proofs.TextCards.{IsFirst}
 use Rattle.stretch.specs.Encoding.{encodeSegment}
 use Rattle.stretch.specs.Reading.{stretchOf}
 use Rattle.stretch.proofs.Stands.{Bytes}
-use Rattle.search.specs.Chain.{segmentsText}
+use Rattle.stretch.specs.Pieces.{mostInStretch}
+use Rattle.search.specs.Chain.{segmentsText, stretchesText, Trail, seeks}
+use Rattle.text.specs.declared.strand.Strand.the-variants.{Given}
 use Rattle.card.specs.declared.cards.Card.{Card as Held}
 use Rattle.card.specs.Cards.{cardIn, cardOut, rowOf, Full}
 use Rattle.card.specs.Answers.{accepted}
 use Rattle.card.proofs.Calls.{emptying, making, joining, asking, Accepts}
 use Rattle.card.proofs.TextCalls
 use Rattle.card.proofs.TextCalls.{Carded, Fed}
+use Rattle.card.proofs.Gatherings
+use Rattle.card.proofs.Gatherings.{gathering}
 use Rattle.card.proofs.Groupings
 use Rattle.card.proofs.Groupings.{Together}
 use Rattle.card.proofs.Neutral
@@ -67,6 +71,15 @@ asking-joined = TextCalls.asking-joined
 pub asking-fresh : (P s t : List ℕ) (T U : Text) → Accepts (making P s) → Accepts (making P t) → stretchOf s ≡ ok T → stretchOf t ≡ ok U
     → (r : Row) → asking (joining (making P s .card) (making P t .card) .card) fresh ≡ ok r → IsFirst (EndsIn P (T ++ U)) (r .first)
 asking-fresh = TextCalls.asking-fresh
+
+-- the cards of a row of stretches, of any number, joined one after another from the empty card: the joined card is that of their texts end
+-- to end, and tells of a state what searching the stretches one after another, the state handed on, tells: the state behind them all, and
+-- the first of their marks, laid end to end, that is 1
+pub gathering-asked :
+    (P : List ℕ) → SoundPattern P → (ss : List (List ℕ)) (U : Text) (st room : ℕ) (x : Trail) → stretchesText ss ≡ ok U →
+    length U ≤ mostSegments → isState (length P) st ≡ true → mostInStretch ≤ room → seeks P Given st room ss ≡ ok x →
+    asking (gathering P (cardOut (cardOf P [])) ss) st ≡ ok (rowOf (x .state) (firstEnd (x .marks)))
+gathering-asked = Gatherings.gathering-asked
 
 -- asking what `Card::of` made tells what feeding the same segments one by one tells: the last state, and the first feed that ends
 pub asking-feeds : (P s : List ℕ) (T : Text) (st : ℕ) (ss : List (List ℕ)) → Accepts (making P s) → stretchOf s ≡ ok T
