@@ -79,7 +79,7 @@ uint64_t shiftand(const uint8_t *pattern, size_t m, const uint8_t *stretch, size
                 return refused(8, at);
             }
             next |= d;
-            size += n;
+            size += n == 0 ? 1 : n; /* in the size the empty variant counts as one letter */
             at += 2 + n;
         }
         kept[j] = (hits & last) != 0;

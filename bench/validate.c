@@ -48,7 +48,7 @@ uint64_t validate(const uint8_t *pattern, size_t m, const uint8_t *stretch, size
             if (repeated(stretch, first, at, n)) {
                 return refused(8, at);
             }
-            size += n;
+            size += n == 0 ? 1 : n; /* in the size the empty variant counts as one letter */
             at += 2 + n;
         }
     }

@@ -72,8 +72,8 @@ static inline uint64_t cerantuh_result(const uint8_t *block, size_t i)
    stretch  the bytes of the stretch, from its segment count to the end of its last segment
    marks    lent for the marks: byte j becomes 1 if an occurrence ends in segment j, and 0 if none does; bytes from the segment
             count on stay
-   block    lent for the results, 24 bytes: result 0 is the segment count, 1 the size (letters in all variants), 2 the number of
-            segments marked 1; bytes from 24 on stay */
+   block    lent for the results, 24 bytes: result 0 is the segment count, 1 the size (letters in all variants, where the empty
+            variant counts as one letter), 2 the number of segments marked 1; bytes from 24 on stay */
 uint64_t cerantuh_search_bits(const uint8_t *pattern, size_t pattern_len, const uint8_t *stretch, size_t stretch_len,
                               uint8_t *marks, size_t marks_len, uint8_t *block, size_t block_len);
 uint64_t cerantuh_search_borders(const uint8_t *pattern, size_t pattern_len, const uint8_t *stretch, size_t stretch_len,

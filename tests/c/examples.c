@@ -94,14 +94,14 @@ void examples(void)
 {
     static const uint64_t states_of_d[] = {0x07, 0x0F, 0x09, 0x09, 0x03};
     tally_group("document 01's examples");
-    example("GATTA", "{CGA,G}{e,T}{TTAC,AT}{TA,e}{A,GATTAG}", "00111", 20, states_of_d);
+    example("GATTA", "{CGA,G}{e,T}{TTAC,AT}{TA,e}{A,GATTAG}", "00111", 22, states_of_d);
     tally_check(made.len == 47, "example D has not 47 bytes");
     example("A", "{A}", "1", 1, NULL);
-    example("A", "{e}", "0", 0, NULL);
-    example("AC", "{A}{e}{C}", "001", 2, NULL);
-    example("AC", "{A}{C}{e}", "010", 2, NULL);
-    example("AA", "{A,e}", "0", 1, NULL);
-    example("AA", "{A,e}{A,e}{A,e}", "011", 3, NULL);
+    example("A", "{e}", "0", 1, NULL);
+    example("AC", "{A}{e}{C}", "001", 3, NULL);
+    example("AC", "{A}{C}{e}", "010", 3, NULL);
+    example("AA", "{A,e}", "0", 2, NULL);
+    example("AA", "{A,e}{A,e}{A,e}", "011", 6, NULL);
     example("AAA", "{AA}{AA}", "01", 4, NULL);
     example("A" A63, "{" A63 "}", "0", 63, NULL);
     example("A" A63, "{" A63 "}{A}", "01", 64, NULL);
@@ -116,10 +116,10 @@ void examples(void)
     strand("A", "{A}{T}{e}{C}", "0100", "1100");
 
     tally_group("slips that look right");
-    example("AC", "{A}{C}{e}{e}", "0100", 2, NULL);              /* only the empty variant follows a finished occurrence */
-    example("AC", "{A}{G,e}{C}", "001", 3, NULL);                /* carried past the empty variant beside another */
+    example("AC", "{A}{C}{e}{e}", "0100", 4, NULL);              /* only the empty variant follows a finished occurrence */
+    example("AC", "{A}{G,e}{C}", "001", 4, NULL);                /* carried past the empty variant beside another */
     example("ACGT", "{AC}{G}{T}", "001", 4, NULL);               /* the last base counts */
     example("ACA", "{A}{CAGGAC}{A}", "011", 8, NULL);            /* a long variant ends one occurrence and starts another */
     example("GATTA", "{GA}{TTACCC}", "01", 8, NULL);             /* it ends before the variant's last letter */
-    example("ACACA", "{C}{A,C}{AC,ACC,CACA}{C,e}{A,AC}{C}", "001010", 17, NULL); /* the papers' running example */
+    example("ACACA", "{C}{A,C}{AC,ACC,CACA}{C,e}{A,AC}{C}", "001010", 18, NULL); /* the papers' running example */
 }

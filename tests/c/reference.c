@@ -157,11 +157,12 @@ static bool pass(const uint8_t *pattern, size_t m, const bool *carried, const st
     return ends;
 }
 
+/* The empty variant counts as one letter. */
 static size_t size_of(const struct text *text)
 {
     size_t size = 0;
     for (size_t v = 0; v < text->variant_count; v++) {
-        size += text->variants[v].len;
+        size += text->variants[v].len == 0 ? 1 : text->variants[v].len;
     }
     return size;
 }

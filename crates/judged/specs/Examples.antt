@@ -83,7 +83,7 @@ unfoldable pub table : List Bool
 table =
     -- D
     same (marks gatta d) (0 ∷ 0 ∷ 1 ∷ 1 ∷ 1 ∷ [])
-    ∷ eqb (size d) 20
+    ∷ eqb (size d) 22
     ∷ eqb (length (encode d)) 47
     ∷ eqb (run gatta fresh (take 1 d)) (carrying (1 ∷ 2 ∷ []))
     ∷ eqb (run gatta fresh (take 2 d)) (carrying (1 ∷ 2 ∷ 3 ∷ []))

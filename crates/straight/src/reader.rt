@@ -27,12 +27,13 @@ impl Came {
         }
     }
 
-    // One variant more, of so many letters, and the place behind it.
+    // One variant more, of so many letters, and the place behind it. In the size the empty variant counts as one letter.
     fn with(self, letters: usize, place: usize) -> Came {
+        let counts = if letters == 0 { 1 } else { letters };
         Came {
             number: 0,
             place,
-            size: wrapping_add_usize(self.size, letters),
+            size: wrapping_add_usize(self.size, counts),
             variants: wrapping_add_usize(self.variants, 1),
         }
     }

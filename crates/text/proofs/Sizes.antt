@@ -1,8 +1,8 @@
 -- Laws of sizes.
-use Prim.Native.Nat.{ℕ, _+_, _*_, _≤_}
+use Prim.Native.Nat.{ℕ, zero, suc, _+_, _*_, _≤_}
 use native.Mathlib.Nat.{mul-zero, mul-suc}
 use native.Mathlib.Omega.{arith}
-use mathlib.Core.Path.{_≡_, sym}
+use mathlib.Core.Path.{_≡_, refl, sym}
 use mathlib.Core.List.{List, [], _∷_, _++_}
 use lib.ListN.{length}
 use Rattle.text.specs.Text.{total, counted}
@@ -10,7 +10,19 @@ use Rattle.text.specs.Text.{total, counted}
 -- a variant counts no more than its length field and its letters take
 pub counted-le : (n : ℕ) → counted n ≤ n + 2
 unfolding counted
-counted-le n = omega arith
+counted-le zero = omega arith
+counted-le (suc n) = omega arith
+
+-- the empty variant counts one, and every other its letters
+pub counted-none : (n : ℕ) → n ≡ 0 → 1 ≡ counted n
+unfolding counted
+counted-none zero e = refl
+counted-none (suc n) e = absurd (let z : ⊥ = omega (arith, e) in z)
+
+pub counted-some : (n : ℕ) → (n ≡ 0 → ⊥) → n ≡ counted n
+unfolding counted
+counted-some zero ne = absurd (ne refl)
+counted-some (suc n) ne = refl
 
 pub total-append : {A : Type 0} (f : A → ℕ) (l k : List A) → total f (l ++ k) ≡ total f l + total f k
 unfolding total

@@ -1,5 +1,5 @@
 -- Texts: rows of segments, each a list of variants.
-use Prim.Native.Nat.{ℕ, _+_}
+use Prim.Native.Nat.{ℕ, zero, suc, _+_}
 use mathlib.Core.List.{List, [], _∷_}
 use lib.ListN.{length, getD}
 
@@ -24,14 +24,15 @@ unfoldable pub total : {A : Type 0} → (A → ℕ) → List A → ℕ
 total f [] = 0
 total f (a ∷ l) = f a + total f l
 
--- what a variant of n letters counts in the size: its letters
+-- what a variant of n letters counts in the size: its letters, and the empty variant as one (document 001)
 unfoldable pub counted : ℕ → ℕ
-counted n = n
+counted zero = 1
+counted (suc n) = suc n
 
 -- what a variant counts in the size
 unfoldable pub weight : Variant → ℕ
 weight s = counted (length s)
 
--- the number of letters in all variants of a text
+-- the number of letters in all variants of a text, the empty variant counted as one
 unfoldable pub size : Text → ℕ
 size T = total (total weight) T

@@ -1,12 +1,13 @@
--- `text::size::counted` meets its contract: a variant counts its letters.
-use mathlib.Core.Path.{refl}
-use Rattle.text.specs.Text.{counted}
+-- `text::size::counted` meets its contract: a variant counts its letters, and the empty one as one.
+use Rattle.text.proofs.Sizes.{counted-none, counted-some}
 use Rattle.text.proofs.size.counted.Statement.{statement}
 use Rattle.text.proofs.size.counted.Tie as tie
 
 returns : tie.Need-returns
-unfolding counted
-returns c = refl
+returns c = counted-none _ (c .if1 .taken)
+
+returns-2 : tie.Need-returns-2
+returns-2 c = counted-some _ (c .if1 .left)
 
 pub counted-spec : {M : Type 1} → statement M
-counted-spec = tie.close (tie.spec returns)
+counted-spec = tie.close (tie.spec returns returns-2)
