@@ -1,6 +1,7 @@
 // Compares the library's calls with a reader and a search straight from the definitions, on random texts and on damaged
 // stretches. Prints what was compared and how often, and the first difference.
 mod cards;
+mod cuts;
 mod feeds;
 mod groups;
 mod joins;
@@ -69,7 +70,8 @@ fn main() {
           marked ones of them\n\n\n\n\n\n\n\n\n\n\n\n\ndamaged stretches accepted\ndamaged stretches refused with 1\n\
           damaged stretches refused with 2\ndamaged stretches refused with 3\n\ndamaged stretches refused with 5\n\
           damaged stretches refused with 6\ndamaged stretches refused with 7\ndamaged stretches refused with 8\n\
-          damaged stretches refused with 9\n\n\n\n\n\n\n\n\nsegments of damaged stretches\nmarked ones of them\n\n\n\n\nwrites\n\
+          damaged stretches refused with 9\n\n\n\n\n\n\n\n\nsegments of damaged stretches\nmarked ones of them\n\n\n\n\
+          searches from a state, cut at every segment\nwrites\n\
           checks\nreads, at every variant\nsearches, by bit-vectors and by border tables\nfeeds, segment by segment\n\
           cards, row by row\njoins of two parts, and what cards tell of states\nsearches on both strands\n",
         b" comparisons, ",

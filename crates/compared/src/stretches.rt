@@ -1,5 +1,6 @@
 // A stretch and a pattern, compared in every call.
 use crate::cards;
+use crate::cuts;
 use crate::feeds;
 use crate::groups;
 use crate::joins;
@@ -55,7 +56,11 @@ fn on(
     let t = searches::compare(tally, given, strand, bytes, verdict, found);
     let fed = feeds::compare(t, p, given, strand, bytes, verdict);
     let made = Card::of(given, strand, bytes);
-    cards::compare(fed, groups::CARDS, p, bytes, verdict, made)
+    let carded = cards::compare(fed, groups::CARDS, p, bytes, verdict, made);
+    if verdict.number != 0 {
+        return carded;
+    }
+    cuts::compare(carded, given, strand, bytes, verdict, found)
 }
 
 // The calls on the opposite strand, which reads what is opposite to P as P, and the search on both strands.

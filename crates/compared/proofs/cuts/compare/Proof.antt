@@ -1,0 +1,34 @@
+-- `compared::cuts::compare` is safe and ends. The measure is the number of segments left.
+use Prim.Native.Nat.{_-_, _≤_}
+use borrow.Author.Needs.{needs}
+use Rattle.compared.proofs.cuts.compare.Statement.{statement}
+use Rattle.compared.proofs.cuts.compare.Tie as tie
+
+abbrev Inv-loop : tie.InvT-loop
+Inv-loop p strand bytes verdict left wanted t₀ cut₀ t cut = cut ≤ verdict .segments
+
+abbrev μ-loop : tie.MeasureT-loop
+μ-loop p strand bytes verdict left wanted t₀ cut₀ t cut = verdict .segments - cut
+
+pub compare-spec : {M : Type 1} → statement M
+compare-spec =
+    tie.close
+    (tie.spec
+    Inv-loop
+    μ-loop
+    (λ c. search needs)
+    (λ c. search needs)
+    (λ c κs. search needs)
+    (λ c κs. search needs)
+    (λ c κs. search needs)
+    (λ c. search needs)
+    (λ c. search needs)
+    (λ c κs. search needs)
+    (λ c κs. search needs)
+    (λ c. search needs)
+    (λ c. search needs)
+    (λ c. search needs)
+    (λ c. search needs)
+    (λ c κs. search needs)
+    (λ c κs. search needs)
+    (λ c. search needs))
