@@ -3,18 +3,15 @@
 use Prim.Native.Nat.{ℕ, zero, suc, _-_, _≤_, _<_}
 use native.Mathlib.Omega.{arith}
 use mathlib.Core.Path.{_≡_, refl, sym, ap, ap₂, _∙_}
-use mathlib.Core.Bool.{Bool, true, false, not, _||_, true≢false}
+use mathlib.Core.Bool.{Bool, true, false}
 use mathlib.Core.List.{List, [], _∷_}
-use borrow.Author.Tests.{eqb-true}
 use lib.Bits.{bitAnd}
-use lib.Dec.{eqb}
 use lib.ListN.{length, getD, take, drop, length-drop}
 use Rattle.text.specs.Letter.{base, raised, capital, letter, meant, every}
-use Rattle.text.specs.Bits.{anyBelow}
 use Rattle.text.specs.Compare.{same, prefix, alike}
-use Rattle.text.proofs.Truth.{and-left, and-right, some-anyBelow}
+use Rattle.text.proofs.Truth.{and-left, and-right}
 use Rattle.text.proofs.Likes.{meant-length, meant-at}
-use Rattle.text.proofs.Meanings.{bases-meant, letter-byte}
+use Rattle.text.proofs.Meanings.{bases-meant, cleared}
 use Rattle.text.proofs.Strings.{part-end}
 use Rattle.stretch.proofs.Raised.{part-meant}
 use Rattle.search.specs.Border.{Next}
@@ -24,24 +21,6 @@ unfolding every
 every-at f [] i e l = absurd (let z : ⊥ = omega arith in z)
 every-at f (c ∷ s) zero e l = and-left (f c) (every f s) e
 every-at f (c ∷ s) (suc i) e l = every-at f s i (and-right (f c) (every f s) e) (omega arith)
-
--- a letter without the bit of lower case is what it means: one computed test over all bytes
-clears : ℕ → Bool
-clears c = not (letter c) || eqb (bitAnd c 0xDF) (raised c)
-
-all-clear : anyBelow (λ c. not (clears c)) 256 ≡ false
-unfolding anyBelow clears letter capital raised base
-all-clear = refl
-
-cleared : (c : ℕ) → letter c ≡ true → bitAnd c 0xDF ≡ raised c
-unfolding clears
-cleared c is =
-    let right : clears c ≡ true = go (clears c) refl in
-    eqb-true (bitAnd c 0xDF) (raised c) (ap (λ (b : Bool). not b || eqb (bitAnd c 0xDF) (raised c)) (sym is) ∙ right)
-  where
-    go : (b : Bool) → clears c ≡ b → b ≡ true
-    go true e = refl
-    go false e = absurd (true≢false (sym (some-anyBelow (λ c. not (clears c)) 256 c (letter-byte c is) (ap not e)) ∙ all-clear))
 
 -- letter i of a variant of letters, as it is handed to a fallback
 module _ (v : List ℕ) (i : ℕ) (l : i < length v) where

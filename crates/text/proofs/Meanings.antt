@@ -4,14 +4,16 @@ use native.Mathlib.Omega.{arith}
 use native.Mathlib.Decide.{decLt}
 use mathlib.Core.Path.{_≡_, refl, sym, ap, _∙_}
 use mathlib.Core.Logic.{_⊎_, inl, inr, ⊎-elim, by-cases}
-use mathlib.Core.Bool.{Bool, true, false, cond, _||_, false≢true}
+use mathlib.Core.Bool.{Bool, true, false, not, cond, _||_, false≢true, true≢false}
 use mathlib.Core.List.{List, [], _∷_, map}
 use borrow.Author.Tests.{eqb-true, eqb-false, eq-eqb, ne-eqb}
+use lib.Bits.{bitAnd}
 use lib.Dec.{eqb}
 use Rattle.text.specs.Letter.{base, unknown, raised, capital, letter, meaningOf, meant, every}
+use Rattle.text.specs.Bits.{anyBelow}
 use Rattle.text.specs.declared.letter.Letter.{Letter}
 use Rattle.text.specs.declared.letter.Letter.the-variants.{Base, Unknown, None}
-use Rattle.text.proofs.Truth.{or-cases, same-truth, not-true-false, and-left, and-right, and-both}
+use Rattle.text.proofs.Truth.{or-cases, same-truth, not-true-false, and-left, and-right, and-both, some-anyBelow}
 
 -- A, C, G or T
 abbrev pub Four : ℕ → Type 0
@@ -217,3 +219,26 @@ letter-byte c e =
       not-N = λ k. ⊎-elim (λ x. omega arith) (λ x. omega arith) k;
     } in
     absurd (false≢true (ap named (none-of c none) ∙ meaning-named c ∙ e))
+
+-- a letter without the bit of lower case is what it means: one computed test over all bytes
+clears : ℕ → Bool
+clears c = not (letter c) || eqb (bitAnd c 0xDF) (raised c)
+
+all-clear : anyBelow (λ c. not (clears c)) 256 ≡ false
+unfolding anyBelow clears letter capital raised base
+all-clear = refl
+
+pub cleared : (c : ℕ) → letter c ≡ true → bitAnd c 0xDF ≡ raised c
+unfolding clears
+cleared c is =
+    let right : clears c ≡ true = go (clears c) refl in
+    eqb-true (bitAnd c 0xDF) (raised c) (ap (λ (b : Bool). not b || eqb (bitAnd c 0xDF) (raised c)) (sym is) ∙ right)
+  where
+    go : (b : Bool) → clears c ≡ b → b ≡ true
+    go true e = refl
+    go false e = absurd (true≢false (sym (some-anyBelow (λ c. not (clears c)) 256 c (letter-byte c is) (ap not e)) ∙ all-clear))
+
+-- a byte that is no letter is raised already
+pub no-letter-raised : (c : ℕ) → letter c ≡ false → c ≡ raised c
+unfolding letter
+no-letter-raised c e = ⊎-elim sym (λ (x : capital (raised c) ≡ true). absurd (false≢true (sym e ∙ x))) (raised-cases c)

@@ -24,15 +24,14 @@ pub fn meaning(byte: u8) -> Letter
     }
 }
 
-// The byte in upper case.
+// The byte in upper case: of a letter the case is one bit.
 pub fn raise(byte: u8) -> u8
     ensures { λ r. ⌜ r ≡ raised byte ⌝ }
 {
-    match meaning(byte) {
-        Letter::Base(base) => base,
-        Letter::Unknown => b'N',
-        Letter::None => byte,
+    if is_letter(byte) {
+        return byte & 0xDF;
     }
+    byte
 }
 
 // Whether a byte is a letter.
