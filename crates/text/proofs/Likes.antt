@@ -5,6 +5,11 @@ use mathlib.Core.Bool.{Bool, true, false, not, cond}
 use mathlib.Core.List.{List, map}
 use borrow.Author.Tests.{eqb-true, eqb-false, not-true, not-false, eq-eqb, ne-eqb}
 use lib.Bits.{bitOr}
+use mathlib.Core.Bool.{_||_, Bool·beq, true≢false}
+use Rattle.text.proofs.Truth.{some-anyBelow}
+use Rattle.text.proofs.Tests.{beq-test}
+use Rattle.text.specs.Letter.{letter, capital, base}
+use Rattle.text.specs.Bits.{anyBelow}
 use lib.Dec.{eqb}
 use lib.ListN.{length, getD, length-map, List·getD-map}
 use Rattle.text.specs.Letter.{raised, meant}
@@ -35,6 +40,28 @@ cased c =
     step : (b : Bool) (x y : ℕ) → (b ≡ true → bitOr x 32 ≡ bitOr c 32) → bitOr y 32 ≡ bitOr c 32 → bitOr (cond b x y) 32 ≡ bitOr c 32
     step true x y h k = h refl
     step false x y h k = k
+
+-- bytes that differ in that bit alone mean the same exactly where they are letters: one computed test over all pairs of bytes
+test : ℕ → ℕ → Bool
+test a b = eqb a b || not (eqb (bitOr a 32) (bitOr b 32)) || Bool·beq (eqb (raised a) (raised b)) (letter a)
+
+all-test : anyBelow (λ a. anyBelow (λ b. not (test a b)) 256) 256 ≡ false
+unfolding anyBelow test letter capital raised base
+all-test = refl
+
+pub differ-case : (a b : ℕ) → a < 256 → b < 256 → (a ≡ b → ⊥) → bitOr a 32 ≡ bitOr b 32 → not (letter a) ≡ not (eqb (raised a) (raised b))
+unfolding test
+differ-case a b l k ne e =
+    let right : test a b ≡ true = go (test a b) refl in
+    let same : Bool·beq (eqb (raised a) (raised b)) (letter a) ≡ true =
+    rw (ne-eqb a b ne, eq-eqb (bitOr a 32) (bitOr b 32) e) at right in
+    ap not (sym (beq-test (eqb (raised a) (raised b)) (letter a) .0 same))
+  where
+    go : (x : Bool) → test a b ≡ x → x ≡ true
+    go true f = refl
+    go false f =
+        let row : anyBelow (λ b. not (test a b)) 256 ≡ true = some-anyBelow (λ b. not (test a b)) 256 b k (ap not f) in
+        absurd (true≢false (sym (some-anyBelow (λ a. anyBelow (λ b. not (test a b)) 256) 256 a l row) ∙ all-test))
 
 pub differ-more : (a b : ℕ) → (bitOr a 32 ≡ bitOr b 32 → ⊥) → true ≡ not (eqb (raised a) (raised b))
 differ-more a b h =

@@ -1,6 +1,6 @@
 // Tests on strings: the same bytes, a beginning, an end; and the same letters by what they mean. Parts are passed as they stand, without
 // copying.
-use crate::letter::raise;
+use crate::letter::is_letter;
 ghost use mathlib.Core.Path.{_≡_};
 ghost use mathlib.Core.Bool.{not};
 ghost use lib.Dec.{eqb};
@@ -46,7 +46,8 @@ pub fn suffix(p: &[u8], s: &[u8]) -> bool
     same(p, &s[start..])
 }
 
-// Whether two letters mean something else. Equal bytes need no second look, nor do bytes that differ by more than their case.
+// Whether two bytes mean something else. Equal bytes need no second look, nor do bytes that differ by more than the bit of a letter's
+// case.
 fn differ(a: u8, b: u8) -> bool
     ensures { λ r. ⌜ r ≡ not (eqb (raised a) (raised b)) ⌝ }
 {
@@ -56,7 +57,7 @@ fn differ(a: u8, b: u8) -> bool
     if a | 32 != b | 32 {
         return true;
     }
-    raise(a) != raise(b)
+    !is_letter(a)
 }
 
 // Whether a and b mean the same letters, whatever their case: the lengths first, then letter by letter.
