@@ -9,19 +9,26 @@
 #include "checks.h"
 #include "yardsticks.h"
 
-enum { MOST = 64, STATES = 2 * MOST };
+enum { MOST = 64, STATES = 2 * MOST, CODES = 5 };
 
 struct tables {
-    uint64_t masks[4];          /* bit k: P[k] is this letter */
-    uint8_t border[MOST + 1];   /* of the first k bases */
-    uint64_t borders[MOST + 1]; /* bit r: r is k, or a border of the first k bases, and not 0 */
-    uint8_t next[STATES][4];    /* the suffix automaton; 0 is no state, 1 the start */
+    uint64_t masks[CODES];       /* bit k: P[k] is this letter */
+    uint8_t border[MOST + 1];    /* of the first k bases */
+    uint64_t borders[MOST + 1];  /* bit r: r is k, or a border of the first k bases, and not 0 */
+    uint8_t next[STATES][CODES]; /* the suffix automaton; 0 is no state, 1 the start */
     uint8_t link[STATES], length[STATES];
-    uint64_t ends[STATES];      /* bit r: the state's strings end at the prefix of r bases */
+    uint64_t ends[STATES];       /* bit r: the state's strings end at the prefix of r bases */
     size_t count;
 };
 
-static unsigned code(uint8_t letter) { return letter >> 1 & 3; }
+/* What a letter means: 0 to 3 a base, 4 an unknown one, which no pattern has. */
+static unsigned code(uint8_t letter)
+{
+    static const uint8_t codes[256] = {['C'] = 1, ['G'] = 2, ['T'] = 3, ['N'] = 4, ['c'] = 1, ['g'] = 2, ['t'] = 3, ['n'] = 4};
+    return codes[letter];
+}
+
+static uint8_t upper(uint8_t letter) { return letter & 0xDF; }
 
 static void add_borders(struct tables *t, const uint8_t *pattern, size_t m)
 {
@@ -101,10 +108,10 @@ static uint64_t starts(const struct tables *t, const uint8_t *pattern, size_t m,
         if (k == m) {
             k = t->border[k];
         }
-        while (k > 0 && pattern[k] != s[i]) {
+        while (k > 0 && pattern[k] != upper(s[i])) {
             k = t->border[k];
         }
-        k += pattern[k] == s[i];
+        k += pattern[k] == upper(s[i]);
         *hit |= k == m;
     }
     return t->borders[k];
@@ -155,7 +162,7 @@ uint64_t edsmbv(const uint8_t *pattern, size_t m, const uint8_t *stretch, size_t
                 next |= n < m ? passed(&t, carried, at + 2, n) : 0;
                 hit |= finishes(&t, carried, m, at + 2, n);
             }
-            size += n;
+            size += counted(n);
             at += 2 + n;
         }
         marks[j] = (uint8_t)hit;

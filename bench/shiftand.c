@@ -3,7 +3,7 @@
 #include "checks.h"
 #include "yardsticks.h"
 
-/* Refusals 1 to 3; without one, bit k of masks[c] tells whether P[k] is c. */
+/* Refusals 1 to 3; without one, bit k of masks[c] tells whether P[k] is what c means. */
 static uint64_t set_masks(const uint8_t *pattern, size_t m, uint64_t masks[256])
 {
     if (m == 0) {
@@ -14,10 +14,11 @@ static uint64_t set_masks(const uint8_t *pattern, size_t m, uint64_t masks[256])
     }
     memset(masks, 0, 256 * sizeof *masks);
     for (size_t k = 0; k < m; k++) {
-        if (!right[pattern[k]]) {
+        if (!base[pattern[k]]) {
             return refused(3, k);
         }
         masks[pattern[k]] |= (uint64_t)1 << k;
+        masks[lower(pattern[k])] |= (uint64_t)1 << k;
     }
     return 0;
 }
@@ -79,7 +80,7 @@ uint64_t shiftand(const uint8_t *pattern, size_t m, const uint8_t *stretch, size
                 return refused(8, at);
             }
             next |= d;
-            size += n == 0 ? 1 : n; /* in the size the empty variant counts as one letter */
+            size += counted(n);
             at += 2 + n;
         }
         kept[j] = (hits & last) != 0;

@@ -18,8 +18,10 @@ uint64_t validate(const uint8_t *pattern, size_t m, const uint8_t *stretch, size
     if (m == 0 || m > 64) {
         return refused(m == 0 ? 1 : 2, 0);
     }
-    if (!all_right(pattern, m)) {
-        return refused(3, first_wrong(pattern));
+    for (size_t k = 0; k < m; k++) {
+        if (!base[pattern[k]]) {
+            return refused(3, k);
+        }
     }
     if (len > 32768 || len < 2) {
         return refused(len < 2 ? 5 : 4, 0);
@@ -48,7 +50,7 @@ uint64_t validate(const uint8_t *pattern, size_t m, const uint8_t *stretch, size
             if (repeated(stretch, first, at, n)) {
                 return refused(8, at);
             }
-            size += n == 0 ? 1 : n; /* in the size the empty variant counts as one letter */
+            size += counted(n);
             at += 2 + n;
         }
     }

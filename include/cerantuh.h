@@ -10,6 +10,10 @@
    NULL too. The lent slices must not overlap. What is lent as const is only read. The calls have no state of their own, so
    any number of threads may call at once with slices of their own.
 
+   Letters. A text's letters are A, C, G, T, and N for a base that is unknown; in lower case they mean the same. Letters are equal by
+   what they mean, also where a variant is compared with those before it; N equals itself and no base of a pattern. A pattern has
+   A, C, G and T alone, in upper case.
+
    Answers. Each call returns one number: 0 is accepted, anything else is a refusal with a place. Take it apart by
 
        cerantuh_number(r)   1 to 10, 16 or 17 (below)
@@ -44,7 +48,7 @@ enum cerantuh_refusal {
     CERANTUH_STRETCH_LONG = 4,      /* over 32,768 bytes */
     CERANTUH_BYTES_END = 5,         /* inside a count or length, or before the letters it states; place: its start */
     CERANTUH_NO_VARIANTS = 6,       /* a variant count of 0; place: that count */
-    CERANTUH_LETTER = 7,            /* a letter that is not A, C, G or T; place: that letter */
+    CERANTUH_LETTER = 7,            /* a letter that is not A, C, G, T or N, nor one of them in lower case; place: that letter */
     CERANTUH_REPEATED = 8,          /* a variant equal to an earlier one of its segment; place: its length field */
     CERANTUH_BYTES_LEFT = 9,        /* bytes after the last segment; place: the first of them */
     CERANTUH_TOO_SHORT = 10,        /* marks_len below the segment count, or block_len below 24 (32 from a state, 16 for the feed) */
@@ -68,7 +72,7 @@ static inline uint64_t cerantuh_result(const uint8_t *block, size_t i)
 /* Searches the pattern in one stretch, as if nothing stood before or behind it. Both searches give the same answers; the one by
    bit-vectors is the faster.
 
-   pattern  the letters of the pattern, 1 to 64 bytes
+   pattern  the bases of the pattern, 1 to 64 bytes
    stretch  the bytes of the stretch, from its segment count to the end of its last segment
    marks    lent for the marks: byte j becomes 1 if an occurrence ends in segment j, and 0 if none does; bytes from the segment
             count on stay
@@ -96,7 +100,7 @@ uint64_t cerantuh_search_either(const uint8_t *pattern, size_t pattern_len, cons
    that the one before gave, with the same pattern. The marks, laid end to end, are then those of the whole text, and none is lost
    at a cut. From CERANTUH_FRESH_STATE it marks and counts what cerantuh_search_bits does.
 
-   pattern  the letters of the pattern, the same at each stretch
+   pattern  the bases of the pattern, the same at each stretch
    state    bit 0 is set; bit r is set if the first r bases of the pattern end where the stretch before ended
    stretch  the bytes of the stretch
    marks    lent for the marks: byte j becomes 1 if an occurrence ends in segment j of this stretch, wherever it begins, and 0 if
@@ -118,7 +122,7 @@ uint64_t cerantuh_search_from_opposite(const uint8_t *pattern, size_t pattern_le
    pattern's length), and cerantuh_search_from as much for a whole stretch: that is the form for whoever has whole stretches. Their
    states are the same, so that either may follow the other.
 
-   pattern  the letters of the pattern, the same at each segment
+   pattern  the bases of the pattern, the same at each segment
    state    bit 0 is set; bit r is set if the first r bases of the pattern end where the segment before ended
    segment  the bytes of a lone segment: those it has in a stretch, without the stretch's segment count
    block    lent for the results, 16 bytes: result 0 is the next state, 1 is 1 if an occurrence ends in this segment and 0 if none

@@ -10,6 +10,7 @@ static const struct {
     const char *pattern, *text;
 } kept[] = {
     {"GATTA", "{CGA,G}{e,T}{TTAC,AT}{TA,e}{A,GATTAG}"},
+    {"GATTA", "{cga,N}{e,t}{TtaC,an}{tA,e}{a,gATTag}"},
     {"AA", "{A,e}{A,e}{A,e}"},
     {"ACACA", "{C}{A,C}{AC,ACC,CACA}{C,e}{A,AC}{C}"},
     {"GATTACAGATTACA", "{GATTACAGAT}{e}{T,TA,TAC}{A,CA,ACA}{GATTACAGATTACAGATTACA}"},

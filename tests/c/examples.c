@@ -1,5 +1,5 @@
-/* Document 01's judged examples on all three forms, and an example for each slip that it names. Their marks, sizes, states and
-   refusals are written here by hand: the reference is held to them as the forms are. */
+/* Document 01's judged examples on all forms, what lower case and unknown letters mean, and an example for each slip that looks right.
+   Their marks, sizes, states and refusals are written here by hand: the reference is held to them as the forms are. */
 #include "braces.h"
 #include "groups.h"
 #include "tally.h"
@@ -84,10 +84,50 @@ static void hexes(void)
     hex("\x01\x00", 2, 5, 2, true);
     hex("\x01\x00\x00", 3, 6, 2, true);
     hex("\x01\x00\x01\x02\x00\x41", 6, 5, 3, true);
-    hex("\x01\x00\x01\x01\x00\x4E", 6, 7, 5, true);
+    hex("\x01\x00\x01\x01\x00\x4E", 6, 0, 0, true);
     hex("\x01\x00\x02\x00\x00\x00\x00", 7, 8, 5, true);
     hex("\x00\x00\x41", 3, 9, 2, false);
     hex("\x01\x00\x01\x00\x00", 5, 0, 0, true);
+}
+
+/* A lone variant of one letter: every byte that is none is refused. */
+static void letters(void)
+{
+    uint8_t bytes[] = {1, 0, 1, 1, 0, 0};
+    struct call call = {(const uint8_t *)"A", 1, 1, bytes, sizeof bytes, MOST_SEGMENTS, 24};
+    struct call feed = {(const uint8_t *)"A", 1, 1, bytes + 2, sizeof bytes - 2, 0, 16};
+    tally_test("ten bytes are letters");
+    for (unsigned byte = 0; byte < 256; byte++) {
+        bool letter = byte != 0 && strchr("ACGTNacgtn", (int)byte) != NULL;
+        bytes[5] = (uint8_t)byte;
+        try_refused_searches(&call, letter ? 0 : 7, letter ? 0 : 5);
+        try_refused_feeds(&feed, letter ? 0 : 7, letter ? 0 : 3);
+    }
+}
+
+/* What lower case and unknown letters mean. */
+static void meanings(void)
+{
+    static const uint64_t states_of_d[] = {0x07, 0x0F, 0x09, 0x09, 0x03};
+    example("GATTA", "{cga,G}{e,t}{TtaC,at}{tA,e}{a,gATTag}", "00111", 22, states_of_d); /* D, some of it in lower case */
+    example("GATTA", "{cga,G}{n,t}{TtaC,at}{tN,e}{a,gANTag}", "00000", 22, NULL);
+    example("A", "{N}{n}{a}{A}", "0011", 4, NULL);
+    example("C", "{N}{n}{c}{C}", "0011", 4, NULL);
+    example("G", "{N}{n}{g}{G}", "0011", 4, NULL);
+    example("T", "{N}{n}{t}{T}", "0011", 4, NULL);
+    example("AC", "{a}{N,e}{C}", "001", 4, NULL);
+    example("AC", "{a}{n}{c}", "000", 3, NULL);
+    example("AC", "{N,A}{n,a}{aN,Ac}", "001", 8, NULL);
+    example("AA", "{aNa}{a}{n}{a}", "0100", 6, NULL);
+    example("A" A63, "{" A63 "}{a}", "01", 64, NULL);
+    example("A" A63, "{" A63 "}{n}{a}", "000", 65, NULL);
+    strand("AC", "{a}{e}{c}{n,g}{T}", "00001", "00101");
+    strand("A", "{n}{t}{N}{a}", "0100", "0101");
+    hex("\1\0\2\1\0A\1\0a", 9, 8, 6, true);
+    hex("\1\0\2\1\0n\1\0N", 9, 8, 6, true);
+    hex("\1\0\2\1\0N\1\0A", 9, 0, 0, true);
+    hex("\1\0\3\2\0aC\2\0nC\2\0Ac", 15, 8, 11, true);
+    letters();
 }
 
 void examples(void)
@@ -106,6 +146,9 @@ void examples(void)
     example("A" A63, "{" A63 "}", "0", 63, NULL);
     example("A" A63, "{" A63 "}{A}", "01", 64, NULL);
     hexes();
+
+    tally_group("letters by meaning");
+    meanings();
 
     tally_group("the opposite strand");
     strand("GATTA", "{CGA,G}{e,T}{TTAC,AT}{TA,e}{A,GATTAG}", "00000", "00111");        /* TAATC is nowhere in D */

@@ -154,6 +154,12 @@ static void variants(void)
         make_alike(again);
         try_refused_searches(&call, 8, last);
         try_refused_feeds(&feed, 8, last - 2);
+        tally_test("the same, every third letter of it in lower case");
+        for (size_t k = last + 2; k < made.len; k += 3) {
+            made.bytes[k] |= 'a' ^ 'A';
+        }
+        try_refused_searches(&call, 8, last);
+        try_refused_feeds(&feed, 8, last - 2);
     }
 }
 

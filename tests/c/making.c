@@ -1,8 +1,9 @@
 /* Random texts, patterns and damage (making.h). */
 #include "making.h"
 
-#include <stdbool.h>
 #include <string.h>
+
+enum { LOWER = 'a' ^ 'A' };
 
 /* splitmix64 */
 uint64_t random_next(struct random *random)
@@ -77,7 +78,7 @@ static bool already_there(const struct made *made, const uint8_t *letters, size_
 {
     size_t j = made->segment_count - 1, at = made->segment_at[j] + 1;
     for (; at < made->len; at += 2 + word(made->bytes + at)) {
-        if (word(made->bytes + at) == len && memcmp(made->bytes + at + 2, letters, len) == 0) {
+        if (word(made->bytes + at) == len && letters_alike(made->bytes + at + 2, letters, len)) {
             return true;
         }
     }
@@ -89,8 +90,9 @@ static bool already_there(const struct made *made, const uint8_t *letters, size_
 struct shape shape_any(struct random *random)
 {
     static const size_t segments[] = {2, 4, 8, 8, 16, 40}, variants[] = {1, 2, 3, 3, 5, 12}, lengths[] = {1, 2, 3, 5, 12, 80};
+    static const size_t masked[] = {0, 0, 1, 2, 4, 16};
     struct shape shape = {1 + random_below(random, 4), segments[random_below(random, 6)], variants[random_below(random, 6)],
-                          lengths[random_below(random, 6)], random_below(random, 4)};
+                          lengths[random_below(random, 6)], random_below(random, 4), masked[random_below(random, 6)]};
     return shape;
 }
 
@@ -98,6 +100,19 @@ static void draw_letters(struct random *random, size_t alphabet, uint8_t *letter
 {
     for (size_t k = 0; k < len; k++) {
         letters[k] = (uint8_t)"GATC"[random_below(random, alphabet)];
+    }
+}
+
+/* Some letters in lower case, and some unknown. */
+static void mask_letters(struct random *random, size_t one_of, uint8_t *letters, size_t len)
+{
+    for (size_t k = 0; k < len && one_of > 0; k++) {
+        if (random_below(random, 4 * one_of) == 0) {
+            letters[k] = 'N';
+        }
+        if (random_below(random, one_of) == 0) {
+            letters[k] |= LOWER;
+        }
     }
 }
 
@@ -109,6 +124,7 @@ static void draw_variant(struct random *random, const struct shape *shape, struc
         bool empty = shape->empties > 0 && random_below(random, shape->empties) == 0;
         size_t len = empty ? 0 : random_below(random, shape->length + 1);
         draw_letters(random, shape->letters, letters, len);
+        mask_letters(random, shape->masked, letters, len);
         if (!already_there(made, letters, len)) {
             made_variant(made, letters, len);
             return;
@@ -133,7 +149,18 @@ void make_text(struct random *random, const struct shape *shape, struct made *ma
     made_end(made);
 }
 
-/* Letters that some choice of variants spells, from a random segment on. */
+/* The bases that letters mean, and any for one that is unknown. */
+static void settle(struct random *random, uint8_t *letters, size_t len)
+{
+    for (size_t k = 0; k < len; k++) {
+        letters[k] = letter_meaning(letters[k]);
+        if (letters[k] == 'N') {
+            draw_letters(random, 4, letters + k, 1);
+        }
+    }
+}
+
+/* Bases that some choice of variants spells, from a random segment on. */
 static size_t spell(struct random *random, const struct made *made, uint8_t *letters, size_t most)
 {
     size_t len = 0;
@@ -143,6 +170,7 @@ static size_t spell(struct random *random, const struct made *made, uint8_t *let
         memcpy(letters + len, made->bytes + at + 2, taken);
         len += taken;
     }
+    settle(random, letters, len);
     return len;
 }
 
@@ -208,7 +236,7 @@ void damage_count(struct random *random, struct made *made)
 
 void damage_letter(struct random *random, struct made *made)
 {
-    static const uint8_t wrong[] = {0, 'N', 'a', 'B', 'U', '@', 0xC1, 0xFF};
+    static const uint8_t wrong[] = {0, 0x01, '!', '.', '@', '[', '`', '{', 'B', 'b', 'M', 'm', 'O', 'o', 'R', 'U', 0xC1, 0xEE, 0xFF};
     size_t j = random_below(random, made->segment_count);
     size_t at = variant_at(made, j, random_below(random, made->bytes[made->segment_at[j]]));
     if (word(made->bytes + at) > 0) {
@@ -216,7 +244,7 @@ void damage_letter(struct random *random, struct made *made)
     }
 }
 
-/* Puts a variant of a segment once more at the segment's end. */
+/* Puts a variant of a segment once more at the segment's end, in any case. */
 void damage_repeat(struct random *random, struct made *made)
 {
     size_t j = random_below(random, made->segment_count), end = made->segment_at[j + 1];
@@ -224,6 +252,9 @@ void damage_repeat(struct random *random, struct made *made)
     size_t len = 2 + word(made->bytes + at);
     memmove(made->bytes + end + len, made->bytes + end, made->len - end);
     memcpy(made->bytes + end, made->bytes + at, len);
+    for (size_t k = 2; k < len; k++) {
+        made->bytes[end + k] ^= random_below(random, 4) == 0 ? LOWER : 0;
+    }
     made->bytes[made->segment_at[j]]++;
     made->len += len;
 }

@@ -24,6 +24,7 @@ struct shape {
     size_t letters; /* of the alphabet, 1 to 4 */
     size_t segments, variants, length;
     size_t empties; /* one variant of so many is empty, and more by chance; 0: by chance alone */
+    size_t masked;  /* one letter of so many is in lower case, and one of four times as many is unknown; 0: none */
 };
 
 struct shape shape_any(struct random *random);

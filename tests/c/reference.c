@@ -1,15 +1,30 @@
-/* The reference, written from document 01 alone: bytes become a list of variants, sets of carried lengths are arrays of bool,
+/* The reference, written from documents 01 and 02 alone: bytes become a list of variants, sets of carried lengths are arrays of bool,
    and every comparison is letter by letter. It knows neither bit-vectors nor border tables. */
 #include "reference.h"
 
-#include <stdbool.h>
 #include <string.h>
 
 static uint64_t refused(uint64_t number, size_t place) { return number + 256 * (uint64_t)place; }
 
 static bool is_base(uint8_t letter) { return letter == 'A' || letter == 'C' || letter == 'G' || letter == 'T'; }
 
-static bool same(const uint8_t *a, const uint8_t *b, size_t len) { return memcmp(a, b, len) == 0; }
+uint8_t letter_meaning(uint8_t byte)
+{
+    static const uint8_t meanings[256] = {['A'] = 'A', ['C'] = 'C', ['G'] = 'G', ['T'] = 'T', ['N'] = 'N',
+                                          ['a'] = 'A', ['c'] = 'C', ['g'] = 'G', ['t'] = 'T', ['n'] = 'N'};
+    return meanings[byte];
+}
+
+/* By meaning. A sound pattern has no N, so no base of it is equal to an unknown letter. */
+bool letters_alike(const uint8_t *a, const uint8_t *b, size_t len)
+{
+    for (size_t k = 0; k < len; k++) {
+        if (letter_meaning(a[k]) != letter_meaning(b[k])) {
+            return false;
+        }
+    }
+    return true;
+}
 
 /* Reading: refusals 1 to 9 and 16. */
 
@@ -41,13 +56,13 @@ static uint64_t read_variant(const uint8_t *bytes, size_t len, size_t *at, struc
         return refused(5, *at);
     }
     for (size_t k = 0; k < read.len; k++) {
-        if (!is_base(read.letters[k])) {
+        if (letter_meaning(read.letters[k]) == 0) {
             return refused(7, *at + 2 + k);
         }
     }
     for (size_t k = 0; k < segment->count; k++) {
         const struct variant *earlier = &text->variants[segment->first + k];
-        if (earlier->len == read.len && same(earlier->letters, read.letters, read.len)) {
+        if (earlier->len == read.len && letters_alike(earlier->letters, read.letters, read.len)) {
             return refused(8, *at);
         }
     }
@@ -107,7 +122,7 @@ uint64_t reference_read(const uint8_t *stretch, size_t len, struct text *text)
 static bool inside(const uint8_t *pattern, size_t m, const struct variant *s)
 {
     for (size_t k = 0; k + m <= s->len; k++) {
-        if (same(pattern, s->letters + k, m)) {
+        if (letters_alike(pattern, s->letters + k, m)) {
             return true;
         }
     }
@@ -118,7 +133,7 @@ static bool inside(const uint8_t *pattern, size_t m, const struct variant *s)
 static void add_starts(const uint8_t *pattern, size_t m, const struct variant *s, bool *lengths)
 {
     for (size_t r = 1; r < m && r <= s->len; r++) {
-        if (same(pattern, s->letters + s->len - r, r)) {
+        if (letters_alike(pattern, s->letters + s->len - r, r)) {
             lengths[r] = true;
         }
     }
@@ -127,14 +142,14 @@ static void add_starts(const uint8_t *pattern, size_t m, const struct variant *s
 /* Adds the lengths that s makes of a carried q as a whole. */
 static void add_passed(const uint8_t *pattern, size_t m, size_t q, const struct variant *s, bool *lengths)
 {
-    if (q + s->len < m && same(pattern + q, s->letters, s->len)) {
+    if (q + s->len < m && letters_alike(pattern + q, s->letters, s->len)) {
         lengths[q + s->len] = true;
     }
 }
 
 static bool finishes(const uint8_t *pattern, size_t m, size_t q, const struct variant *s)
 {
-    return m - q <= s->len && same(pattern + q, s->letters, m - q);
+    return m - q <= s->len && letters_alike(pattern + q, s->letters, m - q);
 }
 
 /* One segment after what is carried: whether an occurrence ends in it, and, in next, what is carried out of it. */

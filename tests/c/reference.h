@@ -2,6 +2,7 @@
 #ifndef REFERENCE_H
 #define REFERENCE_H
 
+#include <stdbool.h>
 #include <stddef.h>
 #include <stdint.h>
 
@@ -24,6 +25,10 @@ struct text {
     struct segment segments[MOST_SEGMENTS];
     size_t variant_count, segment_count;
 };
+
+/* The base that a letter of a text means, in upper case; N for an unknown one; 0 for a byte that is no letter. */
+uint8_t letter_meaning(uint8_t byte);
+bool letters_alike(const uint8_t *a, const uint8_t *b, size_t len);
 
 /* What a call must return, write into its block (8 bytes each) and write into its marks. Refused: nothing is written. */
 struct expected {

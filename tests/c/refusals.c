@@ -53,6 +53,8 @@ static void searches(void)
     search(2, 0, LONG, SOUND, 13, 2, 24);
     search(3, 0, "N", SOUND, 13, 2, 24);
     search(3, 3, "ACGaN", SOUND, 13, 2, 24);
+    search(3, 0, "n", SOUND, 13, 2, 24);
+    search(3, 1, "At", SOUND, 13, 2, 24);
     search(4, 0, "AC", NULL, 0, 2, 24);
     search(5, 0, "AC", SOUND, 0, 2, 24);
     search(5, 0, "AC", SOUND, 1, 2, 24);
@@ -65,6 +67,7 @@ static void searches(void)
     search(7, 6, "AC", "\2\0" "\2\2\0AX\0\0" "\1\1\0G", 13, 2, 24);
     search(8, 7, "AC", "\1\0" "\2\2\0AC\2\0AC", 11, 1, 24);
     search(8, 10, "AC", "\1\0" "\3\2\0AC\1\0G\2\0AC", 14, 1, 24);
+    search(8, 10, "AC", "\1\0" "\3\2\0aN\1\0G\2\0An", 14, 1, 24);
     search(9, 13, "AC", SOUND "\0", 14, 2, 24);
     search(10, 0, "AC", SOUND, 13, 1, 24);
     search(10, 0, "AC", SOUND, 13, 0, 24);
@@ -80,6 +83,7 @@ static void froms(void)
     from(1, 0, "", 3, SOUND, 13, 2, 32);
     from(2, 0, LONG, 3, SOUND, 13, 2, 32);
     from(3, 1, "A-C", 3, SOUND, 13, 2, 32);
+    from(3, 1, "Ac", 3, SOUND, 13, 2, 32);
     from(4, 0, "AC", 3, NULL, 0, 2, 32);
     from(17, 0, "AC", 0, SOUND, 13, 2, 32);
     from(17, 0, "AC", 2, SOUND, 13, 2, 32);
@@ -103,14 +107,16 @@ static void feeds(void)
     feed(1, 0, "", 1, FIRST, 7, 16);
     feed(2, 0, LONG, 1, FIRST, 7, 16);
     feed(3, 1, "A-C", 1, FIRST, 7, 16);
+    feed(3, 1, "AN", 1, FIRST, 7, 16);
     feed(4, 0, "AC", 1, NULL, 0, 16);
     feed(5, 0, "AC", 1, FIRST, 0, 16);
     feed(5, 1, "AC", 1, FIRST, 2, 16);
     feed(5, 1, "AC", 1, FIRST, 4, 16);
     feed(5, 5, "AC", 1, FIRST, 6, 16);
     feed(6, 0, "AC", 1, "\0", 1, 16);
-    feed(7, 3, "AC", 1, "\1\1\0N", 4, 16);
+    feed(7, 3, "AC", 1, "\1\1\0X", 4, 16);
     feed(8, 5, "AC", 1, "\2\2\0AC\2\0AC", 9, 16);
+    feed(8, 5, "AC", 1, "\2\2\0nC\2\0Nc", 9, 16);
     feed(9, 7, "AC", 1, FIRST "\1", 8, 16);
     feed(10, 0, "AC", 1, FIRST, 7, 15);
     feed(10, 0, "AC", 1, FIRST, 7, 0);
@@ -129,24 +135,25 @@ static void orders(void)
     search(2, 0, LONG "N", NULL, 0, 0, 0);
     search(3, 1, "AN", NULL, 0, 0, 0);
     search(4, 0, "AC", NULL, 0, 0, 0);
-    search(5, 3, "AC", "\1\0" "\2\5\0NNNN", 9, 0, 0);             /* a length before the letters it states */
-    search(7, 8, "AC", "\1\0" "\3\1\0A\1\0N\1\0A", 12, 0, 0);     /* a letter before a later repetition */
-    search(8, 6, "AC", "\1\0" "\3\1\0A\1\0A\1\0N", 12, 0, 0);     /* a repetition before a later letter */
+    search(5, 3, "AC", "\1\0" "\2\5\0XXXX", 9, 0, 0);             /* a length before the letters it states */
+    search(7, 8, "AC", "\1\0" "\3\1\0A\1\0X\1\0A", 12, 0, 0);     /* a letter before a later repetition */
+    search(7, 10, "AC", "\1\0" "\2\2\0AC\2\0aX", 11, 0, 0);
+    search(8, 6, "AC", "\1\0" "\3\1\0A\1\0A\1\0X", 12, 0, 0);     /* a repetition before a later letter */
     search(8, 6, "AC", "\2\0" "\2\1\0A\1\0A" "\0", 10, 0, 0);     /* and before a later count */
-    search(6, 2, "AC", "\2\0" "\0" "\1\1\0N", 7, 0, 0);           /* a count before a later letter */
+    search(6, 2, "AC", "\2\0" "\0" "\1\1\0X", 7, 0, 0);           /* a count before a later letter */
     search(9, 5, "AC", "\1\0" "\1\0\0" "\0", 6, 0, 0);            /* what is left over before a short buffer */
     from(1, 0, "", 0, NULL, 0, 0, 0);
     from(2, 0, LONG "N", 0, NULL, 0, 0, 0);
     from(3, 1, "AN", 0, NULL, 0, 0, 0);
     from(4, 0, "AC", 0, NULL, 0, 0, 0);
     from(17, 0, "AC", 0, "", 0, 0, 0);                            /* a state before all that the bytes may have */
-    from(17, 0, "AC", 4, "\2\0" "\0" "\1\1\0N", 7, 0, 0);
+    from(17, 0, "AC", 4, "\2\0" "\0" "\1\1\0X", 7, 0, 0);
     from(17, 0, "AC", 2, SOUND "\0", 14, 0, 0);
     from(17, 0, "AC", 5, SOUND, 13, 0, 0);
     from(5, 0, "AC", 3, "", 0, 0, 0);
-    from(6, 2, "AC", 3, "\2\0" "\0" "\1\1\0N", 7, 0, 0);
-    from(7, 8, "AC", 3, "\1\0" "\3\1\0A\1\0N\1\0A", 12, 0, 0);
-    from(8, 6, "AC", 3, "\1\0" "\3\1\0A\1\0A\1\0N", 12, 0, 0);
+    from(6, 2, "AC", 3, "\2\0" "\0" "\1\1\0X", 7, 0, 0);
+    from(7, 8, "AC", 3, "\1\0" "\3\1\0A\1\0X\1\0A", 12, 0, 0);
+    from(8, 6, "AC", 3, "\1\0" "\3\1\0A\1\0A\1\0X", 12, 0, 0);
     from(9, 5, "AC", 3, "\1\0" "\1\0\0" "\0", 6, 0, 0);
     feed(1, 0, "", 0, NULL, 0, 0);
     feed(2, 0, LONG, 0, NULL, 0, 0);

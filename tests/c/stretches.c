@@ -148,6 +148,9 @@ static void knowns(void)
     known(SEARCH_FROM, "ACGTTGCA", 9, "", "", 0x09);                     /* no segments, and one that is empty, change nothing */
     known(SEARCH_FROM, "ACGTTGCA", 9, "{e}", "0", 0x09);
     known(SEARCH_FROM, "GATTA", 0x0F, "{TTAC,AT}{TA,e}{A,GATTAG}", "111", 0x03); /* document 01's D, from its third segment on */
+    known(SEARCH_FROM, "ACGTTGCA", 1, "{ttacg,TTAGG}{e,n}", "00", 0x09); /* and in lower case */
+    known(SEARCH_FROM, "ACGTTGCA", 9, "{TTGcaac,GGN}", "1", 0x05);
+    known(SEARCH_FROM, "ACGTTGCA", 9, "{n,t,e}", "0", 0x19);
     known(SEARCH_FROM, "AC", 3, "{C}{C}", "10", 0x01);                   /* what has ended is not carried on */
     known(SEARCH_FROM, "A" A63, 1, "{" A63 "}", "0", UINT64_MAX);
     known(SEARCH_FROM, "A" A63, UINT64_MAX, "{A}{C}", "10", 0x01);

@@ -83,7 +83,7 @@ static void damage(struct random *random, int aim)
 
 static void damage_pattern(struct random *random, int aim, size_t *m)
 {
-    static const uint8_t wrong[] = {0, 'N', 'a', 'B', 'U', '@', 0xC1, 0xFF};
+    static const uint8_t wrong[] = {0, 'N', 'n', 'a', 'c', 'g', 't', 'B', 'U', '@', 0xC1, 0xFF};
     if (aim == 1) {
         *m = 0;
     } else if (aim == 2) {

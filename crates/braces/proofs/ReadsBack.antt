@@ -2,15 +2,16 @@
 use Prim.Native.Nat.{ℕ, suc, _+_, _<_, _≤_}
 use native.Mathlib.Omega.{arith}
 use mathlib.Core.Path.{_≡_, refl, sym, ap, _∙_}
-use mathlib.Core.Logic.{⊎-elim}
-use mathlib.Core.Bool.{Bool, true, false, _||_, _&&_}
+use mathlib.Core.Bool.{Bool, true, false, _&&_, true≢false}
 use mathlib.Core.List.{List, [], _∷_, _++_, map, map-append, flatten, append-assoc}
-use lib.Dec.{eqb, leb, ltb}
+use lib.Dec.{leb, ltb}
 use lib.ListN.{length, length-append}
-use borrow.Author.Tests.{eqb-true, lt-leb, leb-true, ltb-true}
-use Rattle.text.specs.Letter.{base, letter, every}
+use borrow.Author.Tests.{lt-leb, leb-true, ltb-true}
+use Rattle.text.specs.Letter.{base, raised, capital, letter, every}
+use Rattle.text.specs.Bits.{anyBelow}
 use Rattle.text.specs.Text.{Variant, Segment, Text}
-use Rattle.text.proofs.Truth.{or-cases, and-left, and-right}
+use Rattle.text.proofs.Truth.{and-left, and-right, and-both, not-true-false, some-anyBelow}
+use Rattle.text.proofs.Meanings.{letter-byte, capitals-letters}
 use Rattle.stretch.specs.Bytes.{greatestStretch, wordBytes}
 use Rattle.stretch.specs.Encoding.{bytesOf, encodeVariant, encodeSegment, encode, all, distinct, writableSegment, writable}
 use Rattle.stretch.specs.Writing.{lettersOf, lengthsOf, countsOf}
@@ -25,22 +26,15 @@ use Rattle.braces.specs.declared.notation.Act.the-variants.{Pass, Letter
 abbrev inside : ℕ → ℕ → ℕ → Begun
 inside k m p = record { mode = Braced; variants = k; letters = m; spelt = p }
 
--- a letter is no white space
+-- a letter is no white space: one computed test over all bytes
+none-white : anyBelow (λ x. letter x && white x) 256 ≡ false
+unfolding anyBelow letter capital raised base white
+none-white = refl
+
 seen : (x : ℕ) → letter x ≡ true → white x ≡ false
-unfolding letter base white
 seen x e =
-    ⊎-elim
-    (λ (h : (eqb x 0x41 || eqb x 0x43 || eqb x 0x47) ≡ true).
-    ⊎-elim
-    (λ (h : (eqb x 0x41 || eqb x 0x43) ≡ true).
-    ⊎-elim
-    (λ (h : eqb x 0x41 ≡ true). let y : x ≡ 0x41 = eqb-true x 0x41 h in rw y)
-    (λ (h : eqb x 0x43 ≡ true). let y : x ≡ 0x43 = eqb-true x 0x43 h in rw y)
-    (or-cases (eqb x 0x41) (eqb x 0x43) h))
-    (λ (h : eqb x 0x47 ≡ true). let y : x ≡ 0x47 = eqb-true x 0x47 h in rw y)
-    (or-cases (eqb x 0x41 || eqb x 0x43) (eqb x 0x47) h))
-    (λ (h : eqb x 0x54 ≡ true). let y : x ≡ 0x54 = eqb-true x 0x54 h in rw y)
-    (or-cases (eqb x 0x41 || eqb x 0x43 || eqb x 0x47) (eqb x 0x54) e)
+    not-true-false (white x) λ w.
+    true≢false (sym (some-anyBelow (λ x. letter x && white x) 256 x (letter-byte x e) (and-both (letter x) (white x) e w)) ∙ none-white)
 
 -- what the signs and letters do inside braces
 act-letter :
@@ -50,15 +44,15 @@ unfolding actOf lettered
 act-letter k m p x e l j = rw (seen x e, e, lt-leb greatestStretch m l, lt-leb greatestStretch p j)
 
 act-brace : actOf nothing 0x7B ≡ Pass brace
-unfolding actOf white letter base
+unfolding actOf white letter capital raised base
 act-brace = refl
 
 act-comma : (k m p : ℕ) → k < 254 → actOf (inside k m p) 0x2C ≡ Ends (inside (k + 1) m 0)
-unfolding actOf white letter base
+unfolding actOf white letter capital raised base
 act-comma k m p l = rw (lt-leb 254 k l)
 
 act-close : (k m p : ℕ) → actOf (inside k m p) 0x7D ≡ Closes nothing
-unfolding actOf white letter base
+unfolding actOf white letter capital raised base
 act-close k m p = refl
 
 -- the letters of a variant
@@ -117,16 +111,24 @@ read-listed (v ∷ g) k m p s e l j =
     ∙ ap (λ (q : ℕ). onto (v ++ flatten g) (n ∷ map length g) (q ∷ []) (reads nothing s)) count in
     rw act (ap (onto [] (p ∷ []) []) both)
 
+-- letters in upper case are letters
+all-letters : (g : Segment) → all (every capital) g ≡ true → all (every letter) g ≡ true
+unfolding all
+all-letters [] e = refl
+all-letters (v ∷ g) e =
+    and-both (every letter v) (all (every letter) g) (capitals-letters v (and-left (every capital v) (all (every capital) g) e))
+    (all-letters g (and-right (every capital v) (all (every capital) g) e))
+
 -- a segment that can be written
 some-letters : (g : Segment) → writableSegment g ≡ true → (0 < length g) × (length g ≤ 255) × (all (every letter) g ≡ true)
 unfolding writableSegment
 some-letters g e =
     let a : Bool = ltb 0 (length g) in
     let b : Bool = leb (length g) 255 in
-    let c : Bool = all (every letter) g in
+    let c : Bool = all (every capital) g in
     let three : (a && b && c) ≡ true = and-left (a && b && c) (distinct [] g) e in
     let two : (a && b) ≡ true = and-left (a && b) c three in
-    (ltb-true 0 (length g) (and-left a b two), leb-true (length g) 255 (and-right a b two), and-right (a && b) c three)
+    (ltb-true 0 (length g) (and-left a b two), leb-true (length g) 255 (and-right a b two), all-letters g (and-right (a && b) c three))
 
 read-braced :
     (g : Segment) (s : List ℕ) → writableSegment g ≡ true → length (flatten g) ≤ greatestStretch →

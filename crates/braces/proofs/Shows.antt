@@ -4,18 +4,21 @@ use native.Mathlib.Numerals.{add-one}
 use native.Mathlib.Omega.{arith}
 use mathlib.Core.Path.{_≡_, refl, sym, ap, _∙_}
 use mathlib.Core.Bool.{Bool, true, false, cond}
-use mathlib.Core.List.{List, [], _∷_, _++_, append-nil, append-assoc}
+use mathlib.Core.List.{List, [], _∷_, _++_, append-nil, append-assoc, map}
 use lib.Dec.{eqb, ltb, leb}
-use lib.ListN.{length, drop, getD, drop-of-length-le}
+use lib.ListN.{length, drop, getD, drop-of-length-le, length-map, List·getD-map}
 use lib.Seq.{drop-cons}
 use borrow.Author.Tests.{eq-eqb, ne-eqb, ltb-true, ltb-false, leb-true}
+use Rattle.text.specs.Letter.{meant}
 use Rattle.text.specs.Text.{Segment, Text, segment}
 use Rattle.text.specs.Refusal.{Outcome, ok, refused}
 use Rattle.text.specs.declared.refusal.Refusal.{Refusal}
 use Rattle.text.proofs.Outcomes.{told-refused}
 use Rattle.text.proofs.Truth.{and-left, and-right}
 use Rattle.stretch.specs.Reading.{stretchOf}
-use Rattle.stretch.specs.Encoding.{bytesOf, all, writableSegment, writable}
+use Rattle.stretch.specs.Encoding.{bytesOf, raisedText, all, writableSegment, writable}
+use Rattle.stretch.specs.Standing.{standing}
+use Rattle.stretch.proofs.Decoding.{stretch-means}
 use Rattle.stretch.specs.Places.{Found, found, end, Reading, handed, variant, reading, readFrom, readIn, partOf}
 use Rattle.stretch.specs.Answers.{Accepted, checking, toldGot}
 use Rattle.stretch.specs.declared.reading.Got.{Got}
@@ -68,6 +71,18 @@ few s bytes t e j l =
     let one = every-one writableSegment t [] w j l in
     leb-true (length g) 255 (and-right (ltb 0 (length g)) (leb (length g) 255) (and-left _ _ (and-left _ _ one)))
 
+-- the text as it stands has as many segments, each of as many variants
+segments-same : (s : List ℕ) (t : Text) → stretchOf s ≡ ok t → length (standing s) ≡ length t
+unfolding raisedText
+segments-same s t e = sym (length-map (standing s) (map meant)) ∙ ap length (stretch-means s t e)
+
+variants-same : (s : List ℕ) (t : Text) → stretchOf s ≡ ok t → (j : ℕ) → length (segment (standing s) j) ≡ length (segment t j)
+unfolding raisedText
+variants-same s t e j =
+    sym (length-map (segment (standing s) j) meant)
+    ∙ ap length (sym (List·getD-map (map meant) (standing s) j []))
+    ∙ ap (λ (u : Text). length (getD u j [])) (stretch-means s t e)
+
 -- v variants of the segment g are put, and `mark` stands before the next one
 pub record Lists (g : Segment) (d : List ℕ) (at : ℕ) (out : List ℕ) (next mark v : ℕ) : Type 0 where
   pub done : List ℕ
@@ -76,7 +91,7 @@ pub record Lists (g : Segment) (d : List ℕ) (at : ℕ) (out : List ℕ) (next 
 
 pub record Showing (s : List ℕ) (j : ℕ) (d : List ℕ) (at : ℕ) (out : List ℕ) (next mark v : ℕ) : Type 0 where
   pub same : length out ≡ length d
-  pub lists : (t : Text) → stretchOf s ≡ ok t → j < length t → Lists (segment t j) d at out next mark v
+  pub lists : (t : Text) → stretchOf s ≡ ok t → j < length t → Lists (segment (standing s) j) d at out next mark v
 
 pub showing-none : (s : List ℕ) (j : ℕ) (d : List ℕ) (at : ℕ) → Showing s j d at d at 0x7B 0
 showing-none s j d at = record { same = refl; lists = λ t e l. record { done = []; put = put-none d at; whole = refl } }
@@ -111,13 +126,13 @@ module _ {s : List ℕ} {j : ℕ} {d : List ℕ} {at : ℕ} {out : List ℕ} {ne
     unfolding ThereIs SegmentShown
     showing-over b i e t is l =
         let far : length (segment t j) ≤ v = ltb-false v (length (segment t j)) (sym (i t is l) ∙ e) in
-        lists-end (segment t j) (h .lists t is l) far p
+        lists-end (segment (standing s) j) (h .lists t is l) (rw (variants-same s t is j) far) p
 
     pub showing-last : Bytes s → 255 ≤ v → SegmentShown s j d at one a
     unfolding SegmentShown
     showing-last bytes k t is l =
         let far : length (segment t j) ≤ v = omega (arith, few s bytes t is j l) in
-        lists-end (segment t j) (h .lists t is l) far p
+        lists-end (segment (standing s) j) (h .lists t is l) (rw (variants-same s t is j) far) p
 
     pub showing-length : length one ≡ length d
     showing-length = put-length p ∙ h .same
@@ -131,10 +146,11 @@ module _ {s : List ℕ} {j : ℕ} {d : List ℕ} {at : ℕ} {out : List ℕ} {ne
       record {
         same = put-length q ∙ put-length p ∙ h .same;
         lists = λ t a l.
-            let near : v < length (segment t j) = ltb-true v (length (segment t j)) (sym (i t a l) ∙ e) in
-            let letters : x ≡ getD (segment t j) v [] = is ∙ accepted-letters s t a j v near in
-            let r : Put one m (getD (segment t j) v []) two n = rw letters at q in
-            lists-more (segment t j) (h .lists t a l) near p r;
+            let g : Segment = segment (standing s) j in
+            let near : v < length g = rw (variants-same s t a j) (ltb-true v (length (segment t j)) (sym (i t a l) ∙ e)) in
+            let letters : x ≡ getD g v [] = is ∙ accepted-letters s t a j v near in
+            let r : Put one m (getD g v []) two n = rw letters at q in
+            lists-more g (h .lists t a l) near p r;
       }
 
 -- k segments are put
@@ -144,7 +160,7 @@ pub record Bracing (s : List ℕ) (segments : ℕ) (d : List ℕ) (out : List �
   pub count : segments ≡ length text
   pub done : List ℕ
   pub put : Put d 0 done out next
-  pub whole : done ++ inBraces (drop k text) ≡ inBraces text
+  pub whole : done ++ inBraces (drop k (standing s)) ≡ inBraces (standing s)
 
 pub bracing-none : (s : List ℕ) (segments : ℕ) (d : List ℕ) → Accepted s segments → Bracing s segments d d 0 0
 bracing-none s segments d a =
@@ -154,14 +170,16 @@ module _ {s : List ℕ} {segments : ℕ} {d out : List ℕ} {next k : ℕ} (h : 
   pub bracing-more : k < segments → {one : List ℕ} {a : ℕ} → SegmentShown s k out next one a → Bracing s segments d one a (k + 1)
   unfolding SegmentShown inBraces bytesOf
   bracing-more l {one} {a} p =
+      let T : Text = standing s in
       let near : k < length (h .text) = omega (arith, h .count) in
-      let g : Segment = segment (h .text) k in
+      let inside : k < length T = rw (segments-same s (h .text) (h .means)) near in
+      let g : Segment = segment T k in
       let q : Put out next (braced g) one a = p (h .text) (h .means) near in
       let n : ℕ = k + 1 in
-      let step : drop k (h .text) ≡ g ∷ drop n (h .text) = let e : n ≡ suc k = add-one k in rw e (drop-cons (h .text) k [] near) in
-      let rest : List ℕ = bytesOf braced (drop n (h .text)) in
+      let step : drop k T ≡ g ∷ drop n T = let e : n ≡ suc k = add-one k in rw e (drop-cons T k [] inside) in
+      let rest : List ℕ = bytesOf braced (drop n T) in
       let shape : h .done ++ braced g ++ rest ≡ h .done ++ (braced g ++ rest) = append-assoc (h .done) (braced g) rest in
-      let here : h .done ++ (braced g ++ rest) ≡ h .done ++ bytesOf braced (drop k (h .text)) = rw step refl in
+      let here : h .done ++ (braced g ++ rest) ≡ h .done ++ bytesOf braced (drop k T) = rw step refl in
       record {
         text = h .text;
         means = h .means;
@@ -174,10 +192,11 @@ module _ {s : List ℕ} {segments : ℕ} {d out : List ℕ} {next k : ℕ} (h : 
   pub bracing-end : segments ≤ k → BracesPut s d (Braced.Bytes next) out
   unfolding BracesPut inBraces bytesOf
   bracing-end l =
-      let far : length (h .text) ≤ k = omega (arith, h .count) in
-      let none : drop k (h .text) ≡ [] = drop-of-length-le (h .text) far in
-      let all : h .done ++ [] ≡ bytesOf braced (h .text) = rw none at (h .whole) in
-      let same : h .done ≡ bytesOf braced (h .text) = sym (append-nil (h .done)) ∙ all in
+      let T : Text = standing s in
+      let far : length T ≤ k = rw (segments-same s (h .text) (h .means)) (let f : length (h .text) ≤ k = omega (arith, h .count) in f) in
+      let none : drop k T ≡ [] = drop-of-length-le T far in
+      let all : h .done ++ [] ≡ bytesOf braced T = rw none at (h .whole) in
+      let same : h .done ≡ bytesOf braced T = sym (append-nil (h .done)) ∙ all in
       record { text = h .text; means = h .means; put = rw same at (h .put) }
 
   pub bracing-length : length out ≡ length d

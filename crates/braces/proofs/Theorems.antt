@@ -9,11 +9,14 @@ use lib.ListN.{length, take}
 use Rattle.text.specs.Text.{Text}
 use Rattle.text.specs.Refusal.{ok}
 use Rattle.stretch.specs.Reading.{stretchOf}
-use Rattle.stretch.specs.Encoding.{encode, writable}
+use Rattle.text.specs.Letter.{meant}
+use Rattle.stretch.specs.Encoding.{encode, raisedText, writable}
+use Rattle.stretch.proofs.Encoding.{stretch-of, standing-encoded}
+use Rattle.stretch.proofs.Decoding.{stretch-means}
 use Rattle.stretch.specs.Writing.{lettersOf, lengthsOf, countsOf}
 use Rattle.stretch.proofs.Stands.{Bytes}
 use Rattle.stretch.proofs.Theorems.{accepted-writable}
-use Rattle.stretch.proofs.RoundTrips.{written-again}
+use Rattle.stretch.proofs.RoundTrips.{written-again, letters-of-raised}
 use Rattle.braces.specs.Notation.{nothing}
 use Rattle.braces.specs.Reading.{Read, reads}
 use Rattle.braces.specs.Filling.{Buffers, emptyTape, heldIn, PieceRead}
@@ -28,7 +31,8 @@ use Rattle.braces.proofs.ReadsBack.{whole, reads-back}
 pub notation-reads-back : (t : Text) → writable t ≡ true → reads nothing (inBraces t) ≡ whole t
 notation-reads-back = reads-back
 
--- So does what `put_braces` puts of an accepted stretch.
+-- So does the notation of the text that an accepted stretch means. `put_braces` puts it with the letters in their own case, and a write
+-- raises them.
 pub braces-read-back : (s : List ℕ) → Bytes s → (t : Text) → stretchOf s ≡ ok t → reads nothing (inBraces t) ≡ whole t
 braces-read-back s bytes t e = reads-back t (accepted-writable s bytes t e)
 
@@ -61,4 +65,6 @@ module _ (t : Text) (w : writable t ≡ true) (b c : Buffers) (u : Tape) (read :
       let a : u .letters - u .begun .letters ≡ u .letters = ap (λ (o : Begun). u .letters - o .letters) open-none ∙ none in
       let also : u .lengths - 0 ≡ u .lengths = omega arith in
       let d : u .lengths - u .begun .variants ≡ u .lengths = ap (λ (o : Begun). u .lengths - o .variants) open-none ∙ also in
-      rw (a, d, letters-are, lengths-are, counts-are) (written-again t room w fits)
+      let raised : raisedText t ≡ t = ap raisedText (sym (standing-encoded t w)) ∙ stretch-means (encode t) t (stretch-of t w) in
+      let upper : meant (lettersOf t) ≡ lettersOf t = sym (letters-of-raised t) ∙ ap lettersOf raised in
+      rw (a, d, letters-are, lengths-are, counts-are, upper) (written-again t room w fits)

@@ -9,6 +9,7 @@ use Rattle.text.specs.Text.{Segment, Text, segment}
 use Rattle.text.specs.Refusal.{ok, refused}
 use Rattle.stretch.specs.Reading.{stretchOf}
 use Rattle.stretch.specs.Encoding.{bytesOf}
+use Rattle.stretch.specs.Standing.{standing}
 use Rattle.lines.specs.Puts.{Put}
 use Rattle.braces.specs.declared.braced.Braced.{Braced}
 use Rattle.braces.specs.declared.braced.Braced.the-variants.{Bytes, Refused}
@@ -30,15 +31,15 @@ inBraces T = bytesOf braced T
 unfoldable pub ThereIs : List ℕ → ℕ → ℕ → Bool → Type 0
 ThereIs s j v r = (t : Text) → stretchOf s ≡ ok t → j < length t → r ≡ ltb v (length (segment t j))
 
--- segment j of an accepted stretch is put
+-- segment j of an accepted stretch is put, its letters as they stand
 unfoldable pub SegmentShown : List ℕ → ℕ → List ℕ → ℕ → List ℕ → ℕ → Type 0
-SegmentShown s j d at out n = (t : Text) → stretchOf s ≡ ok t → j < length t → Put d at (braced (segment t j)) out n
+SegmentShown s j d at out n = (t : Text) → stretchOf s ≡ ok t → j < length t → Put d at (braced (segment (standing s) j)) out n
 
--- an accepted stretch's notation is put; a refused one's refusal is told, and nothing is put
+-- an accepted stretch's notation is put, its letters as they stand; a refused one's refusal is told, and nothing is put
 pub record Shown (s d out : List ℕ) (n : ℕ) : Type 0 where
   pub text : Text
   pub means : stretchOf s ≡ ok text
-  pub put : Put d 0 (inBraces text) out n
+  pub put : Put d 0 (inBraces (standing s)) out n
 
 unfoldable pub BracesPut : List ℕ → List ℕ → Braced → List ℕ → Type 0
 BracesPut s d (Bytes n) out = Shown s d out n

@@ -11,6 +11,7 @@ use lib.Bits.{bitOr}
 use lib.Dec.{ltb}
 use lib.ListN.{length, getD, take, drop, replicate, length-replicate, getD-replicate}
 use Rattle.text.specs.Text.{Segment}
+use Rattle.text.specs.Letter.{meant}
 use Rattle.text.specs.Bits.{bit, fromBits}
 use Rattle.text.specs.State.{next, endsAt, ends}
 use Rattle.text.specs.Refusal.{Outcome, ok, refused}
@@ -95,7 +96,8 @@ module _ (P s : List ℕ) (at live count : ℕ) (exits new : List ℕ) (finished
     bearing-more start beyond after ended h p =
         let w = head-is s from start beyond h in
         let v = valueOf s from in
-        let same : take (beyond - start) (drop start s) ≡ v = whole-part s from start beyond w ∙ sym (value-part s from) in
+        let same : meant (take (beyond - start) (drop start s)) ≡ v =
+        ap meant (whole-part s from start beyond w) ∙ sym (value-part s from) in
         record {
           seen = b .seen ++ (v ∷ []);
           most = omega arith;

@@ -10,7 +10,6 @@ use lib.Bits.{bitAnd, bitOr, and-le-r, and-zero-r, or-zero-r}
 use lib.Dec.{eqb}
 use lib.ListN.{length, getD, set, length-set}
 use lib.Seq.{getD-set-same, getD-set-other}
-use Rattle.text.specs.Text.{Variant}
 use Rattle.text.specs.Bits.{bit}
 use Rattle.text.specs.State.{next}
 use Rattle.text.specs.Card.{none}
@@ -90,7 +89,7 @@ module _ (n reached : ℕ) (exits old new : List ℕ) (q : ℕ) (s : Spreading n
   spreading-end m done = record { full = s .filled .full; each = λ p some l. s .filled .done p some (omega arith) }
 
 -- what a variant makes of the rows
-module _ (P : List ℕ) (live : ℕ) (v : Variant) (exits old : List ℕ) (reached finished : ℕ) (covers : Covers (length P) live exits)
+module _ (P : List ℕ) (live : ℕ) (v exits old : List ℕ) (reached finished : ℕ) (covers : Covers (length P) live exits)
     (moves : Moves P live v reached finished) where
   pub passed-spread : (new : List ℕ) → Spread (length P) (length v) reached exits old new → VariantOver P live v exits old new finished
   passed-spread new s =

@@ -6,7 +6,8 @@ use mathlib.Core.List.{List, [], _∷_}
 use lib.Bits.{bitAnd, bitOr}
 use lib.Dec.{eqb}
 use lib.ListN.{length, getD}
-use Rattle.text.specs.Text.{Variant, Segment}
+use Rattle.text.specs.Letter.{meant}
+use Rattle.text.specs.Text.{Segment}
 use Rattle.text.specs.Bits.{bit}
 use Rattle.text.specs.State.{next, endsAt, ends}
 use Rattle.text.specs.Refusal.{ok}
@@ -34,12 +35,12 @@ pub record Alive (P masks : List ℕ) (live : ℕ) : Type 0 where
   pub vectors : Masks P masks
   pub lengths : Lengths (length P) live
 
--- what the variant v makes of every state within `live`: its bits move on by the letters as far as `reached` has them, and an
--- occurrence ends in v exactly where the state meets `finished`. Nothing passes 64 letters.
-pub record Moves (P : List ℕ) (live : ℕ) (v : Variant) (reached finished : ℕ) : Type 0 where
+-- what a variant with the bytes v makes of every state within `live`: its bits move on by the letters as far as `reached` has them, and an
+-- occurrence ends in it exactly where the state meets `finished`. Nothing passes 64 letters.
+pub record Moves (P : List ℕ) (live : ℕ) (v : List ℕ) (reached finished : ℕ) : Type 0 where
   pub short : 64 ≤ length v → reached ≡ 0
-  pub state : (x : ℕ) → Within x live → next P x (v ∷ []) ≡ bitAnd (x * 2 ^ length v) reached
-  pub end : (x : ℕ) → Within x live → endsAt P x v ≡ meets x finished
+  pub state : (x : ℕ) → Within x live → next P x (meant v ∷ []) ≡ bitAnd (x * 2 ^ length v) reached
+  pub end : (x : ℕ) → Within x live → endsAt P x (meant v) ≡ meets x finished
 
 -- each row's state, in rows 1 to m - 1, is within `live`
 pub record Covers (m live : ℕ) (exits : List ℕ) : Type 0 where
@@ -59,11 +60,12 @@ pub record Spread (m n reached : ℕ) (exits old new : List ℕ) : Type 0 where
   pub full : length new ≡ 64
   pub each : (q : ℕ) → 0 < q → q < m → getD new q 0 ≡ bitOr (getD old q 0) (bitAnd (getD exits q 0 * 2 ^ n) reached)
 
--- every row's next state has what the variant v makes of its state, and `finished` tells which states end an occurrence in v
-pub record VariantOver (P : List ℕ) (live : ℕ) (v : Variant) (exits old new : List ℕ) (finished : ℕ) : Type 0 where
+-- every row's next state has what a variant with the bytes v makes of its state, and `finished` tells which states end an occurrence in
+-- it
+pub record VariantOver (P : List ℕ) (live : ℕ) (v exits old new : List ℕ) (finished : ℕ) : Type 0 where
   pub full : length new ≡ 64
-  pub each : (q : ℕ) → 0 < q → q < length P → getD new q 0 ≡ bitOr (getD old q 0) (next P (getD exits q 0) (v ∷ []))
-  pub end : (x : ℕ) → Within x live → endsAt P x v ≡ meets x finished
+  pub each : (q : ℕ) → 0 < q → q < length P → getD new q 0 ≡ bitOr (getD old q 0) (next P (getD exits q 0) (meant v ∷ []))
+  pub end : (x : ℕ) → Within x live → endsAt P x (meant v) ≡ meets x finished
 
 -- every row has its next state, and k as its first end where it had none and its state met `finished`; rows from m up stay, and `live`
 -- is the union of the next states

@@ -46,14 +46,21 @@ fn again(bytes: &[u8], segments: usize, wanted: &[u8]) -> Answer {
     )
 }
 
-// A text that is accepted, and written as it was; or refused for a variant that is repeated, at its number.
+// A text that is accepted, and written as it was with its letters in upper case; or refused for a variant that is repeated, at its
+// number.
 pub fn compare(tally: Tally, bytes: &[u8], verdict: Verdict) -> Tally {
-    let wanted = verdict.kept(bytes);
-    let got = again(bytes, word_at(bytes, 0), wanted);
+    let mut raised = [0u8; 2048];
+    let n = straight::raised(
+        &mut raised,
+        verdict.kept(bytes),
+        verdict.segments,
+        verdict.variants,
+    );
+    let got = again(bytes, word_at(bytes, 0), part(&raised, 0, n));
     let answer = Answer {
         number: verdict.number,
         place: verdict.before,
-        first: wanted.len(),
+        first: n,
         second: 0,
         third: 0,
     };

@@ -1,6 +1,7 @@
 // Stretches damaged at random: a byte is another, or bytes are taken out, cut off or put in.
+use crate::masks::any_letter;
+use crate::masks::stray;
 use crate::numbers::below;
-use crate::puts::letter;
 use std::num::wrapping_add_usize;
 use std::num::wrapping_sub_usize;
 use straight::number_at;
@@ -13,21 +14,23 @@ fn byte(seed: u64) -> u8 {
     let kind = below(seed, 700, 8);
     match kind {
         0..=2 => (kind % 256) as u8,
-        3 => b'N',
+        3 => stray(seed, 714),
         4 => (below(seed, 701, 256) % 256) as u8,
-        _ => letter(seed, 702, 4),
+        _ => any_letter(seed, 702),
     }
 }
 
-// Another byte for one that stands there: mostly a letter for a letter.
+// Another byte for one that stands there: mostly a letter for a letter, or what is none.
 fn other(old: usize, seed: u64) -> u8 {
     if old < 65 {
         return byte(seed);
     }
-    if below(seed, 703, 8) == 0 {
-        return byte(seed);
+    let kind = below(seed, 703, 8);
+    match kind {
+        0 => byte(seed),
+        1..=3 => stray(seed, 715),
+        _ => any_letter(seed, 704),
     }
-    letter(seed, 704, 4)
 }
 
 // Puts another byte for one of the first n, those in front more often, in the ways from 3 on.

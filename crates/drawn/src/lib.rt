@@ -1,5 +1,6 @@
 // Texts, patterns and damaged stretches that look random, all drawn from a number: the same number gives the same again.
 mod damaging;
+mod masks;
 mod numbers;
 mod patterns;
 mod puts;

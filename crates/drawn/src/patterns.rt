@@ -1,9 +1,12 @@
 // Patterns for a text: read out of it along random variants, or of random bases; and spoilt ones.
+use crate::masks::any_letter;
+use crate::masks::stray;
 use crate::numbers::below;
 use crate::puts::letter;
 use crate::puts::put_letters;
 use std::num::wrapping_add_usize;
 use straight::letters_at;
+use straight::meant;
 use straight::number_at;
 use straight::part;
 use straight::put;
@@ -45,6 +48,25 @@ fn path(out: &mut [u8], bytes: &[u8], seed: u64) -> usize {
     n
 }
 
+// The base that a letter means, or one that an unknown letter might be.
+fn base(byte: u8, seed: u64, what: usize) -> u8 {
+    let base = meant(byte);
+    if base == b'N' {
+        return letter(seed, what, 4);
+    }
+    base
+}
+
+// Puts the bases that letters mean, and tells how many.
+fn put_bases(out: &mut [u8], letters: &[u8], seed: u64) -> usize {
+    let mut i = 0;
+    while i < letters.len() {
+        put(&mut *out, i, base(letters[i], seed, i));
+        i += 1;
+    }
+    i
+}
+
 // Puts up to so many bases that can be read along a path of a text, and tells how many.
 fn read_out(out: &mut [u8], bytes: &[u8], wanted: usize, seed: u64) -> usize {
     let mut letters = [0u8; 1024];
@@ -52,7 +74,7 @@ fn read_out(out: &mut [u8], bytes: &[u8], wanted: usize, seed: u64) -> usize {
     let from = below(seed, 602, n);
     let left = if from < n { n - from } else { 0 };
     let m = if left < wanted { left } else { wanted };
-    put_part(&mut *out, 0, part(&letters, from, m))
+    put_bases(&mut *out, part(&letters, from, m), seed)
 }
 
 // Puts one base that may be another, in one case of four.
@@ -75,6 +97,18 @@ pub fn pattern(out: &mut [u8], bytes: &[u8], seed: u64) -> usize {
     m
 }
 
+// A byte that is no base: a letter in lower case, an unknown one, or no letter.
+fn no_base(seed: u64) -> u8 {
+    let drawn = any_letter(seed, 609);
+    if meant(drawn) != drawn {
+        return drawn;
+    }
+    if below(seed, 610, 2) == 0 {
+        return b'N';
+    }
+    stray(seed, 611)
+}
+
 // Puts a pattern again, in one case of eight spoilt: none of it, one base too many, or a byte that is no base.
 pub fn spoil(out: &mut [u8], p: &[u8], seed: u64) -> usize {
     let m = put_part(&mut *out, 0, p);
@@ -83,7 +117,7 @@ pub fn spoil(out: &mut [u8], p: &[u8], seed: u64) -> usize {
         0 => 0,
         1 => out.len(),
         2 | 3 => {
-            put(&mut *out, below(seed, 608, m), b'N');
+            put(&mut *out, below(seed, 608, m), no_base(seed));
             m
         }
         _ => m,

@@ -1,4 +1,6 @@
 // The bytes of texts: up to 12 segments of up to 5 variants, mostly short, now and then empty or longer than any pattern.
+// The letters of half of them are masked.
+use crate::masks::mask;
 use crate::numbers::below;
 use crate::numbers::seed;
 use crate::puts::put_letters;
@@ -44,6 +46,7 @@ fn variant(out: &mut [u8], first: usize, made: Made, text: u64, seed: u64) -> Ma
     }
     put_word(&mut *out, made.at, n);
     put_letters(&mut *out, letters, n, text, seed);
+    mask(&mut *out, letters, n, text, seed);
     if drops(out, first, made, seed) {
         return made;
     }

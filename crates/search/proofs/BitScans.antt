@@ -15,18 +15,20 @@ use lib.Dec.{eqb, ltb, lit<}
 use lib.ListN.{length, getD, take, set, replicate, length-set, length-take, length-replicate, getD-replicate}
 use lib.Pow.{pow-pos, pow-lt, ones-split, ones-lt}
 use lib.Seq.{take-suc, take-all, getD-take, getD-set-same, getD-set-other}
-use Rattle.text.specs.Letter.{letter, every}
+use Rattle.text.specs.Letter.{raised, letter, meant, every}
 use Rattle.text.specs.Text.{Variant}
 use Rattle.text.specs.Bits.{bit, fromBits}
 use Rattle.text.specs.State.{next, endsAt}
 use Rattle.text.proofs.Truth.{or-false, or-right, and-true, and-false}
 use Rattle.text.proofs.Letters.{every-snoc}
+use Rattle.text.proofs.Likes.{meant-length, meant-at}
 use Rattle.text.proofs.Bits.{bit-ext, bit-above, bit-zero, bit-or, bit-and, bit-fromBits, fromBits-lt, bit-single, bit-shl, bit-shl-below, bit-mod, bit-mod-above, bit-shr-test}
 use Rattle.text.proofs.Snoc.{_▸_}
 use Rattle.text.proofs.Steps.{next-open}
 use Rattle.text.proofs.Scan.{one-ends, empty-state, empty-ends, scan-state, scan-ends}
 use Rattle.search.specs.Masks.{maskOf, bases, Masks, Ready}
 use Rattle.search.specs.Words.{Words}
+use Rattle.search.proofs.Copies.{Listed}
 
 -- one bit more
 bits-more : (f : ℕ → Bool) (k : ℕ) → fromBits f (suc k) ≡ bitOr (fromBits f k) (cond (f k) (2 ^ k) 0)
@@ -105,7 +107,7 @@ filling-more P table k b f l short e small =
         ∙ ap (λ (t : Bool). bitOr (fromBits (test c) k) (cond t (2 ^ k) 0)) (ne-eqb (getD P k 0) c (λ z. other (sym z ∙ sym e)))
         ∙ or-zero-r (fromBits (test c) k))))
 
-pub filling-all : (P table : List ℕ) (k : ℕ) → Filling P table k → length P ≤ k → Masks P table
+pub filling-all : (P table : List ℕ) (k : ℕ) → Filling P table k → length P ≤ k → Listed (λ c. c) P table
 unfolding maskOf
 filling-all P table k f l =
     let e : k ≡ length P = omega (arith, f .most) in
@@ -139,17 +141,18 @@ module _ (P : List ℕ) where
 pub masks-short : (P table : List ℕ) → length P ≤ 64 → Masks (bases P) table → Masks P table
 masks-short P table l m = rw (bases-all P l) at m
 
--- a letter keeps those bits of a word whose base it is
+-- a letter keeps those bits of a word whose base it means
 module _ (P masks : List ℕ) (vectors : Masks P masks) (d c : ℕ) (small : c < 256) where
-  pub kept-bit : (r : ℕ) → r < length P → bit (bitAnd d (getD masks c 0)) r ≡ (bit d r && eqb (getD P r 0) c)
+  pub kept-bit : (r : ℕ) → r < length P → bit (bitAnd d (getD masks c 0)) r ≡ (bit d r && eqb (getD P r 0) (raised c))
   unfolding maskOf
   kept-bit r h =
       bit-and d (getD masks c 0) r
-      ∙ ap (λ (b : Bool). bit d r && b) (ap (λ (n : ℕ). bit n r) (vectors .each c small) ∙ bit-fromBits (λ k. eqb (getD P k 0) c) (length P) r h)
+      ∙ ap (λ (b : Bool). bit d r && b)
+      (ap (λ (n : ℕ). bit n r) (vectors .each c small) ∙ bit-fromBits (λ k. eqb (getD P k 0) (raised c)) (length P) r h)
 
   pub kept-lt : bitAnd d (getD masks c 0) < 2 ^ length P
   unfolding maskOf
-  kept-lt = omega (arith, and-le-r d (getD masks c 0), vectors .each c small, fromBits-lt (λ k. eqb (getD P k 0) c) (length P))
+  kept-lt = omega (arith, and-le-r d (getD masks c 0), vectors .each c small, fromBits-lt (λ k. eqb (getD P k 0) (raised c)) (length P))
 
 -- a byte more is bad where it is no letter
 classed : (bad : ℕ) (b : Bool) → eqb (bitOr bad (cond b 0 1)) 0 ≡ (eqb bad 0 && b)
@@ -159,12 +162,12 @@ classed bad false = ne-eqb (bitOr bad 1) 0 (λ e. true≢false (sym odd ∙ ap (
     odd : bit (bitOr bad 1) 0 ≡ true
     odd = bit-or bad 1 0 ∙ or-right (bit bad 0) (bit 1 0) (bit-single 0 0)
 
--- i letters of the variant v have been read
+-- i of the bytes v have been read, for what they mean
 pub record Scanning (P : List ℕ) (st : ℕ) (v : Variant) (i d hits bad : ℕ) : Type 0 where
   pub inside : i ≤ length v
-  pub state : (r : ℕ) → r < length P → bit d r ≡ bit (next P st (take i v ∷ [])) r
+  pub state : (r : ℕ) → r < length P → bit d r ≡ bit (next P st (take i (meant v) ∷ [])) r
   pub fits : hits < 2 ^ length P
-  pub ended : bit hits (length P - 1) ≡ endsAt P st (take i v)
+  pub ended : bit hits (length P - 1) ≡ endsAt P st (take i (meant v))
   pub clean : eqb bad 0 ≡ every letter (take i v)
 
 pub scanning-none : (P masks classes : List ℕ) (st : ℕ) (v : Variant) → Ready P masks classes st → Scanning P st v 0 st 0 0
@@ -183,14 +186,22 @@ module _ (P masks classes : List ℕ) (st : ℕ) (v : Variant) (i d hits bad : �
   longer : take (i + 1) v ≡ take i v ▸ c
   longer = rw add-one (take-suc v i 0 l ∙ ap (λ (x : ℕ). take i v ▸ x) (sym e))
 
-  kept : (r : ℕ) → r < length P → bit (bitAnd d (getD masks c 0)) r ≡ (bit (next P st (take i v ∷ [])) r && eqb (getD P r 0) c)
-  kept r h = kept-bit P masks (y .vectors) d c small r h ∙ ap (λ (b : Bool). b && eqb (getD P r 0) c) (s .state r h)
+  -- what they mean is longer by what c means
+  spelt : take (i + 1) (meant v) ≡ take i (meant v) ▸ raised c
+  spelt =
+      let inside : i < length (meant v) = rw (meant-length v) l in
+      rw add-one (take-suc (meant v) i 0 inside ∙ ap (λ (x : ℕ). take i (meant v) ▸ x) (meant-at v i ∙ ap raised (sym e)))
 
-  shifted : (r : ℕ) → r < length P → bit (bitOr (bitAnd d (getD masks c 0) * 2 ^ 1 % 2 ^ 64) (st % 2)) r ≡ bit (next P st (take (i + 1) v ∷ [])) r
+  kept : (r : ℕ) → r < length P
+      → bit (bitAnd d (getD masks c 0)) r ≡ (bit (next P st (take i (meant v) ∷ [])) r && eqb (getD P r 0) (raised c))
+  kept r h = kept-bit P masks (y .vectors) d c small r h ∙ ap (λ (b : Bool). b && eqb (getD P r 0) (raised c)) (s .state r h)
+
+  shifted : (r : ℕ) → r < length P
+      → bit (bitOr (bitAnd d (getD masks c 0) * 2 ^ 1 % 2 ^ 64) (st % 2)) r ≡ bit (next P st (take (i + 1) (meant v) ∷ [])) r
   shifted zero h =
       bit-or _ (st % 2) 0
       ∙ ap₂ _||_ (bit-mod (bitAnd d (getD masks c 0) * 2 ^ 1) 64 0 (lit< tt) ∙ bit-shl-below (bitAnd d (getD masks c 0)) 1 0 (lit< tt)) (bit-mod st 1 0 (lit< tt))
-      ∙ sym (next-open P st (take (i + 1) v ∷ []) (y .some))
+      ∙ sym (next-open P st (take (i + 1) (meant v) ∷ []) (y .some))
   shifted (suc r) h =
       let near : suc r < 64 = omega (arith, y .short) in
       let before : r < length P = omega arith in
@@ -199,15 +210,15 @@ module _ (P masks classes : List ℕ) (st : ℕ) (v : Variant) (i d hits bad : �
       (bit-mod (bitAnd d (getD masks c 0) * 2 ^ 1) 64 (suc r) near ∙ rw (← one-add r) (bit-shl (bitAnd d (getD masks c 0)) 1 r) ∙ kept r before)
       (bit-mod-above st 1 (suc r) (omega arith))
       ∙ or-false _
-      ∙ sym (ap (λ (t : List ℕ). bit (next P st (t ∷ [])) (suc r)) longer ∙ scan-state P st (take i v) c r h)
+      ∙ sym (ap (λ (t : List ℕ). bit (next P st (t ∷ [])) (suc r)) spelt ∙ scan-state P st (take i (meant v)) (raised c) r h)
 
-  ends-more : bit (bitOr hits (bitAnd d (getD masks c 0))) (length P - 1) ≡ endsAt P st (take (i + 1) v)
+  ends-more : bit (bitOr hits (bitAnd d (getD masks c 0))) (length P - 1) ≡ endsAt P st (take (i + 1) (meant v))
   ends-more =
       let long : length P ≡ suc (length P - 1) = omega (arith, y .some) in
       let last : length P - 1 < length P = omega (arith, y .some) in
       bit-or hits _ (length P - 1)
       ∙ ap₂ _||_ (s .ended) (kept (length P - 1) last)
-      ∙ sym (ap (endsAt P st) longer ∙ scan-ends P st (take i v) c (length P - 1) long)
+      ∙ sym (ap (endsAt P st) spelt ∙ scan-ends P st (take i (meant v)) (raised c) (length P - 1) long)
 
   clean-more : eqb (bitOr bad (getD classes c 0)) 0 ≡ every letter (take (i + 1) v)
   clean-more =
@@ -244,18 +255,18 @@ top-bit n x l =
     lt-ltb (2 ^ n - 1) x (let z : 2 ^ n - 1 < x = omega (arith, pow-pos n) in z)
     ∙ sym (sym (bit-shr-test x n) ∙ ap (λ (y : ℕ). eqb (y % 2) 1) (ap (λ (y : ℕ). y / 2 ^ n) (sym whole) ∙ digits-div 1 rest)))
 
--- all letters have been read
+-- all have been read
 module _ (P : List ℕ) (st : ℕ) (v : Variant) (i d hits bad : ℕ) (s : Scanning P st v i d hits bad) (l : length v ≤ i) where
-  all : take i v ≡ v
-  all = take-all i v l
+  all : take i (meant v) ≡ meant v
+  all = take-all i (meant v) (rw (meant-length v) l)
 
-  pub scanning-all : Words P st (v ∷ []) d hits
+  pub scanning-all : Words P st (meant v ∷ []) d hits
   scanning-all =
       record {
         state = λ r h. s .state r h ∙ ap (λ (t : List ℕ). bit (next P st (t ∷ [])) r) all;
         fits = s .fits;
-        end = s .ended ∙ ap (endsAt P st) all ∙ sym (one-ends P st v);
+        end = s .ended ∙ ap (endsAt P st) all ∙ sym (one-ends P st (meant v));
       }
 
   pub scanning-wrong : not (eqb bad 0) ≡ not (every letter v)
-  scanning-wrong = ap not (s .clean ∙ ap (every letter) all)
+  scanning-wrong = ap not (s .clean ∙ ap (every letter) (take-all i v l))

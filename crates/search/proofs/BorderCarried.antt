@@ -8,12 +8,15 @@ use mathlib.Core.Bool.{Bool, true, false, false≢true}
 use mathlib.Core.List.{List, _++_, append-cancel-left}
 use lib.ListN.{length, take, drop, length-append, length-drop}
 use lib.Seq.{take-add, length-take-le}
-use Rattle.text.specs.Compare.{same, prefix}
+use Rattle.text.specs.Letter.{meant}
+use Rattle.text.specs.Compare.{same, prefix, alike}
 use Rattle.text.specs.Occurrence.{Prefix}
-use Rattle.text.proofs.Strings.{same-eq, eq-same, prefix-is, is-prefix, part-end}
+use Rattle.text.proofs.Strings.{same-eq, eq-same, prefix-is, is-prefix}
+use Rattle.text.proofs.Likes.{meant-length}
 use Rattle.text.proofs.Steps.{split-length}
 use Rattle.search.specs.Border.{Sized}
 use Rattle.search.specs.BorderStep.{Holds, CarriesOne}
+use Rattle.search.proofs.BorderLetters.{alike-rest, alike-part}
 use Rattle.search.proofs.BorderHolds.{lone, holds-none, holds-lone, holds-map}
 
 module _ (P v : List ℕ) (q : ℕ) (near : q < length P) where
@@ -31,25 +34,22 @@ module _ (P v : List ℕ) (q : ℕ) (near : q < length P) where
   unled f = holds-map (λ r l. (absurd, f r l)) holds-none
 
   -- v has at least the remaining bases: it may end an occurrence
-  pub carries-end : {ends : Bool} → length P - q ≤ length v → ends ≡ prefix (take (length P - q) (drop q P)) v → CarriesOne P q v 0 ends
-  carries-end long e = record {
+  ended : {ends : Bool} → length P - q ≤ length v → ends ≡ prefix (drop q P) v → CarriesOne P q v 0 ends
+  ended long e = record {
     lengths = unled (λ r l s. let z : ⊥ = omega (arith, led-far r l s) in z);
-    end = rw (e, part-end P q) (prefix-is (drop q P) v, is-prefix (drop q P) v);
+    end = rw e (prefix-is (drop q P) v, is-prefix (drop q P) v);
   }
 
   -- v has fewer: it may lead on, to q + |v|
-  module _ {alike : Bool} (short : length v < length P - q) (e : alike ≡ same v (take (q + length v - q) (drop q P))) where
+  module _ {fits : Bool} (short : length v < length P - q) (e : fits ≡ same v (take (length v) (drop q P))) where
     no-end : (false ≡ true) ↔ Prefix (drop q P) v
     no-end = (
       λ e. absurd (false≢true e),
       λ h. absurd (let z : ⊥ = omega (arith, length-drop q P, simp length-append at (ap length (h .split))) in z),
     )
 
-    part : alike ≡ same v (take (length v) (drop q P))
-    part = let n : q + length v - q ≡ length v = omega arith in rw n at e
-
-    pub carries-on : Sized P → alike ≡ true → CarriesOne P q v (1 * 2 ^ (q + length v) % 2 ^ 64) false
-    carries-on sized t =
+    led-on : Sized P → fits ≡ true → CarriesOne P q v (1 * 2 ^ (q + length v) % 2 ^ 64) false
+    led-on sized t =
         let end = q + length v in
         let within : end < length P = omega arith in
         rw (lone end (let z : end < 64 = omega (arith, sized .short) in z)) record {
@@ -60,13 +60,34 @@ module _ (P v : List ℕ) (q : ℕ) (near : q < length P) where
         led : take (q + length v) P ≡ take q P ++ v
         led =
             take-add q (length v) P
-            ∙ ap (λ (w : List ℕ). take q P ++ w) (sym (same-eq v (take (length v) (drop q P)) (sym part ∙ t)))
+            ∙ ap (λ (w : List ℕ). take q P ++ w) (sym (same-eq v (take (length v) (drop q P)) (sym e ∙ t)))
 
         only : (r : ℕ) → r < length P → (q + length v ≡ r) ↔ (take r P ≡ take q P ++ v)
         only r l = (λ (f : q + length v ≡ r). rw f at led, led-far r l)
 
-    pub carries-not : alike ≡ false → CarriesOne P q v 0 false
-    carries-not t = record {
-      lengths = unled (λ r l s. false≢true (sym t ∙ part ∙ eq-same v (take (length v) (drop q P)) (led-spelt r l s)));
+    led-not : fits ≡ false → CarriesOne P q v 0 false
+    led-not t = record {
+      lengths = unled (λ r l s. false≢true (sym t ∙ e ∙ eq-same v (take (length v) (drop q P)) (led-spelt r l s)));
       end = no-end;
     }
+
+-- the same of a variant with the bytes w, compared by what they mean
+module _ (P w : List ℕ) (q : ℕ) (near : q < length P) (sized : Sized P) where
+  pub carries-end : {ends : Bool} → length P - q ≤ length w → ends ≡ alike (take (length P - q) (drop q P)) (take (length P - q) w)
+      → CarriesOne P q (meant w) 0 ends
+  carries-end long e = ended P (meant w) q near (rw (meant-length w) long) (e ∙ alike-rest P w q (sized .bases))
+
+  module _ {fits : Bool} (short : length w < length P - q) (e : fits ≡ alike w (take (q + length w - q) (drop q P))) where
+    fewer : length (meant w) < length P - q
+    fewer = rw (meant-length w) short
+
+    spelt : fits ≡ same (meant w) (take (length (meant w)) (drop q P))
+    spelt =
+        let n : q + length w - q ≡ length (meant w) = omega (arith, meant-length w) in
+        e ∙ alike-part P w q (sized .bases) (q + length w - q) ∙ ap (λ (k : ℕ). same (meant w) (take k (drop q P))) n
+
+    pub carries-on : fits ≡ true → CarriesOne P q (meant w) (1 * 2 ^ (q + length w) % 2 ^ 64) false
+    carries-on t = rw (meant-length w) at (led-on P (meant w) q near fewer spelt sized t)
+
+    pub carries-not : fits ≡ false → CarriesOne P q (meant w) 0 false
+    carries-not t = led-not P (meant w) q near fewer spelt t

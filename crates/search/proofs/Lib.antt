@@ -1,4 +1,5 @@
 -- Laws of the definitions in specs/, and the theorems about them.
+pub mod Copies
 pub mod BitScans
 pub mod Words
 pub mod Carrieds
@@ -14,6 +15,7 @@ pub mod Feeds
 pub mod BorderStrings
 pub mod BorderLengths
 pub mod BorderFalls
+pub mod BorderLetters
 pub mod BorderTables
 pub mod BorderScans
 pub mod BorderHolds

@@ -15,7 +15,7 @@ ready-bits method P table classes st e t state =
 pub ready-borders : (method : Method) (P table classes : List ℕ) (st : ℕ) → method ≡ Borders → Tools method P table classes → StateOf P st → Bordered P table st
 ready-borders method P table classes st e t state =
     record {
-      sized = record { some = t .founded .some; short = t .founded .short };
+      sized = record { some = t .founded .some; short = t .founded .short; bases = t .founded .bases };
       holds = subst (λ (m : Method). TableOf m P table) e (t .founded .holds);
       state = state;
     }

@@ -1,19 +1,21 @@
 -- A word for each strand: the letter vectors of both in one table, and the scan and the sweep that read it.
 use Prim.Native.Nat.{ℕ, zero, suc, _+_, _*_, _/_, _%_, _^_, _≤_, _<_}
+use native.Mathlib.Decide.{ℕ-discrete}
 use native.Mathlib.Omega.{arith}
-use mathlib.Core.Path.{_≡_, refl, sym, ap, ap₂, _∙_}
+use mathlib.Core.Path.{_≡_, refl, ap, _∙_}
+use mathlib.Core.Logic.{by-cases}
 use mathlib.Core.List.{List, [], _∷_}
 use lib.Bits.{bitAnd, bitOr}
-use lib.ListN.{length, getD, drop, set, replicate, length-drop, length-replicate, getD-replicate}
-use lib.Seq.{getD-drop, drop-set-add}
+use lib.ListN.{length, getD, drop, set, replicate, length-drop, length-set, length-replicate}
+use lib.Seq.{getD-drop, getD-set-same, getD-set-other}
 use Rattle.text.specs.Text.{Variant}
-use Rattle.search.specs.Masks.{StateOf, Ready}
+use Rattle.search.specs.Masks.{Masks, StateOf, Ready}
 use Rattle.search.specs.Words.{SweptAt}
 use Rattle.search.specs.Either.{evens, odds, Vectors}
 use Rattle.search.specs.declared.method.Method.the-variants.{Bits}
 use Rattle.search.specs.declared.segment.Swept.{Swept}
 use Rattle.search.specs.declared.segment.Swept.the-variants.{To}
-use Rattle.search.proofs.BitScans.{Filling, filling-zeros, filling-more, Scanning, scanning-more}
+use Rattle.search.proofs.BitScans.{Scanning, scanning-more}
 use Rattle.search.proofs.Methods.{ready-bits}
 use Rattle.search.proofs.Words.{Sweeping, sweeping-more}
 
@@ -40,79 +42,76 @@ evens-length [] = refl
 evens-length (a ∷ []) = refl
 evens-length (a ∷ (b ∷ l)) = let less : length (evens l) ≡ (length l + 1) / 2 = evens-length l in omega arith
 
--- an entry of one half is an entry of the table
-evens-set : (l : List ℕ) (c x : ℕ) → evens (set l (2 * c) x) ≡ set (evens l) c x
-unfolding evens
-evens-set [] c x = refl
-evens-set (a ∷ []) zero x = refl
-evens-set (a ∷ []) (suc c) x = rw double
-evens-set (a ∷ (b ∷ l)) zero x = refl
-evens-set (a ∷ (b ∷ l)) (suc c) x = rw double (ap (λ (m : List ℕ). a ∷ m) (evens-set l c x))
+-- the first c letter vectors of the two strands stand side by side
+pub record Laid (one other table : List ℕ) (c : ℕ) : Type 0 where
+  pub most : c ≤ 256
+  pub full : length table ≡ 512
+  pub evens : (k : ℕ) → k < c → getD table (2 * k) 0 ≡ getD one k 0
+  pub odds : (k : ℕ) → k < c → getD table (2 * k + 1) 0 ≡ getD other k 0
 
-evens-other : (l : List ℕ) (c x : ℕ) → evens (set l (suc (2 * c)) x) ≡ evens l
-unfolding evens
-evens-other [] c x = refl
-evens-other (a ∷ []) c x = refl
-evens-other (a ∷ (b ∷ l)) zero x = refl
-evens-other (a ∷ (b ∷ l)) (suc c) x = rw double (ap (λ (m : List ℕ). a ∷ m) (evens-other l c x))
+pub laid-none : (one other : List ℕ) → Laid one other (replicate 512 0) 0
+laid-none one other = record {
+  most = omega arith;
+  full = length-replicate {A = ℕ} 512 0;
+  evens = λ k l. absurd (let z : ⊥ = omega arith in z);
+  odds = λ k l. absurd (let z : ⊥ = omega arith in z);
+}
 
-odds-set : (l : List ℕ) (c x : ℕ) → odds (set l (2 * c + 1) x) ≡ set (odds l) c x
+-- the vectors of the byte c
+pub laid-more : (one other table : List ℕ) (c x y : ℕ) → Laid one other table c → c < 256 → x ≡ getD one c 0 → y ≡ getD other c 0
+    → Laid one other (set (set table (2 * c) x) (2 * c + 1) y) (c + 1)
+laid-more one other table c x y t l is are = record {
+  most = omega arith;
+  full = length-set first (2 * c + 1) y ∙ length-set table (2 * c) x ∙ t .full;
+  evens = λ k h. by-cases (ℕ-discrete k c) (even-here k) (even-before k h);
+  odds = λ k h. by-cases (ℕ-discrete k c) (odd-here k) (odd-before k h);
+}
+  where
+    first : List ℕ
+    first = set table (2 * c) x
+
+    whole : length first ≡ 512
+    whole = length-set table (2 * c) x ∙ t .full
+
+    even-here : (k : ℕ) → k ≡ c → getD (set first (2 * c + 1) y) (2 * k) 0 ≡ getD one k 0
+    even-here k e =
+        let inside : 2 * c < length table = omega (arith, t .full) in
+        let apart : 2 * c ≡ 2 * c + 1 → ⊥ = λ (f : 2 * c ≡ 2 * c + 1). omega arith in
+        rw e (getD-set-other first (2 * c + 1) (2 * c) y 0 apart ∙ getD-set-same table (2 * c) x 0 inside ∙ is)
+
+    even-before : (k : ℕ) → k < c + 1 → ¬ (k ≡ c) → getD (set first (2 * c + 1) y) (2 * k) 0 ≡ getD one k 0
+    even-before k h other =
+        let before : k < c = omega arith in
+        let apart : 2 * k ≡ 2 * c + 1 → ⊥ = λ (f : 2 * k ≡ 2 * c + 1). omega arith in
+        let away : 2 * k ≡ 2 * c → ⊥ = λ (f : 2 * k ≡ 2 * c). omega arith in
+        getD-set-other first (2 * c + 1) (2 * k) y 0 apart ∙ getD-set-other table (2 * c) (2 * k) x 0 away ∙ t .evens k before
+
+    odd-here : (k : ℕ) → k ≡ c → getD (set first (2 * c + 1) y) (2 * k + 1) 0 ≡ getD other k 0
+    odd-here k e =
+        let inside : 2 * c + 1 < length first = omega (arith, whole) in
+        rw e (getD-set-same first (2 * c + 1) y 0 inside ∙ are)
+
+    odd-before : (k : ℕ) → k < c + 1 → ¬ (k ≡ c) → getD (set first (2 * c + 1) y) (2 * k + 1) 0 ≡ getD other k 0
+    odd-before k h other =
+        let before : k < c = omega arith in
+        let apart : 2 * k + 1 ≡ 2 * c + 1 → ⊥ = λ (f : 2 * k + 1 ≡ 2 * c + 1). omega arith in
+        let away : 2 * k + 1 ≡ 2 * c → ⊥ = λ (f : 2 * k + 1 ≡ 2 * c). omega arith in
+        getD-set-other first (2 * c + 1) (2 * k + 1) y 0 apart ∙ getD-set-other table (2 * c) (2 * k + 1) x 0 away ∙ t .odds k before
+
+-- all of them
+pub laid-all : (P Q one other table : List ℕ) (c : ℕ) → Laid one other table c → 256 ≤ c → Masks P one → Masks Q other
+    → Masks P (evens table) × Masks Q (odds table)
 unfolding odds
-odds-set l c x =
-    let one : 2 * c + 1 ≡ 1 + 2 * c = omega arith in
-    ap (λ (n : ℕ). evens (drop 1 (set l n x))) one ∙ ap evens (drop-set-add 1 l (2 * c) x) ∙ evens-set (drop 1 l) c x
-
-odds-other : (l : List ℕ) (c x : ℕ) → odds (set l (2 * c) x) ≡ odds l
-unfolding odds
-odds-other [] c x = refl
-odds-other (a ∷ l) zero x = refl
-odds-other (a ∷ l) (suc c) x = rw double (evens-other l c x)
-
--- the table of both strands is filled, base by base
-module _ (P Q : List ℕ) where
-  pub both-none : Filling P (evens (replicate 512 0)) 0 × Filling Q (odds (replicate 512 0)) 0
-  unfolding odds
-  both-none = (
-    filling-zeros P (evens zeros) (omega (arith, evens-length zeros, full)) (λ c l. evens-at zeros c ∙ at (2 * c) (omega arith)),
-    filling-zeros Q (odds zeros) (omega (arith, evens-length (drop 1 zeros), length-drop 1 zeros, full))
-        (λ c l. odds-at zeros c ∙ at (2 * c + 1) (omega arith)),
-  )
-    where
-      zeros : List ℕ
-      zeros = replicate 512 0
-
-      full : length zeros ≡ 512
-      full = length-replicate {A = ℕ} 512 0
-
-      at : (n : ℕ) → n < 512 → getD zeros n 0 ≡ 0
-      at n l = getD-replicate {A = ℕ} 512 n 0 0 l
-
-  module _ (table : List ℕ) (b d bits : ℕ) where
-    -- with more bits at the bytes b and d
-    abbrev one : List ℕ
-    one = set table (2 * b) (bitOr (getD table (2 * b) 0) bits)
-
-    abbrev both : List ℕ
-    both = set one (2 * d + 1) (bitOr (getD one (2 * d + 1) 0) bits)
-
-    both-evens : evens both ≡ set (evens table) b (bitOr (getD (evens table) b 0) bits)
-    both-evens =
-        let next : 2 * d + 1 ≡ suc (2 * d) = omega arith in
-        ap (λ (n : ℕ). evens (set one n (bitOr (getD one (2 * d + 1) 0) bits))) next
-        ∙ evens-other one d _ ∙ evens-set table b _ ∙ ap (λ (n : ℕ). set (evens table) b (bitOr n bits)) (sym (evens-at table b))
-
-    both-odds : odds both ≡ set (odds table) d (bitOr (getD (odds table) d 0) bits)
-    both-odds =
-        odds-set one d _
-        ∙ ap (λ (n : ℕ). set (odds one) d (bitOr n bits)) (sym (odds-at one d))
-        ∙ ap (λ (l : List ℕ). set l d (bitOr (getD l d 0) bits)) (odds-other table b _)
-
-  pub both-more : (table : List ℕ) (k b d : ℕ) → Filling P (evens table) k → Filling Q (odds table) k → k < length P → k < length Q → k < 64
-      → b ≡ getD P k 0 → b < 256 → d ≡ getD Q k 0 → d < 256
-      → Filling P (evens (both table b d (1 * 2 ^ k % 2 ^ 64))) (k + 1) × Filling Q (odds (both table b d (1 * 2 ^ k % 2 ^ 64))) (k + 1)
-  both-more table k b d f g l m short is small are tiny =
-      let bits = 1 * 2 ^ k % 2 ^ 64 in
-      (rw (both-evens table b d bits) (filling-more P (evens table) k b f l short is small), rw (both-odds table b d bits) (filling-more Q (odds table) k d g m short are tiny))
+laid-all P Q one other table c t l p q = (
+  record {
+    full = omega (arith, evens-length table, t .full);
+    each = λ k h. let z : k < c = omega arith in evens-at table k ∙ t .evens k z ∙ p .each k h;
+  },
+  record {
+    full = omega (arith, evens-length (drop 1 table), length-drop 1 table, t .full);
+    each = λ k h. let z : k < c = omega arith in odds-at table k ∙ t .odds k z ∙ q .each k h;
+  },
+)
 
 -- a letter more, with its vector as it stands in the table of both strands
 pub scanning-entry : (P masks classes : List ℕ) (st : ℕ) (v : Variant) (i d hits bad : ℕ) → Ready P masks classes st → Scanning P st v i d hits bad

@@ -28,7 +28,7 @@ module _ (strand : Strand) (P bytes : List ℕ) (e : bytes ≡ readOn strand P) 
   read-sound = subst SoundPattern (sym read-is) (strand-sound strand P y)
 
   pub read-sized : Sized (take (length P) bytes)
-  read-sized = record { some = read-sound .some; short = read-sound .short }
+  read-sized = record { some = read-sound .some; short = read-sound .short; bases = read-sound .bases }
 
   -- a state of the one is a state of the other
   pub read-state : (st : ℕ) → isState (length P) st ≡ true → StateOf (take (length P) bytes) st

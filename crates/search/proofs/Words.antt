@@ -11,7 +11,7 @@ use lib.Bits.{bitAnd, bitOr, and-mask, or-lt}
 use lib.Dec.{ltb}
 use lib.ListN.{length, take, drop}
 use lib.Pow.{pow-pos, pow-lt}
-use Rattle.text.specs.Letter.{letter, every, firstNot}
+use Rattle.text.specs.Letter.{letter, meant, every, firstNot}
 use Rattle.text.specs.Text.{Variant, Segment, counted, weight}
 use Rattle.text.specs.Bits.{bit}
 use Rattle.text.specs.State.{next, ends}
@@ -103,17 +103,21 @@ module _ (P : List ℕ) (st : ℕ) (v : Variant) (bits : ℕ) where
         end = bit-single (length P - 1) (length P - 1) ∙ eq-eqb (length P - 1) (length P - 1) refl ∙ sym hit ∙ t .end ∙ sym (one-ends P st v);
       })
 
--- letters that were looked at before their step
+-- bytes among which none was found that is no letter
+pub letters-all : (v : Variant) (x : ℕ) → x ≡ firstNot letter v → length v ≤ x → every letter v ≡ true
+letters-all v x e l =
+    let all : firstNot letter v ≡ length v = omega (arith, e, first-le letter v) in
+    first-every letter v all
+
+-- bytes that were looked at before their step
 module _ (P : List ℕ) (st : ℕ) (v : Variant) (x : ℕ) (e : x ≡ firstNot letter v) where
   pub letters-bad : x < length v → LettersBy P st v 0 0 true
   letters-bad l =
       let bad : every letter v ≡ false = first-not-every letter v (subst (λ (n : ℕ). n < length v) e l) in
       (sym (ap not bad), λ good. absurd (true≢false (sym good ∙ bad)))
 
-  pub letters-good : length v ≤ x → (bits hits : ℕ) → Words P st (v ∷ []) bits hits → LettersBy P st v bits hits false
-  letters-good l bits hits w =
-      let all : firstNot letter v ≡ length v = omega (arith, e, first-le letter v) in
-      (sym (ap not (first-every letter v all)), λ _. w)
+  pub letters-good : length v ≤ x → (bits hits : ℕ) → Words P st (meant v ∷ []) bits hits → LettersBy P st v bits hits false
+  letters-good l bits hits w = (sym (ap not (letters-all v x e l)), λ _. w)
 
 -- the answers of a sweep over a variant
 module _ (P : List ℕ) (st : ℕ) (s : List ℕ) (first k at : ℕ) where
@@ -124,11 +128,12 @@ module _ (P : List ℕ) (st : ℕ) (s : List ℕ) (first k at : ℕ) where
   pub swept-to : (start next : ℕ) → Whole s at start next
       → variantAt s (valuesFrom s k first) at ≡ ok (record { value = valueOf s at; next = next })
       → (size bits hits : ℕ) → size ≡ counted (next - start)
-      → (every letter (take (next - start) (drop start s)) ≡ true → Words P st (take (next - start) (drop start s) ∷ []) bits hits)
+      → (every letter (take (next - start) (drop start s)) ≡ true → Words P st (meant (take (next - start) (drop start s)) ∷ []) bits hits)
       → SweptAt P st s first k at (To next size bits hits)
   unfolding SweptAt weight
   swept-to start next w read size bits hits e t =
-      let own : take (next - start) (drop start s) ≡ valueOf s at = whole-part s at start next w ∙ sym (value-part s at) in
+      let own : meant (take (next - start) (drop start s)) ≡ valueOf s at =
+      ap meant (whole-part s at start next w) ∙ sym (value-part s at) in
       let good : every letter (lettersAt s at) ≡ true = variant-read s (valuesFrom s k first) at _ read .letters in
       let long : next - start ≡ length (valueOf s at) = omega (arith, value-length s at (w .inside), w .starts, w .ends) in
       (read, e ∙ ap counted long, rw own at (t (rw (whole-part s at start next w) good)))

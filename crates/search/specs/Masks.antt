@@ -5,7 +5,7 @@ use mathlib.Core.Bool.{cond}
 use mathlib.Core.List.{List}
 use lib.Dec.{eqb}
 use lib.ListN.{length, getD, take}
-use Rattle.text.specs.Letter.{letter}
+use Rattle.text.specs.Letter.{raised, letter}
 use Rattle.text.specs.Bits.{fromBits}
 use Rattle.text.specs.Refusal.{greatestPattern}
 
@@ -17,10 +17,10 @@ maskOf P c = fromBits (λ k. eqb (getD P k 0) c) (length P)
 unfoldable pub bases : List ℕ → List ℕ
 bases P = take greatestPattern P
 
--- a table with the letter vector of each byte
+-- a table with the letter vector of what each byte means
 pub record Masks (P table : List ℕ) : Type 0 where
   pub full : length table ≡ 256
-  pub each : (c : ℕ) → c < 256 → getD table c 0 ≡ maskOf P c
+  pub each : (c : ℕ) → c < 256 → getD table c 0 ≡ maskOf P (raised c)
 
 -- a table with 0 for each letter and 1 for every other byte
 pub record Classes (table : List ℕ) : Type 0 where

@@ -1,7 +1,10 @@
 -- What a method rests on: a pattern of 1 to 64 bases, the method's table, and which bytes are letters.
 use Prim.Native.Nat.{ℕ, _<_, _≤_}
+use mathlib.Core.Path.{_≡_}
+use mathlib.Core.Bool.{true}
 use mathlib.Core.List.{List}
 use lib.ListN.{length}
+use Rattle.text.specs.Letter.{base, every}
 use Rattle.search.specs.Masks.{Masks, Classes}
 use Rattle.search.specs.Border.{Borders}
 use Rattle.search.specs.declared.method.Method.{Method}
@@ -16,6 +19,7 @@ TableOf Method.Borders P table = Borders P table
 pub record Founded (method : Method) (P table : List ℕ) : Type 0 where
   pub some : 0 < length P
   pub short : length P ≤ 64
+  pub bases : every base P ≡ true
   pub holds : TableOf method P table
 
 -- and with the table of letters

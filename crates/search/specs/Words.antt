@@ -4,7 +4,7 @@ use mathlib.Core.Path.{_≡_}
 use mathlib.Core.Bool.{Bool, true, not}
 use mathlib.Core.List.{List, [], _∷_}
 use lib.ListN.{length}
-use Rattle.text.specs.Letter.{letter, every}
+use Rattle.text.specs.Letter.{letter, meant, every}
 use Rattle.text.specs.Text.{Variant, Segment, weight}
 use Rattle.text.specs.Bits.{bit}
 use Rattle.text.specs.State.{next, ends}
@@ -21,14 +21,14 @@ pub record Words (P : List ℕ) (st : ℕ) (g : Segment) (bits hits : ℕ) : Typ
   pub fits : hits < 2 ^ length P
   pub end : bit hits (length P - 1) ≡ ends P st g
 
--- what a scan of the variant v comes to, for every pattern whose tables these are
+-- what a scan of the variant with the bytes v comes to, for every pattern whose tables these are
 abbrev pub ScannedBy : List ℕ → List ℕ → ℕ → Variant → ℕ → ℕ → Bool → Type 0
 ScannedBy masks classes st v bits hits wrong =
-    (P : List ℕ) → Ready P masks classes st → Words P st (v ∷ []) bits hits × (wrong ≡ not (every letter v))
+    (P : List ℕ) → Ready P masks classes st → Words P st (meant v ∷ []) bits hits × (wrong ≡ not (every letter v))
 
--- what a method tells of the letters v: whether one of them is wrong, and if none is, their words
+-- what a method tells of the bytes v: whether one of them is no letter, and if none is, the words of what they mean
 abbrev pub LettersBy : List ℕ → ℕ → Variant → ℕ → ℕ → Bool → Type 0
-LettersBy P st v bits hits wrong = (wrong ≡ not (every letter v)) × (every letter v ≡ true → Words P st (v ∷ []) bits hits)
+LettersBy P st v bits hits wrong = (wrong ≡ not (every letter v)) × (every letter v ≡ true → Words P st (meant v ∷ []) bits hits)
 
 -- what a sweep over the variant at `at` comes to, behind the k of its segment that stand from `first` on
 unfoldable pub SweptAt : List ℕ → ℕ → List ℕ → ℕ → ℕ → ℕ → Swept → Type 0

@@ -3,6 +3,9 @@
 // for the chain of borders at its end and for each carried length.
 use crate::borders::begun::begun;
 use crate::borders::carried::carried;
+ghost use mathlib.Core.Path.{_≡_};
+ghost use mathlib.Core.Bool.{true};
+ghost use Rattle.text.specs.Letter.{letter, meant, every};
 ghost use Rattle.search.specs.Border.{Bordered};
 ghost use Rattle.search.specs.Step.{Steps};
 
@@ -21,7 +24,8 @@ pub struct Stepped {
 // The state that `bits` leads to by one variant, and whether an occurrence ends in it.
 pub fn step_borders(pattern: &[u8], table: &[u64; 256], bits: u64, variant: &[u8]) -> Stepped
     requires { ⌜ Bordered (now pattern) (now table) bits ⌝ }
-    ensures { λ r. ⌜ Steps (now (pattern .entry)) bits (now (variant .entry)) (r .bits) (r .ends) ⌝ }
+    requires { ⌜ every letter (now variant) ≡ true ⌝ }
+    ensures { λ r. ⌜ Steps (now (pattern .entry)) bits (meant (now (variant .entry))) (r .bits) (r .ends) ⌝ }
 {
     let sent = carried(pattern, bits, variant);
     let fresh = begun(pattern, table, variant);

@@ -2,8 +2,8 @@
 use text::refusal;
 ghost use Rattle.search.specs.Masks.{bases, Masks, Classes};
 
-// The letter vector of each byte: bit k is set where base k of the pattern is that byte. Of a pattern over 64 bytes the first 64
-// count, since a word has no more bits.
+// The letter vector of what each byte means: bit k is set where base k of the pattern is that letter. Of a pattern over 64 bytes the
+// first 64 count, since a word has no more bits. Lower case has the vectors of upper case, so that the loops look at a letter once.
 pub fn masks(pattern: &[u8]) -> [u64; 256]
     ensures { λ r. ⌜ Masks (bases (now (pattern .entry))) r ⌝ }
 {
@@ -20,6 +20,11 @@ pub fn masks(pattern: &[u8]) -> [u64; 256]
         table[c] = table[c] | (1 << k);
         k += 1;
     }
+    table[0x6E] = table[0x4E];
+    table[0x74] = table[0x54];
+    table[0x67] = table[0x47];
+    table[0x63] = table[0x43];
+    table[0x61] = table[0x41];
     table
 }
 
@@ -32,5 +37,11 @@ pub fn classes() -> [u8; 256]
     table[0x43] = 0;
     table[0x47] = 0;
     table[0x54] = 0;
+    table[0x4E] = 0;
+    table[0x61] = 0;
+    table[0x63] = 0;
+    table[0x67] = 0;
+    table[0x74] = 0;
+    table[0x6E] = 0;
     table
 }

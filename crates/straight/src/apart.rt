@@ -1,10 +1,14 @@
-// A text taken apart: its letters in a row, the lengths of its variants and the variant counts of its segments.
+// A text taken apart: its letters in a row, the lengths of its variants and the variant counts of its segments; and the text with its
+// letters raised, as it is written again.
+use crate::meanings::meant;
 use crate::parts::letters_at;
 use crate::parts::number_at;
 use crate::parts::place_of;
+use crate::parts::put;
 use crate::parts::put_part;
 use crate::parts::segment_at;
 use crate::parts::word_at;
+use std::num::wrapping_add_usize;
 
 // The letters of all variants in a row, and how many there are.
 pub fn letters(out: &mut [u8], bytes: &[u8], segments: usize, variants: usize) -> usize {
@@ -37,4 +41,29 @@ pub fn counts(out: &mut [u8], bytes: &[u8]) {
         out[j] = (count % 256) as u8;
         j += 1;
     }
+}
+
+// Puts each letter of a row in upper case, from a place on.
+fn raise(out: &mut [u8], from: usize, letters: &[u8]) {
+    let mut i = 0;
+    while i < letters.len() {
+        put(&mut *out, wrapping_add_usize(from, i), meant(letters[i]));
+        i += 1;
+    }
+}
+
+// The bytes with each of their letters in upper case, and how many they are.
+pub fn raised(out: &mut [u8], bytes: &[u8], segments: usize, variants: usize) -> usize {
+    let end = put_part(&mut *out, 0, bytes);
+    let mut k = 0;
+    while k < variants {
+        let place = place_of(bytes, segments, k);
+        raise(
+            &mut *out,
+            wrapping_add_usize(place.at, 2),
+            letters_at(bytes, place.at),
+        );
+        k += 1;
+    }
+    end
 }

@@ -1,6 +1,7 @@
 // Document 01's rules done the plain way, with nothing of the library: a reader of stretches and a search, straight from the
 // definitions, that programs compare the library's calls with.
 mod apart;
+mod meanings;
 mod occurrences;
 mod parts;
 mod reader;
@@ -9,6 +10,8 @@ mod strands;
 pub use apart::counts;
 pub use apart::lengths;
 pub use apart::letters;
+pub use apart::raised;
+pub use meanings::meant;
 pub use occurrences::Ran;
 pub use occurrences::Step;
 pub use occurrences::run;

@@ -1,11 +1,11 @@
 // The search, straight from the definition of an occurrence: every length of P is tried at every variant. A set of lengths is a
 // number with their bits; with bit 0 an occurrence may start afresh.
+use crate::meanings::alike;
 use crate::parts::letters_at;
 use crate::parts::number_at;
 use crate::parts::part;
 use crate::parts::skip;
 use crate::reader::Verdict;
-use check::same;
 use std::num::wrapping_add_usize;
 
 // The first end where none is.
@@ -26,7 +26,7 @@ fn has(set: u64, q: usize) -> bool {
 fn inside(p: &[u8], s: &[u8]) -> bool {
     let mut at = 0;
     while at < s.len() {
-        if same(p, part(s, at, p.len())) {
+        if alike(p, part(s, at, p.len())) {
             return true;
         }
         at += 1;
@@ -41,9 +41,9 @@ fn carried(p: &[u8], s: &[u8], from: u64, r: usize) -> bool {
         return false;
     }
     if r <= n {
-        return has(from, 0) && same(part(p, 0, r), part(s, n - r, r));
+        return has(from, 0) && alike(part(p, 0, r), part(s, n - r, r));
     }
-    has(from, r - n) && same(part(p, r - n, n), s)
+    has(from, r - n) && alike(part(p, r - n, n), s)
 }
 
 // The lengths that are carried out behind s.
@@ -68,7 +68,7 @@ fn finished(p: &[u8], s: &[u8], from: u64, q: usize) -> bool {
     if q == 0 {
         return has(from, 0) && inside(p, s);
     }
-    has(from, q) && same(part(p, q, n), part(s, 0, n))
+    has(from, q) && alike(part(p, q, n), part(s, 0, n))
 }
 
 // Whether an occurrence ends in s.

@@ -1,10 +1,11 @@
 // A reader of a stretch, which says what is to be refused, and where: document 01's numbers 1 to 3 and 5 to 9.
+use crate::meanings::alike;
+use crate::meanings::meant;
 use crate::parts::behind;
 use crate::parts::letters_at;
 use crate::parts::number_at;
 use crate::parts::skip;
 use crate::parts::word_at;
-use check::same;
 use std::num::wrapping_add_usize;
 
 // How far the reader has come: a refusal and its place, or number 0 and the place behind what was read; the letters and the
@@ -47,11 +48,23 @@ const START: Came = Came {
     variants: 0,
 };
 
-// The place of the first byte that is not A, C, G or T, among the letters of a variant or the bases of a pattern.
+// The place of the first byte of a variant that is no letter.
 fn wrong_letter(letters: &[u8]) -> usize {
     let mut i = 0;
     while i < letters.len() {
-        let byte = letters[i];
+        if meant(letters[i]) == 0 {
+            return i;
+        }
+        i += 1;
+    }
+    i
+}
+
+// The place of the first byte of a pattern that is not A, C, G or T.
+fn wrong_base(bases: &[u8]) -> usize {
+    let mut i = 0;
+    while i < bases.len() {
+        let byte = bases[i];
         match byte {
             b'A' | b'C' | b'G' | b'T' => {}
             _ => {
@@ -63,12 +76,12 @@ fn wrong_letter(letters: &[u8]) -> usize {
     i
 }
 
-// Whether the variant at a place is one of the k that stand from `first` on.
+// Whether the variant at a place means what one of the k that stand from `first` on means.
 pub fn repeats(bytes: &[u8], first: usize, k: usize, at: usize) -> bool {
     let mut i = 0;
     while i < k {
         let other = skip(bytes, first, i);
-        if same(letters_at(bytes, other), letters_at(bytes, at)) {
+        if alike(letters_at(bytes, other), letters_at(bytes, at)) {
             return true;
         }
         i += 1;
@@ -190,7 +203,7 @@ pub fn pattern(p: &[u8], verdict: Verdict) -> Verdict {
     if 64 < p.len() {
         return refused(2, 0, 0);
     }
-    let wrong = wrong_letter(p);
+    let wrong = wrong_base(p);
     if wrong < p.len() {
         return refused(3, wrong, 0);
     }

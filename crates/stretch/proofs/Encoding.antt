@@ -2,21 +2,24 @@
 use Prim.Native.Nat.{ℕ, _+_, _*_, _≤_, _<_}
 use native.Mathlib.Nat.{add-zero}
 use native.Mathlib.Omega.{arith}
-use mathlib.Core.Path.{_≡_, refl, _∙_}
+use mathlib.Core.Path.{_≡_, refl, sym, ap, ap₂, _∙_}
 use mathlib.Core.Bool.{Bool, true, false, not, _&&_}
 use mathlib.Core.List.{List, [], _∷_, _++_}
 use borrow.Author.Tests.{ltb-true, leb-true, not-true, lt-ltb, le-leb}
 use lib.Dec.{ltb, leb}
-use lib.ListN.{length, getD}
+use lib.ListN.{length, getD, length-append}
 use lib.Seq.{take-length}
-use Rattle.text.specs.Letter.{letter, every}
+use Rattle.text.specs.Letter.{capital, meant, every}
+use Rattle.text.proofs.Meanings.{capitals-letters, capitals-meant}
 use Rattle.text.specs.Text.{Variant, Segment, Text}
 use Rattle.text.specs.Refusal.{ok}
 use Rattle.text.proofs.Truth.{and-both, and-left, and-right}
 use Rattle.stretch.specs.Bytes.{greatestStretch, word, wordBytes}
 use Rattle.stretch.specs.Pieces.{lettersAt, nextOf, headAt, variantsAt, mostInStretch}
-use Rattle.stretch.specs.Reading.{among, formed, many, variantAt, segmentAt, stretchOf, loneSegment, segmentOf}
+use Rattle.stretch.specs.Reading.{among, valueOf, formed, many, variantAt, segmentAt, stretchOf, loneSegment, segmentOf}
 use Rattle.stretch.specs.Encoding.{bytesOf, encodeVariant, encodeSegment, encode, distinct, all, writableSegment, writable}
+use Rattle.stretch.specs.Skips.{stepped, behindSegment}
+use Rattle.stretch.specs.Standing.{lettersFrom, standingSegment, segmentsFrom, standing}
 use Rattle.stretch.proofs.Heads.{value-part}
 use Rattle.stretch.proofs.Frames.{open-counts, closed-sound}
 use Rattle.stretch.proofs.Stands.{Stands, stands-front, stands-back, stands-inside, stands-at, word-stands}
@@ -25,13 +28,13 @@ use Rattle.stretch.proofs.Lengths.{filled, filled-lengths}
 
 -- variants that can stand behind those seen
 pub record Fresh (seen l : Segment) : Type 0 where
-  pub letters : all (every letter) l ≡ true
+  pub letters : all (every capital) l ≡ true
   pub once : distinct seen l ≡ true
 
 module _ (seen : Segment) (v : Variant) (l : Segment) (f : Fresh seen (v ∷ l)) where
-  pub fresh-letters : every letter v ≡ true
+  pub fresh-letters : every capital v ≡ true
   unfolding all
-  fresh-letters = and-left (every letter v) (all (every letter) l) (f .letters)
+  fresh-letters = and-left (every capital v) (all (every capital) l) (f .letters)
 
   pub fresh-once : among v seen ≡ false
   unfolding distinct
@@ -40,7 +43,7 @@ module _ (seen : Segment) (v : Variant) (l : Segment) (f : Fresh seen (v ∷ l))
   pub fresh-rest : Fresh (seen ++ (v ∷ [])) l
   unfolding all distinct
   fresh-rest = record {
-    letters = and-right (every letter v) (all (every letter) l) (f .letters);
+    letters = and-right (every capital v) (all (every capital) l) (f .letters);
     once = and-right (not (among v seen)) (distinct (seen ++ (v ∷ [])) l) (f .once);
   }
 
@@ -55,7 +58,7 @@ unfolding writableSegment
 writable-segment g w =
     let some : Bool = ltb 0 (length g) in
     let few : Bool = leb (length g) 255 in
-    let letters : Bool = all (every letter) g in
+    let letters : Bool = all (every capital) g in
     let three : (some && few && letters) ≡ true = and-left (some && few && letters) (distinct [] g) w in
     let two : (some && few) ≡ true = and-left (some && few) letters three in
     record {
@@ -85,12 +88,13 @@ module _ (s : List ℕ) (short : length s ≤ greatestStretch) where
       let n : word s at ≡ length v = word-stands s at (length v) (omega arith) (stands-front s at (wordBytes (length v)) v h) in
       let letters : lettersAt s at ≡ v = rw n (stands-back s at (wordBytes (length v)) v h) in
       let next : nextOf s at ≡ at + length (encodeVariant v) = omega arith in
+      let value : valueOf s at ≡ v = value-part s at ∙ ap meant letters ∙ capitals-meant v (fresh-letters seen v l f) in
       rw (
-        value-part s at,
+        value,
         letters,
         next,
         le-leb (at + length (encodeVariant v)) (length s) fits,
-        fresh-letters seen v l f,
+        capitals-letters v (fresh-letters seen v l f),
         fresh-once seen v l f,
       )
 
@@ -145,6 +149,56 @@ stretch-of t w =
     word-stands s 0 (length t) (omega arith) (stands-front s 0 (wordBytes (length t)) (bytesOf encodeSegment t) (take-length s)) in
     let segments = segments-written s short t good (stands-back s 0 (wordBytes (length t)) (bytesOf encodeSegment t) (take-length s)) in
     accepted s t (2 + length (bytesOf encodeSegment t)) short two few n segments (omega arith)
+
+-- its bytes stand for itself: the letters that stand there are its own
+module _ (s : List ℕ) (short : length s ≤ greatestStretch) where
+  letters-encoded : (g : Segment) (at : ℕ) → Stands s at (bytesOf encodeVariant g) → lettersFrom s (length g) at ≡ g
+  unfolding lettersFrom bytesOf encodeVariant wordBytes
+  letters-encoded [] at h = refl
+  letters-encoded (v ∷ g) at h =
+      let front = stands-front s at (encodeVariant v) (bytesOf encodeVariant g) h in
+      let fits : at + length (encodeVariant v) ≤ length s = stands-inside s at (encodeVariant v) front (omega arith) in
+      let n : word s at ≡ length v = word-stands s at (length v) (omega arith) (stands-front s at (wordBytes (length v)) v front) in
+      let letters : lettersAt s at ≡ v = rw n (stands-back s at (wordBytes (length v)) v front) in
+      let next : nextOf s at ≡ at + length (encodeVariant v) = omega arith in
+      let rest = stands-back s at (encodeVariant v) (bytesOf encodeVariant g) h in
+      ap₂ _∷_ letters (rw next (letters-encoded g (at + length (encodeVariant v)) rest))
+
+  variants-behind : (g : Segment) (at : ℕ) → Stands s at (bytesOf encodeVariant g) → stepped (nextOf s) (length g) at ≡ at + length (bytesOf encodeVariant g)
+  unfolding stepped bytesOf encodeVariant wordBytes
+  variants-behind [] at h = omega arith
+  variants-behind (v ∷ g) at h =
+      let front = stands-front s at (encodeVariant v) (bytesOf encodeVariant g) h in
+      let fits : at + length (encodeVariant v) ≤ length s = stands-inside s at (encodeVariant v) front (omega arith) in
+      let n : word s at ≡ length v = word-stands s at (length v) (omega arith) (stands-front s at (wordBytes (length v)) v front) in
+      let next : nextOf s at ≡ at + length (encodeVariant v) = omega arith in
+      let rest = stands-back s at (encodeVariant v) (bytesOf encodeVariant g) h in
+      ap (stepped (nextOf s) (length g)) next
+      ∙ omega (arith, variants-behind g (at + length (encodeVariant v)) rest, length-append (encodeVariant v) (bytesOf encodeVariant g))
+
+  segments-encoded : (t : Text) (at : ℕ) → Stands s at (bytesOf encodeSegment t) → segmentsFrom s (length t) at ≡ t
+  unfolding segmentsFrom bytesOf encodeSegment
+  segments-encoded [] at h = refl
+  segments-encoded (g ∷ t) at h =
+      let front = stands-front s at (encodeSegment g) (bytesOf encodeSegment t) h in
+      let count : getD s at 0 ≡ length g = rw add-zero at (stands-at s at (encodeSegment g) front 0 (omega arith)) in
+      let variants = stands-back s at (length g ∷ []) (bytesOf encodeVariant g) front in
+      let own : standingSegment s at ≡ g = rw count (letters-encoded g (at + 1) variants) in
+      let next : behindSegment s at ≡ at + length (encodeSegment g) = rw count (variants-behind g (at + 1) variants ∙ omega arith) in
+      let rest = stands-back s at (encodeSegment g) (bytesOf encodeSegment t) h in
+      ap₂ _∷_ own (rw next (segments-encoded t (at + length (encodeSegment g)) rest))
+
+pub standing-encoded : (t : Text) → writable t ≡ true → standing (encode t) ≡ t
+unfolding writable encode wordBytes standing
+standing-encoded t w =
+    let s : List ℕ = encode t in
+    let good : all writableSegment t ≡ true = and-left (all writableSegment t) (leb (length s) greatestStretch) w in
+    let short : length s ≤ greatestStretch =
+    leb-true (length s) greatestStretch (and-right (all writableSegment t) (leb (length s) greatestStretch) w) in
+    let room : 3 * length t ≤ length (bytesOf encodeSegment t) = filled-lengths t (writable-filled t good) in
+    let n : word s 0 ≡ length t =
+    word-stands s 0 (length t) (omega arith) (stands-front s 0 (wordBytes (length t)) (bytesOf encodeSegment t) (take-length s)) in
+    rw n (segments-encoded s short t 2 (stands-back s 0 (wordBytes (length t)) (bytesOf encodeSegment t) (take-length s)))
 
 -- so is a lone segment
 pub segment-of : (g : Segment) → writableSegment g ≡ true → length (encodeSegment g) ≤ greatestStretch → segmentOf (encodeSegment g) ≡ ok g

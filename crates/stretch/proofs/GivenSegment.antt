@@ -7,7 +7,7 @@ use mathlib.Core.Bool.{true, false, not}
 use mathlib.Core.List.{List, [], _∷_, _++_, append-assoc, append-nil}
 use borrow.Author.Tests.{lt-ltb}
 use lib.ListN.{length, getD, take, drop, length-take}
-use Rattle.text.specs.Letter.{letter, every, firstNot}
+use Rattle.text.specs.Letter.{capital, every, firstNot}
 use Rattle.text.specs.Text.{Variant, Segment, total}
 use Rattle.text.specs.Refusal.{Outcome, ok, refused}
 use Rattle.text.proofs.Outcomes.{ok-inj, refused-ok, demand-met, after-met}
@@ -24,7 +24,7 @@ use Rattle.stretch.proofs.Cuts.{Passing, passing-none, passing-more, pa
 -- no letter
 module _
     (letters lengths : List ℕ) (seen : Segment) (v at : ℕ) {m w : ℕ} (e : m ≡ getD lengths v 0)
-    (f : w ≡ firstNot letter (take (at + m - at) (drop at letters))) where
+    (f : w ≡ firstNot capital (take (at + m - at) (drop at letters))) where
   own : Variant
   own = part letters at (getD lengths v 0)
 
@@ -32,23 +32,23 @@ module _
   unfolding own
   is-own = part-slice letters at m ∙ ap (part letters at) e
 
-  first : w ≡ firstNot letter own
-  first = f ∙ ap (firstNot letter) is-own
+  first : w ≡ firstNot capital own
+  first = f ∙ ap (firstNot capital) is-own
 
   pub given-wrong :
       at + m ≤ length letters → w < at + m - at → reached (variantGiven letters lengths seen (spot v at)) ≡ refused 7 (at + w)
   unfolding variantGiven own
   given-wrong l k =
       let size : length own ≡ m = ap length (ap (part letters at) (sym e)) ∙ length-part letters at m l in
-      let wrong : firstNot letter own < length own = omega (arith, first) in
-      rw (first-not-every letter own wrong, first)
+      let wrong : firstNot capital own < length own = omega (arith, first) in
+      rw (first-not-every capital own wrong, first)
 
-  sound : at + m - at ≤ w → every letter own ≡ true
+  sound : at + m - at ≤ w → every capital own ≡ true
   unfolding own
   sound k =
       let size : length own ≤ at + m - at = rw (← is-own, length-take) (omega arith) in
-      let all : firstNot letter own ≡ length own = omega (arith, first, first-le letter own) in
-      first-every letter own all
+      let all : firstNot capital own ≡ length own = omega (arith, first, first-le capital own) in
+      first-every capital own all
 
   pub given-again :
       at + m - at ≤ w → among (take (at + m - at) (drop at letters)) seen ≡ true →
@@ -92,7 +92,7 @@ module _ (letters lengths : List ℕ) where
 
   -- what an accepted variant has met
   pub record VariantMet (seen : Segment) (v at : ℕ) (x : Taken Variant Spot) : Type 0 where
-    pub spelt : every letter (part letters at (getD lengths v 0)) ≡ true
+    pub spelt : every capital (part letters at (getD lengths v 0)) ≡ true
     pub once : not (among (part letters at (getD lengths v 0)) seen) ≡ true
     pub is : x ≡ taken v at
 
@@ -100,7 +100,7 @@ module _ (letters lengths : List ℕ) where
   unfolding variantGiven
   variant-met seen v at x e =
       let s : Variant = part letters at (getD lengths v 0) in
-      let a = demand-met (every letter s) 7 (at + firstNot letter s) _ x e in
+      let a = demand-met (every capital s) 7 (at + firstNot capital s) _ x e in
       let b = demand-met (not (among s seen)) 8 v (ok (taken v at)) x (a .1) in
       record { spelt = a .0; once = b .0; is = sym (ok-inj (b .1)) }
 

@@ -6,7 +6,9 @@ use mathlib.Core.List.{List}
 use borrow.Author.Tests.{leb-true, le-leb, lt-leb}
 use lib.Dec.{leb}
 use lib.ListN.{length, take, drop, length-take, length-drop}
+use Rattle.text.specs.Letter.{meant}
 use Rattle.text.specs.Refusal.{ok, refused}
+use Rattle.text.proofs.Likes.{meant-length}
 use Rattle.text.proofs.Outcomes.{ok-inj, demand-met}
 use Rattle.stretch.specs.Bytes.{word}
 use Rattle.stretch.specs.Pieces.{lettersAt, nextOf, Span, headAt}
@@ -52,10 +54,10 @@ whole-letters s at l = simp (length-take, length-drop) (omega arith)
 pub whole-length : (s : List ℕ) (at start next : ℕ) → Whole s at start next → length (lettersAt s at) ≡ next - start
 whole-length s at start next w = omega (arith, whole-letters s at (w .inside), w .starts, w .ends)
 
--- what a variant spells are the letters that stand there
-pub value-part : (s : List ℕ) (at : ℕ) → valueOf s at ≡ lettersAt s at
+-- what a variant spells is what the letters mean that stand there
+pub value-part : (s : List ℕ) (at : ℕ) → valueOf s at ≡ meant (lettersAt s at)
 unfolding valueOf
 value-part s at = refl
 
 pub value-length : (s : List ℕ) (at : ℕ) → nextOf s at ≤ length s → length (valueOf s at) ≡ word s at
-value-length s at l = ap length (value-part s at) ∙ whole-letters s at l
+value-length s at l = ap length (value-part s at) ∙ meant-length (lettersAt s at) ∙ whole-letters s at l

@@ -18,6 +18,7 @@ pub mod Stretches
 -- bytes and texts are inverse
 pub mod Rows
 pub mod Lengths
+pub mod Standing
 pub mod Decoding
 pub mod Encoding
 pub mod Refusals
@@ -29,6 +30,7 @@ pub mod CallReturned
 pub mod ReaderOwned
 pub mod ReaderMethods
 -- writing
+pub mod Raised
 pub mod Totals
 pub mod Cuts
 pub mod RepeatsInWrite

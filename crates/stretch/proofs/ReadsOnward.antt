@@ -7,21 +7,26 @@ use mathlib.Core.Path.{_≡_, refl, sym, ap, ap₂, subst₂, _∙_}
 use mathlib.Core.Bool.{true}
 use mathlib.Core.List.{List, [], _∷_, _++_, map}
 use borrow.Author.Tests.{eq-eqb, ne-eqb, ltb-true}
-use lib.ListN.{length, getD, drop, length-append, length-drop, length-map, List·getD-eq-default}
+use lib.ListN.{length, getD, drop, length-append, length-drop, length-map, List·getD-map, List·getD-eq-default}
 use lib.Seq.{drop-drop, getD-drop}
+use Rattle.text.specs.Letter.{meant}
 use Rattle.text.specs.Text.{Variant, Segment, Text, segment}
 use Rattle.text.specs.Refusal.{Outcome, ok, refused}
 use Rattle.text.proofs.Truth.{and-left, and-right}
 use Rattle.text.proofs.Outcomes.{refused-ok}
 use Rattle.stretch.specs.Reading.{stretchOf}
-use Rattle.stretch.specs.Encoding.{all}
+use Rattle.stretch.specs.Bytes.{word}
+use Rattle.stretch.specs.Encoding.{raisedText, all}
+use Rattle.stretch.specs.Skips.{segmentPlace}
+use Rattle.stretch.specs.Standing.{standing}
 use Rattle.stretch.specs.Places.{variant, startOf, Found, found, end, Reading, reading, readIn, partOf}
 use Rattle.stretch.specs.Answers.{toldGot}
 use Rattle.stretch.specs.Onward.{Handed, HandsOut, ReadOn, gathered, ReadsAs}
 use Rattle.stretch.specs.declared.reading.Got.{Got}
 use Rattle.stretch.specs.declared.reading.Got.the-variants.{End}
 use Rattle.stretch.proofs.Lengths.{filled}
-use Rattle.stretch.proofs.Decoding.{stretch-read, stretch-filled}
+use Rattle.stretch.proofs.Decoding.{stretch-read, stretch-filled, stretch-means}
+use Rattle.stretch.proofs.Standing.{letters-at, segments-at, filled-raised}
 use Rattle.stretch.proofs.TextPlaces.{segment-there, part-there}
 use Rattle.stretch.proofs.ReadsAtPlace.{read-text, some-segment, read-here, read-next, read-end}
 
@@ -95,48 +100,74 @@ read-accepted s [] r = answer-accepted s 0 0 end 0 0 r
 read-accepted s (h ∷ l) r = let x = r .0 in answer-accepted s 0 0 (found (x .start) (x .len)) (h .segment) (x .next) (x .read)
 
 module _ (s : List ℕ) (t : Text) (e : stretchOf s ≡ ok t) where
-  -- the letters at a place that has a variant
-  pub read-letters : (j v : ℕ) → v < length (segment t j) → partOf s (reading s j v .answer) ≡ variant t j v
+  -- the text as it stands: as many segments, each of as many variants
+  abbrev T : Text
+  T = standing s
+
+  segments-same : length T ≡ length t
+  unfolding raisedText
+  segments-same = sym (length-map T (map meant)) ∙ ap length (stretch-means s t e)
+
+  segment-same : (j : ℕ) → segment t j ≡ map meant (segment T j)
+  unfolding raisedText
+  segment-same j = ap (λ (u : Text). getD u j []) (sym (stretch-means s t e)) ∙ List·getD-map (map meant) T j []
+
+  variants-same : (j : ℕ) → length (segment T j) ≡ length (segment t j)
+  variants-same j = sym (length-map (segment T j) meant) ∙ ap length (sym (segment-same j))
+
+  -- the letters at a place that has a variant, as they stand
+  pub read-letters : (j v : ℕ) → v < length (segment T j) → partOf s (reading s j v .answer) ≡ variant T j v
+  unfolding standing
   read-letters j v l =
-      rw (read-text s t e j v, read-here t j v l) (part-there s t (stretch-read s t e) j (some-segment t j v l) v l)
+      let h : v < length (segment t j) = rw (← variants-same j) l in
+      let some = some-segment t j v h in
+      let r = stretch-read s t e in
+      let there = segment-there s t r j some in
+      let few : j < word s 0 = rw (r .count) some in
+      let inside : v < getD s (segmentPlace s j) 0 = rw (there .count) h in
+      rw (read-text s t e j v, read-here t j v h, segments-at s (word s 0) 2 j few, letters-at s _ (segmentPlace s j + 1) v inside)
+      (part-there s t r j some v h)
 
   -- the end
-  ended : (j v : ℕ) → length (segment t j) ≤ v → length t ≤ j + 1 → ReadOn s j v []
+  ended : (j v : ℕ) → length (segment T j) ≤ v → length T ≤ j + 1 → ReadOn s j v []
   unfolding ReadOn
-  ended j v none few = sym (read-text s t e j v ∙ read-end t j v none few)
+  ended j v none few =
+      sym (read-text s t e j v ∙ read-end t j v (omega (arith, none, variants-same j)) (omega (arith, few, segments-same)))
 
   -- one call there
-  read-one : (j v : ℕ) (a : Variant) → v < length (segment t j) → variant t j v ≡ a → HandsOut s j v (tag j a)
+  read-one : (j v : ℕ) (a : Variant) → v < length (segment T j) → variant T j v ≡ a → HandsOut s j v (tag j a)
   read-one j v a l is = record {
     start = startOf t j v;
     len = length (variant t j v);
     next = v + 1;
-    read = sym (read-text s t e j v ∙ read-here t j v l);
+    read = sym (read-text s t e j v ∙ read-here t j v (rw (← variants-same j) l));
     letters = sym (read-letters j v l ∙ is);
   }
 
   -- the rest of a segment, from variant v on, and what is read behind it
   read-segment :
-      (j : ℕ) (g : Segment) (v : ℕ) (rest : List Handed) → v ≤ length (segment t j) → drop v (segment t j) ≡ g →
-      ReadOn s j (length (segment t j)) rest → ReadOn s j v (map (tag j) g ++ rest)
+      (j : ℕ) (g : Segment) (v : ℕ) (rest : List Handed) → v ≤ length (segment T j) → drop v (segment T j) ≡ g →
+      ReadOn s j (length (segment T j)) rest → ReadOn s j v (map (tag j) g ++ rest)
   unfolding ReadOn read-one
   read-segment j [] v rest h d r =
-      let n : length (segment t j) ≡ v = omega (arith, rw length-drop at (ap length d)) in
+      let n : length (segment T j) ≡ v = omega (arith, rw length-drop at (ap length d)) in
       rw n at r
   read-segment j (a ∷ g) v rest h d r =
-      let m : v < length (segment t j) = omega (arith, rw length-drop at (ap length d)) in
-      let n = drop-next (segment t j) v [] a g d in
+      let m : v < length (segment T j) = omega (arith, rw length-drop at (ap length d)) in
+      let n = drop-next (segment T j) v [] a g d in
       (read-one j v a m (n .0), read-segment j g (v + 1) rest (omega arith) (n .1) r)
 
   -- behind a segment's last variant stands the next segment's first
-  read-across : (j : ℕ) (l : List Handed) → j + 1 < length t → 0 < length l → ReadOn s (j + 1) 0 l → ReadOn s j (length (segment t j)) l
+  read-across : (j : ℕ) (l : List Handed) → j + 1 < length T → 0 < length l → ReadOn s (j + 1) 0 l → ReadOn s j (length (segment T j)) l
   unfolding ReadOn
   read-across j [] more some r = absurd (let z : ⊥ = omega arith in z)
   read-across j (h ∷ l) more some r =
-      let first : 0 < length (segment t (j + 1)) = segment-there s t (stretch-read s t e) (j + 1) more .some in
-      let same : reading s (j + 1) 0 ≡ reading s j (length (segment t j)) =
+      let more′ : j + 1 < length t = omega (arith, more, segments-same) in
+      let last : length (segment t j) ≤ length (segment T j) = omega (arith, variants-same j) in
+      let first : 0 < length (segment t (j + 1)) = segment-there s t (stretch-read s t e) (j + 1) more′ .some in
+      let same : reading s (j + 1) 0 ≡ reading s j (length (segment T j)) =
       read-text s t e (j + 1) 0 ∙ read-here t (j + 1) 0 first
-      ∙ sym (read-text s t e j (length (segment t j)) ∙ read-next t j (length (segment t j)) (omega arith) more) in
+      ∙ sym (read-text s t e j (length (segment T j)) ∙ read-next t j (length (segment T j)) last more′) in
       let x = r .0 in (
         record {
           start = x .start;
@@ -149,21 +180,23 @@ module _ (s : List ℕ) (t : Text) (e : stretchOf s ≡ ok t) where
       )
 
   -- the text from segment j on
-  read-rest : (us : Text) (j : ℕ) → drop j t ≡ us → ReadOn s j 0 (tagged j us)
+  read-rest : (us : Text) (j : ℕ) → drop j T ≡ us → ReadOn s j 0 (tagged j us)
   unfolding tagged
   read-rest [] j d =
-      let few : length t ≤ j = omega (arith, rw length-drop at (ap length d)) in
-      let none : length (segment t j) ≤ 0 = rw (List·getD-eq-default t [] {n = j} few) (omega arith) in
+      let few : length T ≤ j = omega (arith, rw length-drop at (ap length d)) in
+      let none : length (segment T j) ≤ 0 = rw (List·getD-eq-default T [] {n = j} few) (omega arith) in
       ended j 0 none (omega arith)
   read-rest (g ∷ []) j d =
-      let n = drop-next t j [] g [] d in
-      let few : length t ≤ j + 1 = omega (arith, rw length-drop at (ap length (n .1))) in
-      read-segment j g 0 [] (omega arith) (n .0) (ended j (length (segment t j)) (omega arith) few)
+      let n = drop-next T j [] g [] d in
+      let few : length T ≤ j + 1 = omega (arith, rw length-drop at (ap length (n .1))) in
+      read-segment j g 0 [] (omega arith) (n .0) (ended j (length (segment T j)) (omega arith) few)
   read-rest (g ∷ (h ∷ us)) j d =
-      let n = drop-next t j [] g (h ∷ us) d in
-      let m = drop-next t (j + 1) [] h us (n .1) in
-      let more : j + 1 < length t = omega (arith, rw length-drop at (ap length (n .1))) in
-      let some : 0 < length h = rw (m .0) at (segment-there s t (stretch-read s t e) (j + 1) more .some) in
+      let n = drop-next T j [] g (h ∷ us) d in
+      let m = drop-next T (j + 1) [] h us (n .1) in
+      let more : j + 1 < length T = omega (arith, rw length-drop at (ap length (n .1))) in
+      let more′ : j + 1 < length t = omega (arith, more, segments-same) in
+      let some : 0 < length h =
+      omega (arith, segment-there s t (stretch-read s t e) (j + 1) more′ .some, variants-same (j + 1), ap length (m .0)) in
       let rest : List Handed = tagged (j + 1) (h ∷ us) in
       let long : 0 < length rest = omega (arith, length-append (map (tag (j + 1)) h) (tagged (j + 1 + 1) us), length-map h (tag (j + 1))) in
       read-segment j g 0 rest (omega arith) (n .0) (read-across j rest more long (read-rest (h ∷ us) (j + 1) (n .1)))
@@ -191,13 +224,18 @@ gathered-text ((v ∷ g) ∷ t) j f =
     apart ([] ∷ u) f = absurd (let l : 0 < 0 = ltb-true 0 0 (and-left (filled []) (all filled u) f) in let z : ⊥ = omega arith in z)
     apart ((w ∷ h) ∷ u) f = λ e. let z : ⊥ = omega arith in z
 
--- an accepted stretch is read on as its text
-pub reads-as : (s : List ℕ) (t : Text) → stretchOf s ≡ ok t → ReadsAs s t
+-- the segments that stand there have variants
+filled-standing : (s : List ℕ) (t : Text) → all filled t ≡ true → raisedText (standing s) ≡ t → all filled (standing s) ≡ true
+unfolding raisedText
+filled-standing s t f e = filled-raised (standing s) ∙ ap (all filled) e ∙ f
+
+-- an accepted stretch is read on as its text stands
+pub reads-as : (s : List ℕ) (t : Text) → stretchOf s ≡ ok t → ReadsAs s (standing s)
 reads-as s t e =
-    let read = read-rest s t e t 0 refl in
+    let read = read-rest s t e (standing s) 0 refl in
     record {
-      all = tagged 0 t;
+      all = tagged 0 (standing s);
       read = read;
-      once = λ l r. read-once s 0 0 l (tagged 0 t) r read;
-      is = gathered-text t 0 (stretch-filled s t (stretch-read s t e));
+      once = λ l r. read-once s 0 0 l (tagged 0 (standing s)) r read;
+      is = gathered-text (standing s) 0 (filled-standing s t (stretch-filled s t (stretch-read s t e)) (stretch-means s t e));
     }

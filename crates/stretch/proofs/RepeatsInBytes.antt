@@ -8,8 +8,9 @@ use mathlib.Core.List.{List}
 use borrow.Author.Tests.{le-leb, lt-leb, lt-ltb, le-ltb}
 use lib.ListN.{length, take, drop, length-take, length-drop}
 use Rattle.text.specs.Text.{Variant}
-use Rattle.text.specs.Compare.{same}
-use Rattle.text.proofs.Strings.{same-lengths}
+use Rattle.text.specs.Letter.{meant}
+use Rattle.text.specs.Compare.{same, alike}
+use Rattle.text.proofs.Likes.{like-lengths}
 use Rattle.text.specs.Bits.{anyOf}
 use Rattle.stretch.specs.Pieces.{lettersAt, nextOf, repeatedBefore, repeats}
 use Rattle.stretch.specs.Reading.{among, valuesFrom}
@@ -30,11 +31,11 @@ module _ (s : List ℕ) (v : Variant) (first at : ℕ) where
 -- letters of another length are other letters, if there are more than these
 pub other-length :
     (s : List ℕ) (v : Variant) (start n : ℕ) → start + length v < length s → (n ≡ length v → ⊥) →
-    same v (take n (drop start s)) ≡ false
+    alike v (take n (drop start s)) ≡ false
 other-length s v start n l d =
     let long = length-take n (drop start s) in
     let left = length-drop start s in
-    same-lengths v (take n (drop start s)) (λ (e : length v ≡ length (take n (drop start s))). omega (arith, long, left))
+    like-lengths v (take n (drop start s)) (λ (e : length v ≡ length (take n (drop start s))). omega (arith, long, left))
 
 -- the test stands at `place`, and `rest` bounds the variants that are left
 pub before-none : (s : List ℕ) (v : Variant) (at rest place : ℕ) → at ≤ place → repeatedBefore s v at rest place ≡ false
@@ -43,23 +44,23 @@ before-none s v at zero place l = refl
 before-none s v at (suc n) place l = rw (le-ltb place at l)
 
 module _ (s : List ℕ) (v : Variant) (at rest place : ℕ) (enough : at ≤ place + rest) (l : place < at) where
-  one-more : repeatedBefore s v at rest place ≡ (same v (lettersAt s place) || repeatedBefore s v at (rest - 1) (nextOf s place))
+  one-more : repeatedBefore s v at rest place ≡ (alike v (lettersAt s place) || repeatedBefore s v at (rest - 1) (nextOf s place))
   unfolding repeatedBefore
   one-more =
       let e : rest ≡ suc (rest - 1) = omega arith in
       ap (λ (n : ℕ). repeatedBefore s v at n place) e ∙ rw (lt-ltb place at l)
 
-  pub before-found : same v (lettersAt s place) ≡ true → repeatedBefore s v at rest place ≡ true
+  pub before-found : alike v (lettersAt s place) ≡ true → repeatedBefore s v at rest place ≡ true
   before-found e = one-more ∙ rw e
 
   pub before-other :
-      same v (lettersAt s place) ≡ false → repeatedBefore s v at rest place ≡ repeatedBefore s v at (rest - 1) (nextOf s place)
+      alike v (lettersAt s place) ≡ false → repeatedBefore s v at rest place ≡ repeatedBefore s v at (rest - 1) (nextOf s place)
   before-other e = one-more ∙ rw e
 
 -- the k variants from `place` on that end at `at` are all that begin before it
 module _ (s : List ℕ) (v : Variant) (at : ℕ) where
-  before-all : (k n place : ℕ) → behindVariants s k place ≡ at → k ≤ n → repeatedBefore s v at n place ≡ among v (valuesFrom s k place)
-  unfolding repeatedBefore among anyOf valuesFrom stepped
+  before-all : (k n place : ℕ) → behindVariants s k place ≡ at → k ≤ n → repeatedBefore s v at n place ≡ among (meant v) (valuesFrom s k place)
+  unfolding repeatedBefore among anyOf valuesFrom stepped alike
   before-all zero zero place e l = refl
   before-all zero (suc n) place e l =
       let here : at ≤ place = omega arith in
@@ -81,7 +82,7 @@ module _ (s : List ℕ) (v : Variant) (at : ℕ) where
 -- the test before a variant that a walk has reached
 pub repeats-walk :
     (s : List ℕ) (first k at start next : ℕ) → UpTo s first k at → Whole s at start next →
-    repeats s (take (next - start) (drop start s)) first at ≡ among (take (next - start) (drop start s)) (valuesFrom s k first)
+    repeats s (take (next - start) (drop start s)) first at ≡ among (meant (take (next - start) (drop start s))) (valuesFrom s k first)
 repeats-walk s first k at start next up w =
     let v : Variant = take (next - start) (drop start s) in
     let left = length-drop start s in

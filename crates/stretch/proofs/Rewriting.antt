@@ -2,23 +2,24 @@
 use Prim.Native.Nat.{ℕ, zero, suc, _+_, _<_, _≤_}
 use native.Mathlib.Omega.{arith}
 use native.Mathlib.Decide.{decLt}
-use mathlib.Core.Logic.{by-cases, ⊎-elim}
+use mathlib.Core.Logic.{by-cases}
 use mathlib.Core.Path.{_≡_, refl, _∙_}
-use mathlib.Core.Bool.{Bool, true, _||_}
+use mathlib.Core.Bool.{Bool, true}
 use mathlib.Core.List.{List, [], _∷_, _++_, flatten}
-use borrow.Author.Tests.{leb-true, eqb-true}
-use lib.Dec.{leb, eqb}
+use borrow.Author.Tests.{leb-true}
+use lib.Dec.{leb}
 use lib.ListN.{length, getD, List·getD-map, List·getD-eq-default}
-use Rattle.text.specs.Letter.{base, letter, every}
+use Rattle.text.specs.Letter.{letter, capital, meant, every}
+use Rattle.text.proofs.Meanings.{letter-byte}
 use Rattle.text.specs.Text.{Segment, Text, total}
-use Rattle.text.proofs.Truth.{and-both, and-left, and-right, or-cases}
+use Rattle.text.proofs.Truth.{and-both, and-left, and-right}
 use Rattle.stretch.specs.Bytes.{greatestStretch}
-use Rattle.stretch.specs.Encoding.{encode, all, writableSegment, writable}
+use Rattle.stretch.specs.Encoding.{encode, raisedText, all, writableSegment, writable}
 use Rattle.stretch.specs.Cuts.{sum}
 use Rattle.stretch.specs.Writing.{needed, lettersOf, lengthsOf, countsOf}
 use Rattle.stretch.proofs.Rows.{all-append}
 use Rattle.stretch.proofs.Encoding.{writable-segment}
-use Rattle.stretch.proofs.RoundTrips.{apart}
+use Rattle.stretch.proofs.RoundTrips.{apart, letters-of-raised, lengths-of-raised, counts-of-raised}
 
 -- a member of a list of numbers is no more than their sum
 member-le : (ns : List ℕ) (k : ℕ) → getD ns k 0 ≤ sum ns
@@ -46,28 +47,21 @@ every-flatten f [] e = refl
 every-flatten f (v ∷ g) e =
     every-append f v (flatten g) (and-left (every f v) (all (every f) g) e) (every-flatten f g (and-right (every f v) (all (every f) g) e))
 
-writable-letters : (t : Text) → all writableSegment t ≡ true → all (every letter) (flatten t) ≡ true
+writable-letters : (t : Text) → all writableSegment t ≡ true → all (every capital) (flatten t) ≡ true
 unfolding all flatten
 writable-letters [] w = refl
 writable-letters (g ∷ t) w =
-    all-append (every letter) g (flatten t)
-    ∙ and-both (all (every letter) g) (all (every letter) (flatten t))
+    all-append (every capital) g (flatten t)
+    ∙ and-both (all (every capital) g) (all (every capital) (flatten t))
     (writable-segment g (and-left (writableSegment g) (all writableSegment t) w) .fresh .letters)
     (writable-letters t (and-right (writableSegment g) (all writableSegment t) w))
 
-small-letter : (c : ℕ) → letter c ≡ true → c < 256
-unfolding letter base
-small-letter c e =
-    ⊎-elim
-    (λ (h : (eqb c 0x41 || eqb c 0x43 || eqb c 0x47) ≡ true).
-    ⊎-elim
-    (λ (h : (eqb c 0x41 || eqb c 0x43) ≡ true).
-    ⊎-elim (λ (h : eqb c 0x41 ≡ true). omega (arith, eqb-true c 0x41 h)) (λ (h : eqb c 0x43 ≡ true). omega (arith, eqb-true c 0x43 h))
-    (or-cases (eqb c 0x41) (eqb c 0x43) h))
-    (λ (h : eqb c 0x47 ≡ true). omega (arith, eqb-true c 0x47 h))
-    (or-cases (eqb c 0x41 || eqb c 0x43) (eqb c 0x47) h))
-    (λ (h : eqb c 0x54 ≡ true). omega (arith, eqb-true c 0x54 h))
-    (or-cases (eqb c 0x41 || eqb c 0x43 || eqb c 0x47) (eqb c 0x54) e)
+letters-meant : (s : List ℕ) → every capital (meant s) ≡ true → every letter s ≡ true
+unfolding every letter
+letters-meant [] e = refl
+letters-meant (c ∷ s) e =
+    and-both (letter c) (every letter s) (and-left (letter c) (every capital (meant s)) e)
+    (letters-meant s (and-right (letter c) (every capital (meant s)) e))
 
 few-variants : (t : Text) → all writableSegment t ≡ true → (k : ℕ) → length (getD t k []) < 256
 unfolding all
@@ -91,16 +85,9 @@ module _ (t : Text) (w : writable t ≡ true) where
   short =
       leb-true (length (encode t)) greatestStretch (and-right (all writableSegment t) (leb (length (encode t)) greatestStretch) w)
 
-  small-letters : (k : ℕ) → getD (lettersOf t) k 0 < 256
+  capital-letters : every capital (lettersOf t) ≡ true
   unfolding lettersOf
-  small-letters k =
-      by-cases (decLt k (length (flatten (flatten t))))
-      (λ (l : k < length (flatten (flatten t))).
-      small-letter (getD (flatten (flatten t)) k 0)
-      (every-at letter (flatten (flatten t)) k (every-flatten letter (flatten t) (writable-letters t good)) l))
-      (λ (l : ¬ (k < length (flatten (flatten t)))).
-      let out : length (flatten (flatten t)) ≤ k = omega arith in
-      omega (arith, List·getD-eq-default (flatten (flatten t)) 0 out))
+  capital-letters = every-flatten capital (flatten t) (writable-letters t good)
 
   small-lengths : (k : ℕ) → getD (lengthsOf t) k 0 < 65536
   unfolding needed
@@ -110,5 +97,18 @@ module _ (t : Text) (w : writable t ≡ true) where
   unfolding countsOf
   small-counts k = omega (arith, List·getD-map {A = Segment} length t k [], few-variants t good k)
 
-  pub apart-typed : Typed (lettersOf t) (lengthsOf t) (countsOf t)
-  apart-typed = record { letter = small-letters; length = small-lengths; count = small-counts }
+-- letters in any case are bytes
+small-letters : (l : List ℕ) → every letter l ≡ true → (k : ℕ) → getD l k 0 < 256
+small-letters l e k =
+    by-cases (decLt k (length l)) (λ (h : k < length l). letter-byte (getD l k 0) (every-at letter l k e h))
+    (λ (h : ¬ (k < length l)).
+    let out : length l ≤ k = omega arith in
+    omega (arith, List·getD-eq-default l 0 out))
+
+-- a text whose raised form can be written
+pub apart-typed : (T : Text) → writable (raisedText T) ≡ true → Typed (lettersOf T) (lengthsOf T) (countsOf T)
+apart-typed T w = record {
+  letter = small-letters (lettersOf T) (letters-meant (lettersOf T) (rw (letters-of-raised T) at (capital-letters (raisedText T) w)));
+  length = rw (lengths-of-raised T) at (small-lengths (raisedText T) w);
+  count = rw (counts-of-raised T) at (small-counts (raisedText T) w);
+}

@@ -1,9 +1,9 @@
--- A text that can be written, taken apart and written, is the same text; so an accepted stretch that is read and written again is the
--- same bytes.
+-- A text that can be written, taken apart and written, is the same text; so an accepted stretch that is read and written again is its
+-- bytes with the letters raised to upper case.
 use Prim.Native.Nat.{ℕ, _+_, _≤_}
 use native.Mathlib.Nat.{add-zero}
 use native.Mathlib.Omega.{arith}
-use mathlib.Core.Path.{_≡_, refl, sym, ap, _∙_}
+use mathlib.Core.Path.{_≡_, refl, sym, ap, ap₂, _∙_}
 use mathlib.Core.Bool.{true}
 use mathlib.Core.List.{List, [], _∷_, _++_, append-assoc, map, map-append, flatten}
 use borrow.Author.Tests.{lt-ltb, le-leb, eq-eqb}
@@ -11,18 +11,22 @@ use lib.Dec.{leb}
 use lib.ListN.{length, getD, length-append, length-map}
 use lib.Seq.{take-length}
 use Rattle.text.specs.Text.{Segment, Text, total}
+use Rattle.text.specs.Letter.{raised, meant}
 use Rattle.text.specs.Refusal.{ok}
+use Rattle.text.proofs.Likes.{meant-length}
 use Rattle.text.proofs.Truth.{and-left, and-right}
 use Rattle.stretch.specs.Bytes.{greatestStretch, part}
 use Rattle.stretch.specs.Reading.{stretchOf}
-use Rattle.stretch.specs.Encoding.{encode, all, writableSegment, writable}
+use Rattle.stretch.specs.Encoding.{encode, raisedText, all, writableSegment, writable}
+use Rattle.stretch.specs.Standing.{standing}
 use Rattle.stretch.specs.Cuts.{sum}
-use Rattle.stretch.specs.Writing.{Spot, spot, given, Matching, needed, variantGiven, segmentGiven, segmentsGiven, writing}
-use Rattle.stretch.specs.Writing.{lettersOf, lengthsOf, countsOf}
+use Rattle.stretch.specs.Writing.{Spot, spot, given, Matching, needed, variantGiven, segmentGiven, segmentsGiven, writingCapitals}
+use Rattle.stretch.specs.Writing.{writing, lettersOf, lengthsOf, countsOf}
 use Rattle.stretch.proofs.Stands.{Bytes, Stands, stands-front, stands-back, stands-at}
 use Rattle.stretch.proofs.Rows.{Row, row-many}
 use Rattle.stretch.proofs.Encoding.{Fresh, fresh-letters, fresh-once, fresh-rest, writable-segment}
-use Rattle.stretch.proofs.Decoding.{stretch-bytes, stretch-writable}
+use Rattle.stretch.proofs.Decoding.{stretch-bytes, stretch-means, stretch-writable}
+use Rattle.stretch.proofs.Standing.{raised-bytes}
 use Rattle.stretch.proofs.Texts.{needed-is}
 use Rattle.stretch.proofs.GivenText.{next-segment, text-is}
 
@@ -146,8 +150,8 @@ apart t w =
 
 -- a text that can be written, taken apart and written, is the same text
 pub written-again :
-    (t : Text) (room : ℕ) → writable t ≡ true → length (encode t) ≤ room → writing (lettersOf t) (lengthsOf t) (countsOf t) room ≡ ok t
-unfolding writing writable
+    (t : Text) (room : ℕ) → writable t ≡ true → length (encode t) ≤ room → writingCapitals (lettersOf t) (lengthsOf t) (countsOf t) room ≡ ok t
+unfolding writingCapitals writable
 written-again t room w l =
     let a = apart t (and-left (all writableSegment t) (leb (length (encode t)) greatestStretch) w) in
     rw (
@@ -159,11 +163,42 @@ written-again t room w l =
       le-leb (length (encode t)) room l,
     )
 
--- an accepted stretch, read and written again, is the same bytes
+-- raised letters are those of the raised text, in as many variants and segments
+flatten-map : {A B : Type 0} (f : A → B) (l : List (List A)) → flatten (map (map f) l) ≡ map f (flatten l)
+unfolding flatten
+flatten-map f [] = refl
+flatten-map f (a ∷ l) = rw (flatten-map f l) (sym (map-append f a (flatten l)))
+
+lengths-raised : (g : Segment) → map length (map meant g) ≡ map length g
+lengths-raised [] = refl
+lengths-raised (v ∷ g) = ap₂ _∷_ (meant-length v) (lengths-raised g)
+
+pub letters-of-raised : (T : Text) → lettersOf (raisedText T) ≡ meant (lettersOf T)
+unfolding lettersOf raisedText
+letters-of-raised T = ap flatten (flatten-map meant T) ∙ flatten-map raised (flatten T)
+
+pub lengths-of-raised : (T : Text) → lengthsOf (raisedText T) ≡ lengthsOf T
+unfolding lengthsOf raisedText
+lengths-of-raised T = ap (map length) (flatten-map meant T) ∙ lengths-raised (flatten T)
+
+pub counts-of-raised : (T : Text) → countsOf (raisedText T) ≡ countsOf T
+unfolding countsOf raisedText
+counts-of-raised [] = refl
+counts-of-raised (g ∷ T) = ap₂ _∷_ (length-map g meant) (counts-of-raised T)
+
+-- so a text whose raised form can be written is written as that
+pub written-raised :
+    (T : Text) (room : ℕ) → writable (raisedText T) ≡ true → length (encode (raisedText T)) ≤ room →
+    writing (lettersOf T) (lengthsOf T) (countsOf T) room ≡ ok (raisedText T)
+written-raised T room w l =
+    rw (letters-of-raised T, lengths-of-raised T, counts-of-raised T) at (written-again (raisedText T) room w l)
+
+-- an accepted stretch, read and written again, is its bytes with the letters raised
 pub read-written :
     (s : List ℕ) (t : Text) (room : ℕ) → Bytes s → stretchOf s ≡ ok t → length s ≤ room →
-    (writing (lettersOf t) (lengthsOf t) (countsOf t) room ≡ ok t) × (encode t ≡ s)
+    writing (lettersOf (standing s)) (lengthsOf (standing s)) (countsOf (standing s)) room ≡ ok (raisedText (standing s))
 read-written s t room bytes e l =
-    let same : encode t ≡ s = stretch-bytes s bytes t e in
-    let fits : length (encode t) ≤ room = omega (arith, ap length same) in
-    (written-again t room (stretch-writable s bytes t e) fits, same)
+    let T : Text = standing s in
+    let w : writable (raisedText T) ≡ true = rw (stretch-means s t e) (stretch-writable s bytes t e) in
+    let fits : length (encode (raisedText T)) ≤ room = omega (arith, raised-bytes T, ap length (stretch-bytes s bytes t e)) in
+    written-raised T room w fits

@@ -8,16 +8,16 @@ use lib.ListN.{length, getD, take}
 use Rattle.text.specs.Text.{Variant, Segment, Text, segment, total}
 use Rattle.text.specs.Refusal.{Outcome, ok}
 use Rattle.stretch.specs.Bytes.{word, part}
-use Rattle.stretch.specs.Pieces.{nextOf}
+use Rattle.stretch.specs.Pieces.{lettersAt, nextOf}
 use Rattle.stretch.specs.Reading.{Taken, valueOf, variantAt, segmentAt}
 use Rattle.stretch.specs.Encoding.{encodeVariant, encodeSegment}
 use Rattle.stretch.specs.Skips.{stepped, behindVariants, behindSegment, segmentPlace}
 use Rattle.stretch.specs.Places.{variant, startOf, handed}
 use Rattle.stretch.specs.Answers.{handedAt}
-use Rattle.stretch.proofs.Heads.{value-length, value-part}
+use Rattle.stretch.proofs.Heads.{value-length}
 use Rattle.stretch.proofs.Units.{variant-read}
 use Rattle.stretch.proofs.Rows.{Row}
-use Rattle.stretch.proofs.Decoding.{variant-spans, SegmentRead, segment-read, segment-spans, StretchRead}
+use Rattle.stretch.proofs.Decoding.{variant-bytes, SegmentRead, segment-read, segment-bytes, StretchRead}
 
 -- a row whose members are stepped over
 module _ {A : Type 0} (f : List A → ℕ → Outcome (Taken A ℕ)) (step : ℕ → ℕ)
@@ -103,9 +103,9 @@ module _ (s : List ℕ) where
       letters-there : variantPlace s j v + 2 ≡ startOf t j v
       unfolding startOf
       letters-there =
-          let p = row-place (λ _. segmentAt s) (behindSegment s) segment-ends encodeSegment (λ _ at x e. segment-spans s at x e .ends)
+          let p = row-place (λ _. segmentAt s) (behindSegment s) segment-ends encodeSegment (λ _ at x e. segment-bytes s at x e)
           t [] 2 (length s) j (r .row) (omega arith) in
-          let q = row-place (variantAt s) (nextOf s) variant-ends encodeVariant (λ seen at x e. variant-spans s seen at x e .ends)
+          let q = row-place (variantAt s) (nextOf s) variant-ends encodeVariant (variant-bytes s)
           (segment t j) [] (segmentPlace s j + 1) _ v (segment-there .row) (omega arith) in
           omega (arith, p, q)
 
@@ -113,8 +113,8 @@ module _ (s : List ℕ) where
       letters-inside = omega (arith, letters-there, variant-there .long, variant-there .inside)
 
       -- the part of the stretch where a variant's letters stand
-      pub part-there : part s (startOf t j v) (length (variant t j v)) ≡ variant t j v
-      part-there = rw (← letters-there, variant-there .long) (sym (variant-there .letters ∙ value-part s (variantPlace s j v)))
+      pub part-there : part s (startOf t j v) (length (variant t j v)) ≡ lettersAt s (variantPlace s j v)
+      part-there = rw (← letters-there, variant-there .long)
 
       -- what is handed out by the place is what is handed out by the text
       pub handed-there : handedAt s (segmentPlace s j) j v ≡ handed t j v

@@ -4,7 +4,7 @@ use mathlib.Core.Path.{_≡_, refl, sym, ap, _∙_}
 use mathlib.Core.Bool.{Bool, true, false, not}
 use mathlib.Core.List.{List}
 use lib.ListN.{length, take, drop}
-use Rattle.text.specs.Letter.{letter, every}
+use Rattle.text.specs.Letter.{letter, meant, every}
 use Rattle.text.specs.Text.{Variant, Segment}
 use Rattle.text.specs.Refusal.{ok, refused, after}
 use Rattle.text.specs.declared.refusal.Refusal.{Refusal}
@@ -48,9 +48,9 @@ module _ {s : List ℕ} {first k at start next : ℕ} (up : UpTo s first k at) (
   letters : Variant
   letters = take (next - start) (drop start s)
 
-  spells : letters ≡ valueOf s at
+  spells : meant letters ≡ valueOf s at
   unfolding letters
-  spells = whole-part s at start next w ∙ sym (value-part s at)
+  spells = ap meant (whole-part s at start next w) ∙ sym (value-part s at)
 
   -- what the verdict on its letters is
   judged-is : (b : Bool) → every letter letters ≡ b

@@ -8,7 +8,7 @@ use mathlib.Core.List.{List, [], _∷_, _++_, append-assoc, append-nil}
 use borrow.Author.Tests.{le-leb}
 use lib.Dec.{ltb}
 use lib.ListN.{length, getD}
-use Rattle.text.specs.Letter.{letter, every}
+use Rattle.text.specs.Letter.{capital, every}
 use Rattle.text.specs.Text.{Variant, Segment, Text}
 use Rattle.text.specs.Refusal.{Outcome, ok}
 use Rattle.text.proofs.Truth.{and-both}
@@ -16,7 +16,7 @@ use Rattle.text.proofs.Outcomes.{ok-inj, demand-met, after-met}
 use Rattle.stretch.specs.Bytes.{greatestStretch}
 use Rattle.stretch.specs.Reading.{Taken, among, many}
 use Rattle.stretch.specs.Encoding.{encode, distinct, all, writableSegment, writable}
-use Rattle.stretch.specs.Writing.{Spot, spot, given, variantGiven, segmentGiven, segmentsGiven, writing}
+use Rattle.stretch.specs.Writing.{Spot, spot, given, variantGiven, segmentGiven, segmentsGiven, writingCapitals}
 use Rattle.stretch.proofs.Rows.{all-append}
 use Rattle.stretch.proofs.Walks.{many-length}
 use Rattle.stretch.proofs.GivenSegment.{variant-met}
@@ -48,7 +48,7 @@ distinct-snoc (s ∷ g) seen v =
 
 -- variants of letters, none twice
 pub record Sound (g : Segment) : Type 0 where
-  pub letters : all (every letter) g ≡ true
+  pub letters : all (every capital) g ≡ true
   pub once : distinct [] g ≡ true
 
 module _ (letters lengths counts : List ℕ) where
@@ -63,7 +63,7 @@ module _ (letters lengths counts : List ℕ) where
           let a = variant-met letters lengths seen (at .variant) (at .letter) x e in
           rw (a .is)
           record {
-            letters = all-snoc (every letter) seen _ ∙ and-both _ _ (s .letters) (a .spelt);
+            letters = all-snoc (every capital) seen _ ∙ and-both _ _ (s .letters) (a .spelt);
             once = distinct-snoc seen [] _ ∙ and-both _ _ (s .once) (a .once);
           }
 
@@ -92,7 +92,7 @@ module _ (letters lengths counts : List ℕ) where
 
     -- the theorem
     pub writing-writable :
-        (room : ℕ) (t : Text) → writing letters lengths counts room ≡ ok t → (t ≡ given letters lengths counts) × (writable t ≡ true)
+        (room : ℕ) (t : Text) → writingCapitals letters lengths counts room ≡ ok t → (t ≡ given letters lengths counts) × (writable t ≡ true)
     unfolding writable
     writing-writable room t e =
         let m : Met letters lengths counts t = writing-met letters lengths counts room t e in

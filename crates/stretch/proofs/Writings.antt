@@ -13,7 +13,7 @@ use Rattle.text.proofs.Outcomes.{ok-inj, demand-met, after-met}
 use Rattle.stretch.specs.Bytes.{greatestStretch, over}
 use Rattle.stretch.specs.Encoding.{encode}
 use Rattle.stretch.specs.Cuts.{sum}
-use Rattle.stretch.specs.Writing.{Spot, given, Matching, needed, segmentsGiven, writing}
+use Rattle.stretch.specs.Writing.{Spot, given, Matching, needed, segmentsGiven, writingCapitals}
 use Rattle.stretch.specs.Answers.{reached, written, leftBy}
 use Rattle.stretch.proofs.GivenSegment.{reached-refused, reached-ok}
 use Rattle.stretch.proofs.GivenText.{text-is}
@@ -40,12 +40,12 @@ module _ (letters lengths counts : List ℕ) where
   pub sums-match : counted ≡ true → spelt ≡ true → Matching letters lengths counts
   sums-match e f = record { listed = eqb-true (sum counts) (length lengths) e; spelt = eqb-true (sum lengths) (length letters) f }
 
-  pub counts-refused : (room : ℕ) → counted ≡ false → writing letters lengths counts room ≡ refused 14 0
-  unfolding writing
+  pub counts-refused : (room : ℕ) → counted ≡ false → writingCapitals letters lengths counts room ≡ refused 14 0
+  unfolding writingCapitals
   counts-refused room e = rw e
 
-  pub lengths-refused : (room : ℕ) → spelt ≡ false → writing letters lengths counts room ≡ refused 14 0
-  unfolding writing
+  pub lengths-refused : (room : ℕ) → spelt ≡ false → writingCapitals letters lengths counts room ≡ refused 14 0
+  unfolding writingCapitals
   lengths-refused room e = rw (e, and-false counted)
 
 -- the numbers match
@@ -56,8 +56,8 @@ module _ {letters lengths counts : List ℕ} (room : ℕ) (m : Matching letters 
   matches : (counted letters lengths counts && spelt letters lengths counts) ≡ true
   matches = rw (eq-eqb (sum counts) (length lengths) (m .listed)) (eq-eqb (sum lengths) (length letters) (m .spelt))
 
-  pub long-refused : leb size greatestStretch ≡ false → writing letters lengths counts room ≡ refused 4 0
-  unfolding writing
+  pub long-refused : leb size greatestStretch ≡ false → writingCapitals letters lengths counts room ≡ refused 4 0
+  unfolding writingCapitals
   long-refused l = rw (matches, l)
 
 -- and they fit
@@ -66,20 +66,20 @@ module _ {letters lengths counts : List ℕ} (room : ℕ) (f : Fitting letters l
   small = le-leb (needed letters lengths counts) greatestStretch (f .small)
 
   pub given-refused :
-      (n p : ℕ) → reached (segmentsGiven letters lengths counts) ≡ refused n p → writing letters lengths counts room ≡ refused n p
-  unfolding writing
+      (n p : ℕ) → reached (segmentsGiven letters lengths counts) ≡ refused n p → writingCapitals letters lengths counts room ≡ refused n p
+  unfolding writingCapitals
   given-refused n p e = rw (matches room (f .matching), small, reached-refused (segmentsGiven letters lengths counts) n p e)
 
   -- every segment is accepted
   module _ {n : ℕ} (e : reached (segmentsGiven letters lengths counts) ≡ ok n) where
-    pub room-refused : room < needed letters lengths counts → writing letters lengths counts room ≡ refused 15 0
-    unfolding writing
+    pub room-refused : room < needed letters lengths counts → writingCapitals letters lengths counts room ≡ refused 15 0
+    unfolding writingCapitals
     room-refused l =
         let r = reached-ok (segmentsGiven letters lengths counts) n e in
         rw (matches room (f .matching), small, r .accepts, lt-leb (needed letters lengths counts) room l)
 
-    writing-ok : needed letters lengths counts ≤ room → writing letters lengths counts room ≡ ok (given letters lengths counts)
-    unfolding writing
+    writing-ok : needed letters lengths counts ≤ room → writingCapitals letters lengths counts room ≡ ok (given letters lengths counts)
+    unfolding writingCapitals
     writing-ok l =
         let r = reached-ok (segmentsGiven letters lengths counts) n e in
         let is = text-is (f .matching) (r .value) (r .accepts) in
@@ -90,8 +90,8 @@ pub accepted-leaves :
     {letters lengths counts : List ℕ} (f : Fitting letters lengths counts) (d : List ℕ) {out : List ℕ} {n : ℕ} →
     reached (segmentsGiven letters lengths counts) ≡ ok n → needed letters lengths counts ≤ length d →
     out ≡ over d 0 (encode (given letters lengths counts)) →
-    (ok (needed letters lengths counts) ≡ written (writing letters lengths counts (length d)))
-    × (out ≡ leftBy encode (writing letters lengths counts (length d)) d)
+    (ok (needed letters lengths counts) ≡ written (writingCapitals letters lengths counts (length d)))
+    × (out ≡ leftBy encode (writingCapitals letters lengths counts (length d)) d)
 accepted-leaves f d e l w = rw (writing-ok (length d) f e l) (ap ok (needed-is (f .matching)), w)
 
 -- what an accepted write has met
@@ -101,8 +101,8 @@ pub record Met (letters lengths counts : List ℕ) (t : Text) : Type 0 where
   pub all : segmentsGiven letters lengths counts ≡ ok (record { value = t; next = last })
 
 pub writing-met :
-    (letters lengths counts : List ℕ) (room : ℕ) (t : Text) → writing letters lengths counts room ≡ ok t → Met letters lengths counts t
-unfolding writing
+    (letters lengths counts : List ℕ) (room : ℕ) (t : Text) → writingCapitals letters lengths counts room ≡ ok t → Met letters lengths counts t
+unfolding writingCapitals
 writing-met letters lengths counts room t e =
     let a : Bool = counted letters lengths counts in
     let b : Bool = spelt letters lengths counts in

@@ -1,10 +1,10 @@
 -- The bytes of a text.
 use Prim.Native.Nat.{ℕ}
 use mathlib.Core.Bool.{Bool, true, not, _&&_}
-use mathlib.Core.List.{List, [], _∷_, _++_}
+use mathlib.Core.List.{List, [], _∷_, _++_, map}
 use lib.Dec.{leb, ltb}
 use lib.ListN.{length}
-use Rattle.text.specs.Letter.{letter, every}
+use Rattle.text.specs.Letter.{capital, meant, every}
 use Rattle.text.specs.Text.{Variant, Segment, Text}
 use Rattle.stretch.specs.Bytes.{greatestStretch, wordBytes}
 use Rattle.stretch.specs.Reading.{among}
@@ -26,6 +26,10 @@ encodeSegment g = length g ∷ bytesOf encodeVariant g
 unfoldable pub encode : Text → List ℕ
 encode T = wordBytes (length T) ++ bytesOf encodeSegment T
 
+-- a text with its letters raised to upper case
+unfoldable pub raisedText : Text → Text
+raisedText T = map (map meant) T
+
 -- no variant twice
 unfoldable pub distinct : Segment → Segment → Bool
 distinct seen [] = true
@@ -36,9 +40,9 @@ unfoldable pub all : {A : Type 0} → (A → Bool) → List A → Bool
 all f [] = true
 all f (a ∷ l) = f a && all f l
 
--- a segment that can be written: 1 to 255 variants of letters, none twice
+-- a segment that can be written: 1 to 255 variants of letters in upper case, none twice
 unfoldable pub writableSegment : Segment → Bool
-writableSegment g = ltb 0 (length g) && leb (length g) 255 && all (every letter) g && distinct [] g
+writableSegment g = ltb 0 (length g) && leb (length g) 255 && all (every capital) g && distinct [] g
 
 -- a text that can be written: such segments, in at most 32,768 bytes
 unfoldable pub writable : Text → Bool

@@ -7,5 +7,6 @@ pub mod Cuts
 pub mod Writing
 pub mod Places
 pub mod Skips
+pub mod Standing
 pub mod Answers
 pub mod Onward

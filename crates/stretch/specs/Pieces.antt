@@ -6,7 +6,7 @@ use lib.Dec.{leb, ltb, eqb}
 use lib.ListN.{length, getD}
 use Rattle.text.specs.Letter.{letter, firstNot}
 use Rattle.text.specs.Text.{Variant}
-use Rattle.text.specs.Compare.{same}
+use Rattle.text.specs.Compare.{alike}
 use Rattle.text.specs.Refusal.{Outcome, ok, refused, demand, after}
 use Rattle.stretch.specs.Bytes.{greatestStretch, word, part}
 use Rattle.stretch.specs.declared.pieces.Opened.{Opened}
@@ -53,10 +53,10 @@ headAt s at = demand (leb (nextOf s at) (length s)) 5 at (ok (record { start = a
 abbrev pub wrongPlace : List ℕ → ℕ → ℕ
 wrongPlace s at = at + 2 + firstNot letter (lettersAt s at)
 
--- v is equal to one of the variants that stand one after another from `place` on and begin before `at`; n bounds their number
+-- v spells what one of the variants spells that stand one after another from `place` on and begin before `at`; n bounds their number
 unfoldable pub repeatedBefore : List ℕ → Variant → ℕ → ℕ → ℕ → Bool
 repeatedBefore s v at zero place = false
-repeatedBefore s v at (suc n) place = ltb place at && (same v (lettersAt s place) || repeatedBefore s v at n (nextOf s place))
+repeatedBefore s v at (suc n) place = ltb place at && (alike v (lettersAt s place) || repeatedBefore s v at n (nextOf s place))
 
 -- the same of a v that has room at `at`; none is looked at where it has not. A variant takes two bytes, so there are at most `at`
 unfoldable pub repeats : List ℕ → Variant → ℕ → ℕ → Bool

@@ -2,16 +2,16 @@
 use Prim.Native.Nat.{ℕ, zero, suc, _+_}
 use mathlib.Core.Bool.{Bool, not}
 use mathlib.Core.List.{List, [], _∷_, _++_}
-use Rattle.text.specs.Letter.{letter, every}
+use Rattle.text.specs.Letter.{letter, meant, every}
 use Rattle.text.specs.Text.{Variant, Segment, Text}
 use Rattle.text.specs.Compare.{same}
 use Rattle.text.specs.Bits.{anyOf}
 use Rattle.text.specs.Refusal.{Outcome, ok, demand, after}
 use Rattle.stretch.specs.Pieces.{fits, openAt, variantsAt, lettersAt, nextOf, headAt, wrongPlace, closedAt}
 
--- what the variant whose length stands at `at` spells
+-- what the variant whose length stands at `at` spells: its letters, in upper case
 unfoldable pub valueOf : List ℕ → ℕ → Variant
-valueOf s at = lettersAt s at
+valueOf s at = meant (lettersAt s at)
 
 -- what it may refuse by itself, before o: 5 where it is cut off, 7
 unfoldable pub formed : {A : Type 0} → List ℕ → ℕ → Outcome A → Outcome A

@@ -5,7 +5,7 @@ use mathlib.Core.Bool.{not, _&&_}
 use mathlib.Core.List.{List, [], map, flatten}
 use lib.Dec.{leb, ltb, eqb}
 use lib.ListN.{length, getD}
-use Rattle.text.specs.Letter.{letter, every, firstNot}
+use Rattle.text.specs.Letter.{capital, meant, every, firstNot}
 use Rattle.text.specs.Text.{Variant, Segment, Text}
 use Rattle.text.specs.Refusal.{Outcome, ok, demand, after}
 use Rattle.stretch.specs.Bytes.{greatestStretch, part}
@@ -29,12 +29,12 @@ pub record Spot : Type 0 where
 abbrev pub spot : ℕ → ℕ → Spot
 spot v at = record { variant = v; letter = at }
 
--- one variant of a write, behind those seen of its segment: 7 at its letter's number, 8 at its own
+-- one variant of a write, its letters raised, behind those seen of its segment: 7 at its letter's number, 8 at its own
 unfoldable pub variantGiven : List ℕ → List ℕ → Segment → Spot → Outcome (Taken Variant Spot)
 variantGiven letters lengths seen at =
     let n : ℕ = getD lengths (at .variant) 0 in
     let v : Variant = part letters (at .letter) n in
-    demand (every letter v) 7 (at .letter + firstNot letter v)
+    demand (every capital v) 7 (at .letter + firstNot capital v)
     (demand (not (among v seen)) 8 (at .variant)
     (ok (record { value = v; next = spot (at .variant + 1) (at .letter + n) })))
 
@@ -53,14 +53,18 @@ segmentsGiven letters lengths counts =
 unfoldable pub needed : List ℕ → List ℕ → List ℕ → ℕ
 needed letters lengths counts = 2 + length counts + 2 * length lengths + length letters
 
--- a write into a buffer of `room` bytes: the text to write
-unfoldable pub writing : List ℕ → List ℕ → List ℕ → ℕ → Outcome Text
-writing letters lengths counts room =
+-- a write of letters in upper case into a buffer of `room` bytes: the text to write
+unfoldable pub writingCapitals : List ℕ → List ℕ → List ℕ → ℕ → Outcome Text
+writingCapitals letters lengths counts room =
     demand (eqb (sum counts) (length lengths) && eqb (sum lengths) (length letters)) 14 0
     (demand (leb (needed letters lengths counts) greatestStretch) 4 0
     (after (segmentsGiven letters lengths counts) λ x.
     (demand (leb (needed letters lengths counts) room) 15 0
     (ok (x .value)))))
+
+-- a write: its letters are raised to upper case
+abbrev pub writing : List ℕ → List ℕ → List ℕ → ℕ → Outcome Text
+writing letters lengths counts room = writingCapitals (meant letters) lengths counts room
 
 -- a text taken apart: the letters of all its variants in a row
 unfoldable pub lettersOf : Text → List ℕ

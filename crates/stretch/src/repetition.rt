@@ -1,22 +1,22 @@
-// The test for repetition: whether a variant is equal to an earlier one of its segment.
+// The test for repetition: whether a variant spells what an earlier one of its segment spells, whatever the case of the letters.
 use crate::number::pair;
-use text::compare::same;
+use text::compare::alike;
 ghost use mathlib.Core.Path.{_≡_};
 ghost use Prim.Native.Nat.{_+_, _<_};
 ghost use lib.ListN.{length, take, drop};
-ghost use Rattle.text.specs.Compare.{same};
+ghost use Rattle.text.specs.Compare.{alike};
 ghost use Rattle.stretch.specs.Pieces.{repeats};
 
-// Whether the so many letters from `start` on are the variant's. Only if they are as many, they are compared.
+// Whether the so many letters from `start` on spell the variant. Only if they are as many, they are compared.
 fn stands(stretch: &[u8], start: usize, letters: usize, variant: &[u8]) -> bool
     requires { ⌜ start + length (now variant) < length (now stretch) ⌝ }
-    ensures { λ r. ⌜ r ≡ same (now (variant .entry)) (take letters (drop start (now (stretch .entry)))) ⌝ }
+    ensures { λ r. ⌜ r ≡ alike (now (variant .entry)) (take letters (drop start (now (stretch .entry)))) ⌝ }
 {
     if letters != variant.len() {
         return false;
     }
     let next = start + letters;
-    same(variant, &stretch[start..next])
+    alike(variant, &stretch[start..next])
 }
 
 // Whether a variant that has room at `at` is equal to one that stands before it, of those from `first` on. Whatever stands before it

@@ -7,13 +7,8 @@ use mathlib.Core.Bool.{Bool, true, false, _&&_, cond}
 use mathlib.Core.List.{List, [], _∷_, _++_}
 use lib.ListN.{length, getD, drop, drop-of-length-le}
 use lib.Seq.{drop-cons}
-use Rattle.text.specs.Letter.{base, letter, every, firstNot}
+use Rattle.text.specs.Letter.{every, firstNot}
 use Rattle.text.proofs.Truth.{and-left, and-right, and-true, and-assoc, not-true-false}
-
--- a pattern's bases and a variant's letters are the same four
-pub first-base : (s : List ℕ) → firstNot base s ≡ firstNot letter s
-unfolding letter
-first-base s = refl
 
 module _ (f : ℕ → Bool) where
   -- the first that fails stands in the list, or there is none

@@ -6,10 +6,12 @@ pub mod Tests
 pub mod Each
 pub mod Outcomes
 pub mod Letters
+pub mod Meanings
 pub mod Patterns
 pub mod Sizes
 pub mod Bits
 pub mod Strings
+pub mod Likes
 pub mod Snoc
 pub mod Steps
 pub mod Scan

@@ -6,10 +6,10 @@ use mathlib.Core.Bool.{true}
 use mathlib.Core.List.{List}
 use borrow.Author.Tests.{ltb-true, leb-true, lt-ltb, le-leb, lt-leb}
 use lib.ListN.{length}
-use Rattle.text.specs.Letter.{base, letter, every, firstNot}
+use Rattle.text.specs.Letter.{base, every, firstNot}
 use Rattle.text.specs.Refusal.{Outcome, ok, refused, after, pattern}
 use Rattle.text.proofs.Outcomes.{demand-met, after-demand}
-use Rattle.text.proofs.Letters.{first-base, first-le, first-every, first-not-every}
+use Rattle.text.proofs.Letters.{first-le, first-every, first-not-every}
 
 -- 1 to 64 bases
 pub record SoundPattern (P : List ℕ) : Type 0 where
@@ -52,16 +52,15 @@ module _ (P : List ℕ) where
       rw (lt-ltb 0 (length P) k, lt-leb (length P) 64 l)
 
   pub pattern-byte :
-      {A : Type 0} (o : Outcome A) (k : ℕ) → k ≡ firstNot letter P → length P ≤ 64 → k < length P → pattern P o ≡ refused 3 k
+      {A : Type 0} (o : Outcome A) (k : ℕ) → k ≡ firstNot base P → length P ≤ 64 → k < length P → pattern P o ≡ refused 3 k
   unfolding pattern
   pattern-byte o k e short l =
-      let b : k ≡ firstNot base P = e ∙ sym (first-base P) in
       let some : 0 < length P = omega arith in
       let w : firstNot base P < length P = omega arith in
-      rw (lt-ltb 0 (length P) some, le-leb (length P) 64 short, first-not-every base P w, b)
+      rw (lt-ltb 0 (length P) some, le-leb (length P) 64 short, first-not-every base P w, e)
 
-  pub letters-sound :
-      (k : ℕ) → k ≡ firstNot letter P → (length P ≡ 0 → ⊥) → length P ≤ 64 → length P ≤ k → SoundPattern P
-  letters-sound k e some short l =
-      let b : firstNot base P ≡ length P = omega (arith, first-base P, first-le base P) in
+  pub bases-sound :
+      (k : ℕ) → k ≡ firstNot base P → (length P ≡ 0 → ⊥) → length P ≤ 64 → length P ≤ k → SoundPattern P
+  bases-sound k e some short l =
+      let b : firstNot base P ≡ length P = omega (arith, first-le base P) in
       record { some = omega arith; short = short; bases = first-every base P b }

@@ -1,16 +1,21 @@
--- Tests on strings of letters, by recursion, so that examples compute.
+-- Tests on strings, by recursion, so that examples compute.
 use Prim.Native.Nat.{ℕ, _-_}
 use mathlib.Core.Bool.{Bool, true, false, _||_, _&&_}
 use mathlib.Core.List.{List, [], _∷_}
 use lib.Dec.{eqb}
 use lib.ListN.{length, take, drop}
+use Rattle.text.specs.Letter.{meant}
 
--- the same letters
+-- the same bytes
 unfoldable pub same : List ℕ → List ℕ → Bool
 same [] [] = true
 same [] (d ∷ t) = false
 same (c ∷ s) [] = false
 same (c ∷ s) (d ∷ t) = eqb c d && same s t
+
+-- the same letters by what they mean
+unfoldable pub alike : List ℕ → List ℕ → Bool
+alike s t = same (meant s) (meant t)
 
 -- s begins with p
 unfoldable pub prefix : List ℕ → List ℕ → Bool

@@ -1,8 +1,13 @@
-// Tests on strings of letters: the same letters, a beginning, an end. Parts are passed as they stand, without copying.
+// Tests on strings: the same bytes, a beginning, an end; and the same letters by what they mean. Parts are passed as they stand, without
+// copying.
+use crate::letter::is_letter;
 ghost use mathlib.Core.Path.{_≡_};
-ghost use Rattle.text.specs.Compare.{same, prefix, suffix};
+ghost use mathlib.Core.Bool.{not};
+ghost use lib.Dec.{eqb};
+ghost use Rattle.text.specs.Letter.{raised};
+ghost use Rattle.text.specs.Compare.{same, prefix, suffix, alike};
 
-// Whether a and b have the same letters: the lengths first, then letter by letter.
+// Whether a and b are the same bytes: the lengths first, then byte by byte.
 pub fn same(a: &[u8], b: &[u8]) -> bool
     ensures { λ r. ⌜ r ≡ same (now (a .entry)) (now (b .entry)) ⌝ }
 {
@@ -39,4 +44,35 @@ pub fn suffix(p: &[u8], s: &[u8]) -> bool
     }
     let start = s.len() - p.len();
     same(p, &s[start..])
+}
+
+// Whether two bytes mean something else. Equal bytes need no second look, nor do bytes that differ by more than the bit of a letter's
+// case.
+fn differ(a: u8, b: u8) -> bool
+    ensures { λ r. ⌜ r ≡ not (eqb (raised a) (raised b)) ⌝ }
+{
+    if a == b {
+        return false;
+    }
+    if a | 32 != b | 32 {
+        return true;
+    }
+    !is_letter(a)
+}
+
+// Whether a and b mean the same letters, whatever their case: the lengths first, then letter by letter.
+pub fn alike(a: &[u8], b: &[u8]) -> bool
+    ensures { λ r. ⌜ r ≡ alike (now (a .entry)) (now (b .entry)) ⌝ }
+{
+    if a.len() != b.len() {
+        return false;
+    }
+    let mut k = 0;
+    while k < a.len() {
+        if differ(a[k], b[k]) {
+            return false;
+        }
+        k += 1;
+    }
+    true
 }

@@ -1,7 +1,8 @@
 // Patterns: 1 to 64 bases.
 ghost use mathlib.Core.Path.{_≡_};
+ghost use Rattle.text.specs.Letter.{base, firstNot};
 ghost use Rattle.text.specs.Refusal.{ok, pattern, toldPattern};
-use crate::letter::first_wrong;
+use crate::letter::is_base;
 use crate::refusal;
 use crate::refusal::Refusal;
 
@@ -9,6 +10,20 @@ use crate::refusal::Refusal;
 pub enum PatternIs {
     Sound,
     Refused(Refusal),
+}
+
+// The place of the first byte that is no base; the length where every byte is one.
+fn first_other(bytes: &[u8]) -> usize
+    ensures { λ r. ⌜ r ≡ firstNot base (now (bytes .entry)) ⌝ }
+{
+    let mut i = 0;
+    while i < bytes.len() {
+        if !is_base(bytes[i]) {
+            return i;
+        }
+        i += 1;
+    }
+    i
 }
 
 // Refusals 1, 2 and 3, asked in this order.
@@ -28,7 +43,7 @@ pub fn check(bytes: &[u8]) -> PatternIs
             place: 0,
         });
     }
-    let wrong = first_wrong(bytes);
+    let wrong = first_other(bytes);
     if wrong < m {
         return PatternIs::Refused(Refusal {
             number: refusal::PATTERN_BYTE,

@@ -1,6 +1,9 @@
 // What a fresh start makes of a variant: the prefixes of the pattern that end it, and whether the pattern lies in it.
 use crate::borders::Stepped;
 use crate::borders::table::fallback;
+ghost use mathlib.Core.Path.{_≡_};
+ghost use mathlib.Core.Bool.{true};
+ghost use Rattle.text.specs.Letter.{letter, meant, every};
 ghost use Rattle.search.specs.Border.{Borders, Sized};
 ghost use Rattle.search.specs.BorderStep.{Begins, Scans};
 
@@ -11,18 +14,21 @@ struct Scanned {
     whole: bool,
 }
 
-// Reads a variant letter by letter (Knuth, Morris and Pratt).
+// Reads a variant letter by letter (Knuth, Morris and Pratt). A letter in lower case means the one in upper case, whose byte lacks one
+// bit.
 fn scan(pattern: &[u8], table: &[u64; 256], variant: &[u8]) -> Scanned
     requires { ⌜ Sized (now pattern) ⌝ }
     requires { ⌜ Borders (now pattern) (now table) ⌝ }
-    ensures { λ r. ⌜ Scans (now (pattern .entry)) (now (variant .entry)) (r .longest) (r .whole) ⌝ }
+    requires { ⌜ every letter (now variant) ≡ true ⌝ }
+    ensures { λ r. ⌜ Scans (now (pattern .entry)) (meant (now (variant .entry))) (r .longest) (r .whole) ⌝ }
 {
     let m = pattern.len();
     let mut longest = 0;
     let mut whole = false;
     let mut i = 0;
     while i < variant.len() {
-        longest = fallback(pattern, table, longest, variant[i]);
+        let c = variant[i] & 0xDF;
+        longest = fallback(pattern, table, longest, c);
         if longest == m {
             whole = true;
             longest = table[m] as usize;
@@ -36,7 +42,8 @@ fn scan(pattern: &[u8], table: &[u64; 256], variant: &[u8]) -> Scanned
 pub fn begun(pattern: &[u8], table: &[u64; 256], variant: &[u8]) -> Stepped
     requires { ⌜ Sized (now pattern) ⌝ }
     requires { ⌜ Borders (now pattern) (now table) ⌝ }
-    ensures { λ r. ⌜ Begins (now (pattern .entry)) (now (variant .entry)) (r .bits) (r .ends) ⌝ }
+    requires { ⌜ every letter (now variant) ≡ true ⌝ }
+    ensures { λ r. ⌜ Begins (now (pattern .entry)) (meant (now (variant .entry))) (r .bits) (r .ends) ⌝ }
 {
     let scanned = scan(pattern, table, variant);
     let mut k = scanned.longest;

@@ -1,9 +1,9 @@
 // What a variant makes of carried lengths: where it leads them, and whether it has the bases that remain.
 use crate::borders::Stepped;
-use text::compare::prefix;
-use text::compare::same;
+use text::compare::alike;
 ghost use Prim.Native.Nat.{_<_, _^_};
 ghost use lib.ListN.{length};
+ghost use Rattle.text.specs.Letter.{meant};
 ghost use Rattle.search.specs.Border.{Sized};
 ghost use Rattle.search.specs.BorderStep.{CarriesOne, CarriesAll};
 
@@ -11,18 +11,19 @@ ghost use Rattle.search.specs.BorderStep.{CarriesOne, CarriesAll};
 fn carried_one(pattern: &[u8], q: usize, variant: &[u8]) -> Stepped
     requires { ⌜ Sized (now pattern) ⌝ }
     requires { ⌜ q < length (now pattern) ⌝ }
-    ensures { λ r. ⌜ CarriesOne (now (pattern .entry)) q (now (variant .entry)) (r .bits) (r .ends) ⌝ }
+    ensures { λ r. ⌜ CarriesOne (now (pattern .entry)) q (meant (now (variant .entry))) (r .bits) (r .ends) ⌝ }
 {
     let m = pattern.len();
     let n = variant.len();
-    if m - q <= n {
+    let rest = m - q;
+    if rest <= n {
         return Stepped {
             bits: 0,
-            ends: prefix(&pattern[q..], variant),
+            ends: alike(&pattern[q..], &variant[..rest]),
         };
     }
     let end = q + n;
-    if same(variant, &pattern[q..end]) {
+    if alike(variant, &pattern[q..end]) {
         let bits = 1 << end;
         Stepped { bits, ends: false }
     } else {
@@ -37,7 +38,8 @@ fn carried_one(pattern: &[u8], q: usize, variant: &[u8]) -> Stepped
 pub fn carried(pattern: &[u8], state: u64, variant: &[u8]) -> Stepped
     requires { ⌜ Sized (now pattern) ⌝ }
     requires { ⌜ state < 2 ^ length (now pattern) ⌝ }
-    ensures { λ r. ⌜ CarriesAll (now (pattern .entry)) state (length (now (pattern .entry))) (now (variant .entry)) (r .bits) (r .ends) ⌝ }
+    ensures { λ r. ⌜ CarriesAll (now (pattern .entry)) state (length (now (pattern .entry))) (meant (now (variant .entry)))
+        (r .bits) (r .ends) ⌝ }
 {
     let mut bits = 0;
     let mut ends = false;

@@ -1,10 +1,9 @@
 // The step of one variant by bit-vectors on both strands: a word for each, in one letter loop. The letter vectors of both stand in one
 // table, side by side, so that a machine with words of 128 bits takes both at once.
-ghost use Prim.Native.Nat.{_≤_};
+use crate::vectors::masks;
 ghost use mathlib.Core.Path.{_≡_};
 ghost use lib.Bits.{bitOr};
-ghost use lib.ListN.{length};
-ghost use Rattle.search.specs.Masks.{Masks};
+ghost use Rattle.search.specs.Masks.{bases, Masks};
 ghost use Rattle.search.specs.Words.{ScannedBy};
 ghost use Rattle.search.specs.Either.{evens, odds};
 
@@ -42,18 +41,18 @@ pub struct ScannedBoth {
 
 // The letter vectors of both strands: those of the strand as given in the even entries, those of the opposite one in the odd entries.
 pub fn masks_both(given: &[u8], opposite: &[u8]) -> [u64; 512]
-    requires { ⌜ (length (now given) ≤ 64) × (length (now opposite) ≡ length (now given)) ⌝ }
-    ensures { λ r. ⌜ Masks (now (given .entry)) (evens r) ⌝ }
-    ensures { λ r. ⌜ Masks (now (opposite .entry)) (odds r) ⌝ }
+    ensures { λ r. ⌜ Masks (bases (now (given .entry))) (evens r) ⌝ }
+    ensures { λ r. ⌜ Masks (bases (now (opposite .entry))) (odds r) ⌝ }
 {
+    let evens = masks(given);
+    let odds = masks(opposite);
     let mut table = [0u64; 512];
-    let mut k = 0;
-    while k < given.len() {
-        let even = 2 * (given[k] as usize);
-        table[even] = table[even] | (1 << k);
-        let odd = 2 * (opposite[k] as usize) + 1;
-        table[odd] = table[odd] | (1 << k);
-        k += 1;
+    let mut c = 0;
+    while c < 256 {
+        let even = 2 * c;
+        table[even] = evens[c];
+        table[even + 1] = odds[c];
+        c += 1;
     }
     table
 }

@@ -2,24 +2,26 @@
 use crate::number::put_word;
 use crate::number::wide;
 use crate::writer::sums::stated;
+use text::letter::raise;
 ghost use mathlib.Core.Path.{_≡_};
 ghost use Prim.Native.Nat.{_+_, _≤_};
+ghost use Rattle.text.specs.Letter.{meant};
 ghost use lib.ListN.{length};
 ghost use Rattle.stretch.specs.Bytes.{over};
 ghost use Rattle.stretch.specs.Encoding.{encodeVariant, encodeSegment, encode};
 ghost use Rattle.stretch.specs.Cuts.{Within, sumFrom, pieces};
 ghost use Rattle.stretch.specs.Writing.{Matching, given, needed};
 
-// A variant: its length, then its letters.
+// A variant: its length, then its letters, raised to upper case.
 fn put_variant(variant: &[u8], out: &mut [u8], at: usize)
     requires { ⌜ at + 2 + length (now variant) ≤ length (now out) ⌝ }
-    ensures { λ r. ⌜ now (out .exit) ≡ over (now (out .entry)) at (encodeVariant (now (variant .entry))) ⌝ }
+    ensures { λ r. ⌜ now (out .exit) ≡ over (now (out .entry)) at (encodeVariant (meant (now (variant .entry)))) ⌝ }
 {
     put_word(variant.len(), &mut *out, at);
     let start = at + 2;
     let mut i = 0;
     while i < variant.len() {
-        out[start + i] = variant[i];
+        out[start + i] = raise(variant[i]);
         i += 1;
     }
 }
@@ -35,12 +37,12 @@ fn put_segment(
     out: &mut [u8],
     at: usize,
 ) -> usize
-    requires { ⌜ Within (length (now letters)) (now lengths) first from count ⌝ }
-    requires { ⌜ at + length (encodeSegment (pieces (now letters) (now lengths) first from count))
+    requires { ⌜ Within (length (meant (now letters))) (now lengths) first from count ⌝ }
+    requires { ⌜ at + length (encodeSegment (pieces (meant (now letters)) (now lengths) first from count))
         ≤ length (now out) ⌝ }
     ensures { λ r. ⌜ r ≡ from + sumFrom (now (lengths .entry)) first count ⌝ }
     ensures { λ r. ⌜ now (out .exit) ≡ over (now (out .entry)) at
-        (encodeSegment (pieces (now (letters .entry)) (now (lengths .entry)) first from count)) ⌝ }
+        (encodeSegment (pieces (meant (now (letters .entry))) (now (lengths .entry)) first from count)) ⌝ }
 {
     out[at] = count;
     let variants = wide(count);
@@ -61,10 +63,10 @@ fn put_segment(
 // The whole text: its segment count, then its segments. Before a segment stand its number of variant counts, and the lengths and
 // letters of the variants before it.
 pub fn put_text(letters: &[u8], lengths: &[u16], counts: &[u8], out: &mut [u8])
-    requires { ⌜ Matching (now letters) (now lengths) (now counts) ⌝ }
-    requires { ⌜ needed (now letters) (now lengths) (now counts) ≤ length (now out) ⌝ }
+    requires { ⌜ Matching (meant (now letters)) (now lengths) (now counts) ⌝ }
+    requires { ⌜ needed (meant (now letters)) (now lengths) (now counts) ≤ length (now out) ⌝ }
     ensures { λ r. ⌜ now (out .exit) ≡ over (now (out .entry)) 0
-        (encode (given (now (letters .entry)) (now (lengths .entry)) (now (counts .entry)))) ⌝ }
+        (encode (given (meant (now (letters .entry))) (now (lengths .entry)) (now (counts .entry)))) ⌝ }
 {
     put_word(counts.len(), &mut *out, 0);
     let mut variant = 0;

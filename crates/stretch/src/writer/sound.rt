@@ -3,11 +3,12 @@
 use crate::number::wide;
 use crate::writer::sums::stated;
 use text::Refusal;
-use text::compare::same;
+use text::compare::alike;
 use text::letter::first_wrong;
 use text::refusal;
 ghost use mathlib.Core.Path.{_≡_};
 ghost use Prim.Native.Nat.{_+_, _<_};
+ghost use Rattle.text.specs.Letter.{meant};
 ghost use lib.ListN.{length, getD};
 ghost use Rattle.stretch.specs.Reading.{among};
 ghost use Rattle.stretch.specs.Cuts.{Within, Behind, pieces};
@@ -20,7 +21,7 @@ pub enum Reached {
     Refused(Refusal),
 }
 
-// Whether a variant is equal to one of the k from variant `first` on, whose letters stand from `from` on.
+// Whether a variant spells what one of the k from variant `first` on spells, whose letters stand from `from` on.
 fn repeated(
     letters: &[u8],
     lengths: &[u16],
@@ -29,15 +30,15 @@ fn repeated(
     k: usize,
     variant: &[u8],
 ) -> bool
-    requires { ⌜ Within (length (now letters)) (now lengths) first from k ⌝ }
-    ensures { λ r. ⌜ r ≡ among (now (variant .entry))
-        (pieces (now (letters .entry)) (now (lengths .entry)) first from k) ⌝ }
+    requires { ⌜ Within (length (meant (now letters))) (now lengths) first from k ⌝ }
+    ensures { λ r. ⌜ r ≡ among (meant (now (variant .entry)))
+        (pieces (meant (now (letters .entry))) (now (lengths .entry)) first from k) ⌝ }
 {
     let mut start = from;
     let mut i = 0;
     while i < k {
         let end = start + stated(lengths[first + i]);
-        if same(variant, &letters[start..end]) {
+        if alike(variant, &letters[start..end]) {
             return true;
         }
         start = end;
@@ -56,9 +57,9 @@ fn variant_given(
     k: usize,
     at: usize,
 ) -> Reached
-    requires { ⌜ Behind (length (now letters)) (now lengths) first from k at ⌝ }
-    ensures { λ r. ⌜ toldReached r ≡ reached (variantGiven (now (letters .entry)) (now (lengths .entry))
-        (pieces (now (letters .entry)) (now (lengths .entry)) first from k)
+    requires { ⌜ Behind (length (meant (now letters))) (now lengths) first from k at ⌝ }
+    ensures { λ r. ⌜ toldReached r ≡ reached (variantGiven (meant (now (letters .entry))) (now (lengths .entry))
+        (pieces (meant (now (letters .entry))) (now (lengths .entry)) first from k)
         (spot (first + k) at)) ⌝ }
 {
     let number = first + k;
@@ -91,9 +92,9 @@ fn segment_given(
     from: usize,
 ) -> Reached
     requires { ⌜ segment < length (now counts) ⌝ }
-    requires { ⌜ Within (length (now letters)) (now lengths) first from (getD (now counts) segment 0) ⌝ }
+    requires { ⌜ Within (length (meant (now letters))) (now lengths) first from (getD (now counts) segment 0) ⌝ }
     ensures { λ r. ⌜ toldReached r ≡ reached
-        (segmentGiven (now (letters .entry)) (now (lengths .entry)) (now (counts .entry)) segment (spot first from)) ⌝ }
+        (segmentGiven (meant (now (letters .entry))) (now (lengths .entry)) (now (counts .entry)) segment (spot first from)) ⌝ }
 {
     let count = wide(counts[segment]);
     if count == 0 {
@@ -120,9 +121,9 @@ fn segment_given(
 
 // All segments, where the counts sum to the number of lengths and the lengths to the number of letters.
 pub fn segments_given(letters: &[u8], lengths: &[u16], counts: &[u8]) -> Reached
-    requires { ⌜ Matching (now letters) (now lengths) (now counts) ⌝ }
+    requires { ⌜ Matching (meant (now letters)) (now lengths) (now counts) ⌝ }
     ensures { λ r. ⌜ toldReached r ≡ reached
-        (segmentsGiven (now (letters .entry)) (now (lengths .entry)) (now (counts .entry))) ⌝ }
+        (segmentsGiven (meant (now (letters .entry))) (now (lengths .entry)) (now (counts .entry))) ⌝ }
 {
     let mut variant = 0;
     let mut at = 0;

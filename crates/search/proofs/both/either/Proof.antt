@@ -1,12 +1,12 @@
 -- `search::either` meets its contract: the pattern is asked first, then `mark_both` with the letter vectors of the pattern as given and as the
 -- opposite strand reads it.
 use borrow.Author.Needs.{needs}
-use mathlib.Core.Path.{sym, ap, subst, _∙_}
+use mathlib.Core.Path.{sym, ap, _∙_}
 use Rattle.text.specs.Refusal.{toldPattern}
 use Rattle.text.specs.declared.strand.Strand.the-variants.{Opposite}
 use Rattle.text.proofs.Patterns.{SoundPattern, pattern-sound}
 use Rattle.text.proofs.Strands.{strand-sound}
-use Rattle.search.specs.Masks.{Masks}
+use Rattle.search.proofs.BitScans.{masks-short}
 use Rattle.search.proofs.ReadOns.{read-is, read-length, read-room}
 use Rattle.search.proofs.Markings.{pattern-not, pattern-asked}
 use Rattle.search.proofs.Told.{searched-both}
@@ -23,20 +23,19 @@ array-share-prefix-bytes c = read-room Opposite _ _ (c .read-on .ensures) (sound
 slice-aggregate-masks-both : tie.Need-slice-aggregate-masks-both
 slice-aggregate-masks-both c = read-length Opposite _ _ (c .before .read-on .ensures) (sound (c .before .before))
 
-masks-both-requires : tie.Need-masks-both-requires
-masks-both-requires c κs =
-    let r = c .before in
-    let y = sound (r .before) in
-    (y .short, sym (read-length Opposite _ _ (r .read-on .ensures) y))
-
 mark-both-requires : tie.Need-mark-both-requires
 mark-both-requires c κs =
     let d = c .before .before in
     let r = d .before .before in
     let y = sound (r .before) in
     let z = strand-sound Opposite _ y in (
-      record { some = y .some; short = y .short; holds = d .masks-both .ensures .0 },
-      record { some = z .some; short = z .short; holds = rw (read-is Opposite _ _ (r .read-on .ensures) y) at (d .masks-both .ensures .1) },
+      record { some = y .some; short = y .short; bases = y .bases; holds = masks-short _ _ (y .short) (d .masks-both .ensures .0) },
+      record {
+        some = z .some;
+        short = z .short;
+        bases = z .bases;
+        holds = masks-short _ _ (z .short) (rw (read-is Opposite _ _ (r .read-on .ensures) y) at (d .masks-both .ensures .1));
+      },
     )
 
 returns : tie.Need-returns
@@ -62,7 +61,7 @@ either-spec =
     (λ c κs. search needs)
     array-share-prefix-bytes
     slice-aggregate-masks-both
-    masks-both-requires
+    (λ c κs. search needs)
     mark-both-requires
     returns
     (λ c. search needs)

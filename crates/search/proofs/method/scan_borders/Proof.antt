@@ -1,11 +1,14 @@
 -- `search::method::scan_borders` meets its contract: a step by borders, told as words.
 use borrow.Author.Needs.{needs}
-use Rattle.search.proofs.Words.{words-hit, words-miss, letters-bad, letters-good}
+use Rattle.search.proofs.Words.{words-hit, words-miss, letters-bad, letters-all, letters-good}
 use Rattle.search.proofs.method.scan_borders.Statement.{statement}
 use Rattle.search.proofs.method.scan_borders.Tie as tie
 
 returns : tie.Need-returns
 returns c = letters-bad _ _ _ _ (c .before .first-wrong .ensures) (c .if1 .taken)
+
+step-borders-requires : tie.Need-step-borders-requires
+step-borders-requires c κs = (c .before .before .before .before .pre, letters-all _ _ (c .before .first-wrong .ensures) (c .if1 .left))
 
 returns-2 : tie.Need-returns-2
 returns-2 c =
@@ -26,7 +29,7 @@ scan-borders-spec =
     (tie.spec
     (λ c κs. search needs)
     returns
-    (λ c κs. search needs)
+    step-borders-requires
     (λ c. search needs)
     (λ c. search needs)
     returns-2

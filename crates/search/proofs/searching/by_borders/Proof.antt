@@ -31,7 +31,7 @@ mark-requires c κs =
     let r = d .before .before in
     let y = sound (r .before) in
     let z = read-sized _ _ _ (r .read-on .ensures) y in (
-      record { some = z .some; short = z .short; holds = d .border-table .ensures },
+      record { some = z .some; short = z .short; bases = z .bases; holds = d .border-table .ensures },
       read-state _ (c .before .before .before .before .before .before .before .before .before .before .before .args .pattern .now) _ (r .read-on .ensures) y _ (fresh-state (c .before .before .before .before .before .before .before .before .before .before .before .args .pattern .now) (y .some)),
     )
 

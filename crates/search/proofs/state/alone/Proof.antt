@@ -11,7 +11,12 @@ run-requires c κs =
     let p = m .before .before .before .pre in (
       (
         record {
-          founded = record { some = p .0 .some; short = p .0 .short; holds = masks-short _ _ (p .0 .short) (m .masks .ensures) };
+          founded = record {
+            some = p .0 .some;
+            short = p .0 .short;
+            bases = p .0 .bases;
+            holds = masks-short _ _ (p .0 .short) (m .masks .ensures);
+          };
           letters = c .before .before .before .classes .ensures;
         },
         p .1,

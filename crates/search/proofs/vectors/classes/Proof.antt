@@ -7,20 +7,24 @@ use mathlib.Core.Bool.{Bool, true, false, not, cond, true≢false}
 use mathlib.Core.List.{List}
 use lib.Dec.{eqb}
 use lib.ListN.{getD, set, replicate}
-use Rattle.text.specs.Letter.{base, letter}
+use Rattle.text.specs.Letter.{base, raised, capital, letter}
 use Rattle.text.specs.Bits.{anyBelow}
 use Rattle.text.proofs.Truth.{some-anyBelow}
 use Rattle.search.proofs.vectors.classes.Statement.{statement}
 use Rattle.search.proofs.vectors.classes.Tie as tie
 
+-- with 0 for five letters more
+abbrev cleared : List ℕ → ℕ → ℕ → ℕ → ℕ → ℕ → List ℕ
+cleared l a c g t n = set (set (set (set (set l a 0) c 0) g 0) t 0) n 0
+
 table : List ℕ
-table = set (set (set (set (replicate 256 1) 0x41 0) 0x43 0) 0x47 0) 0x54 0
+table = cleared (cleared (replicate 256 1) 0x41 0x43 0x47 0x54 0x4E) 0x61 0x63 0x67 0x74 0x6E
 
 right : ℕ → Bool
 right c = eqb (getD table c 0) (cond (letter c) 0 1)
 
 none-wrong : anyBelow (λ c. not (right c)) 256 ≡ false
-unfolding anyBelow right table letter base
+unfolding anyBelow right table letter capital raised base
 none-wrong = refl
 
 each : (c : ℕ) → c < 256 → getD table c 0 ≡ cond (letter c) 0 1
@@ -39,6 +43,12 @@ pub classes-spec : {M : Type 1} → statement M
 classes-spec =
     tie.close
     (tie.spec
+    (λ c. search needs)
+    (λ c. search needs)
+    (λ c. search needs)
+    (λ c. search needs)
+    (λ c. search needs)
+    (λ c. search needs)
     (λ c. search needs)
     (λ c. search needs)
     (λ c. search needs)

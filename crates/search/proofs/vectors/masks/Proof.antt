@@ -1,5 +1,5 @@
 -- `search::vectors::masks` meets its contract. The loop's invariant, `Filling`: the first k bases are entered. The measure is the number
--- of bases left.
+-- of bases left. Behind it the five entries of lower case are copied.
 use Prim.Native.Nat.{_-_, _<_}
 use borrow.Author.Needs.{needs}
 use native.Mathlib.Omega.{arith}
@@ -7,6 +7,7 @@ use mathlib.Core.Path.{_≡_, sym, ap, _∙_}
 use mathlib.Core.Logic.{⊎-elim}
 use lib.ListN.{length, getD}
 use Rattle.search.specs.Masks.{bases}
+use Rattle.search.proofs.Copies.{copied-all}
 use Rattle.search.proofs.BitScans.{Filling, filling-none, filling-more, filling-all, bases-long, bases-all, bases-near, bases-inside, bases-at}
 use Rattle.search.proofs.vectors.masks.Statement.{statement}
 use Rattle.search.proofs.vectors.masks.Tie as tie
@@ -64,7 +65,7 @@ loop-again c =
     (d .before .loop .inv .0, filling-more _ _ _ _ (d .before .loop .inv .1) l (bases-near P _ l) (bases-at P _ l) (byte c))
 
 returns : tie.Need-returns Inv-loop μ-loop
-returns c = filling-all _ _ _ (c .before .loop .inv .1) (omega arith)
+returns c = copied-all _ _ (filling-all _ _ _ (c .before .loop .inv .1) (omega arith))
 
 pub masks-spec : {M : Type 1} → statement M
 masks-spec =
@@ -83,4 +84,14 @@ masks-spec =
     add-k
     (λ c. search needs)
     loop-again
+    (λ c. search needs)
+    (λ c. search needs)
+    (λ c. search needs)
+    (λ c. search needs)
+    (λ c. search needs)
+    (λ c. search needs)
+    (λ c. search needs)
+    (λ c. search needs)
+    (λ c. search needs)
+    (λ c. search needs)
     returns)

@@ -4,7 +4,7 @@ use Prim.Native.Nat.{ℕ, _+_, _-_, _≤_}
 use native.Mathlib.Omega.{arith}
 use mathlib.Core.Path.{_≡_, refl, sym, ap, _∙_}
 use lib.ListN.{length, take, drop}
-use Rattle.text.specs.Compare.{same}
+use Rattle.text.specs.Compare.{alike}
 use Rattle.stretch.specs.Pieces.{lettersAt}
 use Rattle.stretch.specs.Pieces.{repeatedBefore}
 use Rattle.stretch.proofs.RepeatsInBytes.{repeats-short, repeats-room, before-none, before-found, before-other}
@@ -40,11 +40,11 @@ room c = omega arith
 -- what was compared
 compared : (c : tie.After-stands Inv-loop μ-loop)
     → let a = c .before .before .before .before .before .before .before .before .before .args in
-    same (a .variant .now) (lettersAt (a .stretch .now) (c .before .before .before .loop .place)) ≡ c .stands .result
+    alike (a .variant .now) (lettersAt (a .stretch .now) (c .before .before .before .loop .place)) ≡ c .stands .result
 compared c =
     let a = c .before .before .before .before .before .before .before .before .before .args in
     let place = c .before .before .before .loop .place in
-    ap (λ (n : ℕ). same (a .variant .now) (take n (drop (place + 2) (a .stretch .now)))) (sym (c .before .pair .ensures .0))
+    ap (λ (n : ℕ). alike (a .variant .now) (take n (drop (place + 2) (a .stretch .now)))) (sym (c .before .pair .ensures .0))
     ∙ sym (c .stands .ensures)
 
 returns-4 : tie.Need-returns-4 Inv-loop μ-loop

@@ -3,7 +3,7 @@ use Prim.Native.Nat.{ℕ, _+_, _-_}
 use native.Mathlib.Omega.{arith}
 use mathlib.Core.Path.{_≡_, sym, ap, _∙_}
 use lib.ListN.{take, drop}
-use Rattle.text.specs.Compare.{same}
+use Rattle.text.specs.Compare.{alike}
 use Rattle.stretch.proofs.RepeatsInBytes.{other-length}
 use borrow.Author.Needs.{needs}
 use Rattle.stretch.proofs.repetition.stands.Statement.{statement}
@@ -16,7 +16,7 @@ returns-2 : tie.Need-returns-2
 returns-2 c =
     let a = c .before .before .before .before .before .args in
     let long : a .start + a .letters - a .start ≡ a .letters = omega arith in
-    c .same .ensures ∙ ap (λ (n : ℕ). same (a .variant .now) (take n (drop (a .start) (a .stretch .now)))) long
+    c .alike .ensures ∙ ap (λ (n : ℕ). alike (a .variant .now) (take n (drop (a .start) (a .stretch .now)))) long
 
 pub stands-spec : {M : Type 1} → statement M
 stands-spec =

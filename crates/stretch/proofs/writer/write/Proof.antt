@@ -1,10 +1,13 @@
 -- `stretch::writer::write` meets its contract. Each answer is a law of `writing`, from the tests that led to it and from what the called
 -- functions ensure; one law gives the answer and the buffer.
 use native.Mathlib.Omega.{arith}
-use mathlib.Core.Path.{refl, sym, ap, _∙_}
+use mathlib.Core.Path.{_≡_, refl, sym, ap, _∙_}
 use borrow.Author.Needs.{needs}
 use borrow.Author.Tests.{not-true, not-false, leb-true}
+use Rattle.text.specs.Letter.{meant}
+use Rattle.text.proofs.Likes.{meant-length}
 use Rattle.stretch.specs.Writing.{Matching, needed}
+use Rattle.stretch.proofs.Raised.{matching-meant, needed-meant}
 use Rattle.stretch.specs.Answers.{toldReached}
 use Rattle.stretch.proofs.Writings.{Fitting, sums-match, counts-refused, lengths-refused, long-refused, given-refused}
 use Rattle.stretch.proofs.Writings.{room-refused, refused-leaves, accepted-leaves}
@@ -16,21 +19,30 @@ use Rattle.stretch.proofs.writer.write.Tie as tie
 abbrev entry : tie.Else2 → tie.Start
 entry c = c .before .before .before .before .before .before .before .before
 
-matching : (c : tie.Else2) → Matching (entry c .args .letters .now) (entry c .args .lengths .now) (entry c .args .counts .now)
+matching : (c : tie.Else2) → Matching (meant (entry c .args .letters .now)) (entry c .args .lengths .now) (entry c .args .counts .now)
 matching c =
     let d = c .before .before in
-    sums-match _ _ _
+    let a = entry c .args in
+    matching-meant
+    (sums-match (a .letters .now) (a .lengths .now) (a .counts .now)
     (sym (d .before .counts-sum .ensures) ∙ not-false _ (d .if1 .left))
-    (sym (c .before .lengths-sum .ensures) ∙ not-false _ (c .if2 .left))
+    (sym (c .before .lengths-sum .ensures) ∙ not-false _ (c .if2 .left)))
+
+-- raised letters need as many bytes
+same-need :
+    (c : tie.Start)
+    → needed (meant (c .args .letters .now)) (c .args .lengths .now) (c .args .counts .now)
+    ≡ needed (c .args .letters .now) (c .args .lengths .now) (c .args .counts .now)
+same-need c = needed-meant _ _ _
 
 abbrev entered : tie.Else3 → tie.Start
 entered c = entry (c .before .before)
 
-fitting : (c : tie.Else3) → Fitting (entered c .args .letters .now) (entered c .args .lengths .now) (entered c .args .counts .now)
+fitting : (c : tie.Else3) → Fitting (meant (entered c .args .letters .now)) (entered c .args .lengths .now) (entered c .args .counts .now)
 unfolding needed
 fitting c =
     let small = leb-true _ _ (sym (c .before .fits-stretch .ensures) ∙ not-false _ (c .if3 .left)) in
-    record { matching = matching (c .before .before); small = small }
+    record { matching = matching (c .before .before); small = rw (same-need (entered c)) small }
 
 returns : tie.Need-returns
 returns c =
@@ -41,15 +53,16 @@ returns c =
 returns-2 : tie.Need-returns-2
 returns-2 c =
     let d = c .before in
+    let a = d .before .before .before .before .before .before .before .before .args in
     let e = sym (d .before .lengths-sum .ensures) ∙ not-true _ (d .if2 .taken) in
-    written-both _ (refused-leaves _ (c .refused-at-02 .ensures) (lengths-refused _ _ _ _ e))
+    written-both _ (refused-leaves _ (c .refused-at-02 .ensures) (lengths-refused (meant (a .letters .now)) _ _ _ (rw (meant-length (a .letters .now)) e)))
 
 returns-3 : tie.Need-returns-3
 unfolding needed
 returns-3 c =
     let d = c .before in
     let e = sym (d .before .fits-stretch .ensures) ∙ not-true _ (d .if3 .taken) in
-    written-both _ (refused-leaves _ (c .refused-at-03 .ensures) (long-refused _ (matching (d .before .before)) e))
+    written-both _ (refused-leaves _ (c .refused-at-03 .ensures) (long-refused _ (matching (d .before .before)) (rw (same-need (entry (d .before .before))) e)))
 
 segments-given-requires : tie.Need-segments-given-requires
 segments-given-requires c κs = matching (c .before .before)
@@ -62,7 +75,7 @@ returns-4 c =
 
 add-needed-3 : tie.Need-add-needed-3
 unfolding needed
-add-needed-3 c = omega (arith, fitting (c .before .before .before) .small)
+add-needed-3 c = omega (arith, fitting (c .before .before .before) .small, same-need (entered (c .before .before .before)))
 
 returns-5 : tie.Need-returns-5
 unfolding needed
@@ -70,11 +83,11 @@ returns-5 c =
     let d = c .before .before in
     let g = d .before .before in
     let e = sym (g .segments-given .ensures) ∙ ap toldReached (d .enum-told .given .1) in
-    written-both _ (refused-leaves _ (c .refused-at-04 .ensures) (room-refused _ (fitting (g .before)) e (c .before .if4 .taken)))
+    written-both _ (refused-leaves _ (c .refused-at-04 .ensures) (room-refused _ (fitting (g .before)) e (rw (same-need (entered (g .before))) (c .before .if4 .taken))))
 
 put-text-requires : tie.Need-put-text-requires
 unfolding needed
-put-text-requires c κs = let d = c .before .before in (fitting (d .before .before .before) .matching, c .before .if4 .left)
+put-text-requires c κs = let d = c .before .before in (fitting (d .before .before .before) .matching, rw (same-need (entered (d .before .before .before))) (c .before .if4 .left))
 
 returns-6 : tie.Need-returns-6
 unfolding needed
@@ -83,7 +96,8 @@ returns-6 c =
     let d = r .before in
     let g = d .before .before in
     let e = sym (g .segments-given .ensures) ∙ ap toldReached (d .enum-told .given .1) in
-    written-both _ (accepted-leaves (fitting (g .before)) _ e (r .if4 .left) (c .before .before .put-text .ensures))
+    let n = same-need (entered (g .before)) in
+    written-both _ (rw n at (accepted-leaves (fitting (g .before)) _ e (rw n (r .if4 .left)) (c .before .before .put-text .ensures)))
 
 pub write-spec : {M : Type 1} → statement M
 write-spec =

@@ -2,12 +2,13 @@
 -- pattern's first bases end the variant. Each turn goes to the border of k, which is shorter, so the measure is k.
 use native.Mathlib.Omega.{arith}
 use borrow.Author.Needs.{needs}
+use Rattle.text.specs.Letter.{meant}
 use Rattle.search.proofs.BorderChains.{Chain, chain-none, chain-less, chain-more, chain-all}
 use Rattle.search.proofs.borders.begun.begun.Statement.{statement}
 use Rattle.search.proofs.borders.begun.begun.Tie as tie
 
 abbrev Inv-loop : tie.InvT-loop
-Inv-loop pattern table variant scanned k₀ bits₀ k bits = Chain pattern variant bits k
+Inv-loop pattern table variant scanned k₀ bits₀ k bits = Chain pattern (meant variant) bits k
 
 abbrev μ-loop : tie.MeasureT-loop
 μ-loop pattern table variant scanned k₀ bits₀ k bits = k
@@ -27,7 +28,7 @@ element-copy-out-k c = omega arith
 loop-less : tie.Need-loop-less Inv-loop μ-loop
 loop-less c =
     let d = c .before .before in
-    omega (arith, chain-less (d .before .before .before .before .pre .1) (d .loop .inv) (c .before .loop-test .taken))
+    omega (arith, chain-less (d .before .before .before .before .pre .1 .0) (d .loop .inv) (c .before .loop-test .taken))
 
 shl-bits-2 : tie.Need-shl-bits-2 Inv-loop μ-loop
 shl-bits-2 c = omega (arith, loop-less c)
@@ -36,7 +37,7 @@ loop-again : tie.Need-loop-again Inv-loop μ-loop
 loop-again c =
     let d = c .before .before in
     let start = d .before .before .before .before in
-    chain-more (start .pre .1) (d .loop .inv) (c .before .loop-test .taken) (start .pre .0)
+    chain-more (start .pre .1 .0) (d .loop .inv) (c .before .loop-test .taken) (start .pre .0)
 
 returns : tie.Need-returns Inv-loop μ-loop
 returns c = chain-all (c .before .before .scan .ensures) (c .before .loop .inv) (c .loop-test .left)

@@ -2,12 +2,13 @@
 -- and `rest` is the state from bit q up. Each turn halves it, so it is the measure.
 use native.Mathlib.Omega.{arith}
 use mathlib.Core.Logic.{⊎-elim}
+use Rattle.text.specs.Letter.{meant}
 use Rattle.search.proofs.BorderWalks.{Walk, walk-none, walk-near, walk-carried, walk-passed, walk-all}
 use Rattle.search.proofs.borders.carried.carried.Statement.{statement}
 use Rattle.search.proofs.borders.carried.carried.Tie as tie
 
 abbrev Inv-loop : tie.InvT-loop
-Inv-loop pattern state variant bits₀ ends₀ rest₀ q₀ bits ends rest q = Walk pattern state variant bits ends rest q
+Inv-loop pattern state variant bits₀ ends₀ rest₀ q₀ bits ends rest q = Walk pattern state (meant variant) bits ends rest q
 
 abbrev μ-loop : tie.MeasureT-loop
 μ-loop pattern state variant bits₀ ends₀ rest₀ q₀ bits ends rest q = rest

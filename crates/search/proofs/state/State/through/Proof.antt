@@ -26,7 +26,7 @@ mark-requires c κs =
     let r = d .before .before in
     let y = entry (r .before) in
     let z = read-sound _ _ _ (r .read-on .ensures) (y .sound) in (
-      record { some = z .some; short = z .short; holds = masks-short _ _ (z .short) (d .masks .ensures) },
+      record { some = z .some; short = z .short; bases = z .bases; holds = masks-short _ _ (z .short) (d .masks .ensures) },
       read-state _ _ _ (r .read-on .ensures) (y .sound) _ (y .state),
     )
 

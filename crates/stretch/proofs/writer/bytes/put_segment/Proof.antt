@@ -2,9 +2,15 @@
 -- others come next. The measure is the number of variants left.
 use Prim.Native.Nat.{_+_, _-_, _<_, _≤_}
 use native.Mathlib.Omega.{arith}
-use mathlib.Core.Path.{_≡_, _∙_}
+use mathlib.Core.Path.{_≡_, ap, _∙_}
 use borrow.Author.Needs.{needs}
 use lib.ListN.{length, length-set, length-take, length-drop}
+use Rattle.text.specs.Letter.{meant}
+use Rattle.text.specs.Text.{Variant}
+use Rattle.text.proofs.Likes.{meant-length}
+use Rattle.stretch.specs.Bytes.{over}
+use Rattle.stretch.specs.Encoding.{encodeVariant}
+use Rattle.stretch.proofs.Raised.{part-meant}
 use Rattle.stretch.proofs.Cuts.{passing-number, passing-inside}
 use Rattle.stretch.proofs.Overs.{emitted-length}
 use Rattle.stretch.proofs.SegmentBytes.{VariantsPut, variants-room, variants-more, segment-room, segment-none, segment-end}
@@ -13,7 +19,7 @@ use Rattle.stretch.proofs.writer.bytes.put_segment.Tie as tie
 
 abbrev Inv-loop : tie.InvT-loop
 Inv-loop letters lengths first from count out₀ at variants next₀ start₀ k₀ out next start k =
-    VariantsPut letters lengths first from variants out₀ next₀ out next start k
+    VariantsPut (meant letters) lengths first from variants out₀ next₀ out next start k
 
 abbrev μ-loop : tie.MeasureT-loop
 μ-loop letters lengths first from count out₀ at variants next₀ start₀ k₀ out next start k = variants - k
@@ -34,7 +40,9 @@ number c = passing-number (c .before .loop .inv .passing) (c .loop-test .taken)
 inside :
     (c : tie.After-stated Inv-loop μ-loop) →
     c .before .before .before .loop .start + c .stated .result ≤ length (entry (c .before .before .before) .args .letters .now)
-inside c = let d = c .before .before in passing-inside (d .before .loop .inv .passing) (d .loop-test .taken) (c .stated .ensures)
+inside c =
+    let d = c .before .before in
+    rw meant-length at (passing-inside (d .before .loop .inv .passing) (d .loop-test .taken) (c .stated .ensures))
 
 room :
     (c : tie.After-stated Inv-loop μ-loop) →
@@ -44,7 +52,7 @@ room c = let d = c .before .before in variants-room (d .before .loop .inv) (d .l
 slice-write-out : tie.Need-slice-write-out Inv-loop μ-loop
 slice-write-out c =
     let s = c .before .before .before in
-    let h = segment-room (s .args .letters .now) (s .args .out .now) (s .args .at) (s .pre .0) (s .pre .1) in
+    let h = segment-room (meant (s .args .letters .now)) (s .args .out .now) (s .args .at) (s .pre .0) (s .pre .1) in
     omega arith
 
 loop-holds : tie.Need-loop-holds Inv-loop μ-loop
@@ -80,7 +88,12 @@ loop-again : tie.Need-loop-again Inv-loop μ-loop
 loop-again c =
     let d = c .before .before .before .before .before in
     let i = d .before .before in
-    variants-more (i .before .loop .inv) (i .loop-test .taken) (d .stated .ensures) (c .before .before .put-variant .ensures)
+    let letters = entry (i .before) .args .letters .now in
+    let start = i .before .loop .start in
+    let next = i .before .loop .next in
+    let out = i .before .loop .out in
+    variants-more (i .before .loop .inv) (i .loop-test .taken) (d .stated .ensures)
+    (c .before .before .put-variant .ensures ∙ ap (λ (v : Variant). over out next (encodeVariant v)) (part-meant letters start (start + d .stated .result - start)))
 
 same-length : tie.Need-same-length Inv-loop μ-loop
 same-length c = same (c .before)

@@ -5,6 +5,7 @@ use native.Mathlib.Omega.{arith}
 use mathlib.Core.Path.{_≡_, _∙_}
 use borrow.Author.Needs.{needs}
 use lib.ListN.{length}
+use Rattle.text.specs.Letter.{meant}
 use Rattle.stretch.specs.Writing.{needed}
 use Rattle.stretch.proofs.Overs.{emitted-length}
 use Rattle.stretch.proofs.Texts.{matched-within}
@@ -14,7 +15,7 @@ use Rattle.stretch.proofs.writer.bytes.put_text.Tie as tie
 
 abbrev Inv-loop : tie.InvT-loop
 Inv-loop letters lengths counts out₀ variant₀ letter₀ segment₀ out variant letter segment =
-    SegmentsPut letters lengths counts out₀ out variant letter segment
+    SegmentsPut (meant letters) lengths counts out₀ out variant letter segment
 
 abbrev μ-loop : tie.MeasureT-loop
 μ-loop letters lengths counts out₀ variant₀ letter₀ segment₀ out variant letter segment = length counts - segment

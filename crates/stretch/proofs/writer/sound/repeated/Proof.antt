@@ -5,13 +5,17 @@ use native.Mathlib.Omega.{arith}
 use mathlib.Core.Path.{sym, _∙_}
 use borrow.Author.Needs.{needs}
 use lib.ListN.{length}
+use Rattle.text.specs.Letter.{meant}
+use Rattle.text.proofs.Likes.{meant-length}
+use Rattle.stretch.proofs.Raised.{alike-part}
 use Rattle.stretch.proofs.Cuts.{passing-number, passing-inside}
 use Rattle.stretch.proofs.RepeatsInWrite.{Compared, compared-none, compared-same, compared-more, compared-end}
 use Rattle.stretch.proofs.writer.sound.repeated.Statement.{statement}
 use Rattle.stretch.proofs.writer.sound.repeated.Tie as tie
 
 abbrev Inv-loop : tie.InvT-loop
-Inv-loop letters lengths first from k variant start₀ i₀ start i = Compared letters lengths first from k variant start i
+Inv-loop letters lengths first from k variant start₀ i₀ start i =
+    Compared (meant letters) lengths first from k (meant variant) start i
 
 abbrev μ-loop : tie.MeasureT-loop
 μ-loop letters lengths first from k variant start₀ i₀ start i = k - i
@@ -28,7 +32,9 @@ number c = passing-number (c .before .loop .inv .passing) (c .loop-test .taken)
 inside :
     (c : tie.After-stated Inv-loop μ-loop) →
     c .before .before .before .loop .start + c .stated .result ≤ length (entry (c .before .before .before) .args .letters .now)
-inside c = let d = c .before .before in passing-inside (d .before .loop .inv .passing) (d .loop-test .taken) (c .stated .ensures)
+inside c =
+    let d = c .before .before in
+    rw meant-length at (passing-inside (d .before .loop .inv .passing) (d .loop-test .taken) (c .stated .ensures))
 
 loop-holds : tie.Need-loop-holds Inv-loop μ-loop
 loop-holds c = compared-none _ (c .before .before .before .pre)
@@ -45,21 +51,25 @@ shared-slice-read-stated c = number (c .before)
 add-end : tie.Need-add-end Inv-loop μ-loop
 add-end c = omega (arith, inside c)
 
-part-same-end : tie.Need-part-same-end Inv-loop μ-loop
-part-same-end c = omega (arith, inside c)
+part-alike-end : tie.Need-part-alike-end Inv-loop μ-loop
+part-alike-end c = omega (arith, inside c)
 
 returns : tie.Need-returns Inv-loop μ-loop
 returns c =
     let d = c .before .before .before in
     let i = d .before .before in
-    let equal = sym (c .before .same .ensures) ∙ c .if1 .taken in
+    let a = entry (i .before) .args in
+    let start = i .before .loop .start in
+    let equal = sym (alike-part (a .variant .now) (a .letters .now) start (start + d .stated .result - start)) ∙ sym (c .before .alike .ensures) ∙ c .if1 .taken in
     sym (compared-same (i .before .loop .inv) (i .loop-test .taken) (d .stated .ensures) equal)
 
 loop-again : tie.Need-loop-again Inv-loop μ-loop
 loop-again c =
     let d = c .before .before .before in
     let i = d .before .before in
-    let other = sym (c .before .same .ensures) ∙ c .if1 .left in
+    let a = entry (i .before) .args in
+    let start = i .before .loop .start in
+    let other = sym (alike-part (a .variant .now) (a .letters .now) start (start + d .stated .result - start)) ∙ sym (c .before .alike .ensures) ∙ c .if1 .left in
     compared-more (i .before .loop .inv) (i .loop-test .taken) (d .stated .ensures) other
 
 returns-2 : tie.Need-returns-2 Inv-loop μ-loop
@@ -79,7 +89,7 @@ repeated-spec =
     add-end
     (λ c. search needs)
     (λ c. search needs)
-    part-same-end
+    part-alike-end
     (λ c κs. search needs)
     returns
     (λ c. search needs)

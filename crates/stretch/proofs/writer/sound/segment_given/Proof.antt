@@ -3,6 +3,7 @@
 use Prim.Native.Nat.{_-_}
 use mathlib.Core.Path.{sym, ap, _∙_}
 use borrow.Author.Needs.{needs}
+use Rattle.text.specs.Letter.{meant}
 use Rattle.stretch.specs.Answers.{toldReached}
 use Rattle.stretch.proofs.Cuts.{passing-behind}
 use Rattle.stretch.proofs.GivenSegment.{segment-empty, VariantsAccepted}
@@ -11,7 +12,8 @@ use Rattle.stretch.proofs.writer.sound.segment_given.Statement.{stateme
 use Rattle.stretch.proofs.writer.sound.segment_given.Tie as tie
 
 abbrev Inv-loop : tie.InvT-loop
-Inv-loop letters lengths counts segment first from count at₀ k₀ at k = VariantsAccepted letters lengths counts segment first from count at k
+Inv-loop letters lengths counts segment first from count at₀ k₀ at k =
+    VariantsAccepted (meant letters) lengths counts segment first from count at k
 
 abbrev μ-loop : tie.MeasureT-loop
 μ-loop letters lengths counts segment first from count at₀ k₀ at k = count - k

@@ -5,6 +5,7 @@ use native.Mathlib.Omega.{arith}
 use mathlib.Core.Path.{sym, ap, _∙_}
 use borrow.Author.Needs.{needs}
 use lib.ListN.{length}
+use Rattle.text.specs.Letter.{meant}
 use Rattle.stretch.specs.Answers.{toldReached}
 use Rattle.stretch.proofs.Texts.{matched-within}
 use Rattle.stretch.proofs.GivenText.{SegmentsAccepted, accepted-none, accepted-refused, accepted-more, accepted-end}
@@ -12,7 +13,8 @@ use Rattle.stretch.proofs.writer.sound.segments_given.Statement.{statem
 use Rattle.stretch.proofs.writer.sound.segments_given.Tie as tie
 
 abbrev Inv-loop : tie.InvT-loop
-Inv-loop letters lengths counts variant₀ at₀ segment₀ variant at segment = SegmentsAccepted letters lengths counts variant at segment
+Inv-loop letters lengths counts variant₀ at₀ segment₀ variant at segment =
+    SegmentsAccepted (meant letters) lengths counts variant at segment
 
 abbrev μ-loop : tie.MeasureT-loop
 μ-loop letters lengths counts variant₀ at₀ segment₀ variant at segment = length counts - segment
