@@ -12,13 +12,17 @@ is_new() {
 }
 
 # What programs run with: a copy for this kind of machine, since a program that is built is to run without the toolchain too.
-# Programs are for x86-64, and Arm needs the emulator.
+# Programs are for x86-64, and Arm needs the emulator. Each file takes its place whole, since another call may be starting a program
+# at this moment, and the loader is the last: where it is, all are.
 runtime=target/run/$(uname -m)
 keep_runtime() {
-    tools=$(toolchain) && rm -rf "$runtime" "$runtime.new" && mkdir -p "$runtime.new" || return 1
-    cp "$tools/lib/ld-linux-x86-64.so.2" "$tools/lib/libc.so.6" "$runtime.new" || return 1
-    [ ! -x "$tools/bin/qemu-x86_64" ] || cp "$tools/bin/qemu-x86_64" "$runtime.new" || return 1
-    mv "$runtime.new" "$runtime"
+    tools=$(toolchain) && mkdir -p "$runtime" || return 1
+    for file in bin/qemu-x86_64 lib/libc.so.6 lib/ld-linux-x86-64.so.2; do
+        [ -e "$tools/$file" ] || [ "$file" = bin/qemu-x86_64 ] || return 1
+        [ ! -e "$tools/$file" ] || {
+            cp "$tools/$file" "$runtime/new" && mv "$runtime/new" "$runtime/${file##*/}"
+        } || return 1
+    done
 }
 
 # Runs a program of target/bin as rt does, with the words behind its name, from whatever folder.
@@ -80,7 +84,7 @@ alone() {
 
 # Whether a program is proved and built, and what it runs with is there.
 is_built() {
-    is_new "target/$1.done" && [ -x "target/bin/$1" ] && [ -d "$runtime" ]
+    is_new "target/$1.done" && [ -x "target/bin/$1" ] && [ -x "$runtime/ld-linux-x86-64.so.2" ]
 }
 
 # Proves and builds a program. What an earlier run has left half built is built again, from nothing if need be.
