@@ -1,4 +1,4 @@
-/* What the yardsticks that check share. */
+/* What the yardsticks that check share: refusals, letters by what they mean, sizes, and results. */
 #ifndef CHECKS_H
 #define CHECKS_H
 
@@ -23,44 +23,54 @@ static inline size_t first_wrong(const uint8_t *letters)
     return k;
 }
 
-/* A base or a letter in lower case. */
+/* A base or a letter in lower case; letters mean the same if they differ in this bit alone. */
 static inline uint8_t lower(uint8_t letter) { return letter | 0x20; }
+static const uint64_t MEANING = 0xDFDFDFDFDFDFDFDF;
 
-/* Whether letters mean the same: they may differ in the bit of the case alone. Eight at a time, then one by one. */
+static inline uint64_t eight(const uint8_t *letters)
+{
+    uint64_t word;
+    memcpy(&word, letters, 8);
+    return word;
+}
+
+/* Whether letters mean the same, from the first on: eight at a time, then one by one. */
 static inline int alike(const uint8_t *a, const uint8_t *b, size_t n)
 {
-    size_t k = 0;
-    for (; n - k >= 8; k += 8) {
-        uint64_t x, y;
-        memcpy(&x, a + k, 8);
-        memcpy(&y, b + k, 8);
-        if (((x ^ y) & 0xDFDFDFDFDFDFDFDF) != 0) {
+    for (; n >= 8; a += 8, b += 8, n -= 8) {
+        if (((eight(a) ^ eight(b)) & MEANING) != 0) {
             return 0;
         }
     }
-    for (; k < n; k++) {
-        if (lower(a[k]) != lower(b[k])) {
+    for (; n > 0; a++, b++, n--) {
+        if (lower(*a) != lower(*b)) {
             return 0;
         }
     }
     return 1;
 }
 
-/* Whether the variant of n letters at this place stands earlier in its segment, whose first one is at first. */
-static inline int repeated(const uint8_t *stretch, size_t first, size_t at, size_t n)
+/* The same from the last on; the first eight are one word, which may overlap the one before it. */
+static inline int alike_from_last(const uint8_t *a, const uint8_t *b, size_t n)
 {
-    for (size_t k = first; k < at;) {
-        size_t len = stretch[k] + 256u * stretch[k + 1];
-        if (len == n && alike(stretch + k + 2, stretch + at + 2, n)) {
-            return 1;
+    if (n < 8) {
+        while (n > 0 && lower(a[n - 1]) == lower(b[n - 1])) {
+            n--;
         }
-        k += 2 + len;
+        return n == 0;
     }
-    return 0;
+    for (; n > 8; n -= 8) {
+        if (((eight(a + n - 8) ^ eight(b + n - 8)) & MEANING) != 0) {
+            return 0;
+        }
+    }
+    return ((eight(a) ^ eight(b)) & MEANING) == 0;
 }
 
 /* What a variant counts in the size. */
 static inline size_t counted(size_t n) { return n == 0 ? 1 : n; }
+
+static inline size_t word(const uint8_t *bytes) { return bytes[0] + 256u * bytes[1]; }
 
 static inline void put_result(uint8_t *block, size_t i, uint64_t value)
 {

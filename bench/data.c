@@ -1,4 +1,4 @@
-/* The bench's stretches (data.h): two like real ones and two worked from 001's setting, worst cases, and document 01's D. */
+/* The bench's stretches (data.h): one like real ones, two of 001's setting, worst cases, and document 01's D. */
 #include "data.h"
 
 #include "braces.h"
@@ -88,18 +88,31 @@ static void single(struct made *made, size_t most)
     }
 }
 
-/* 255 variants that begin alike, as long as they fit; they differ in their last four letters. */
-static void alike(struct made *made, size_t most)
+/* 255 variants, as long as they fit, that are alike but for four letters from this one on. */
+static void alike_but(size_t differ, struct made *made, size_t len)
 {
     uint8_t letters[MOST_BYTES];
-    size_t len = (most - 3) / 255 - 2;
     letters_of(letters, len);
     made_segment(made);
     for (size_t v = 0; v < 255; v++) {
         for (size_t k = 0, left = v; k < 4; k++, left /= 4) {
-            letters[len - 1 - k] = (uint8_t)"ACGT"[left % 4];
+            letters[differ + k] = (uint8_t)"ACGT"[left % 4];
         }
         made_variant(made, letters, len);
+    }
+}
+
+static size_t length_of_255(size_t most) { return (most - 3) / 255 - 2; }
+static void starts(struct made *made, size_t most) { alike_but(length_of_255(most) - 4, made, length_of_255(most)); }
+static void ends(struct made *made, size_t most) { alike_but(0, made, length_of_255(most)); }
+
+static void one(struct made *made, size_t most) { put_plain(made, most - 5, most); }
+
+/* Segments of one variant each: a lone letter, or nothing. */
+static void lone(struct made *made, size_t most)
+{
+    while (made->len + 4 <= most) {
+        put_plain(made, 1, most);
     }
 }
 
@@ -109,8 +122,6 @@ static void empties(struct made *made, size_t most)
         put_plain(made, 0, most);
     }
 }
-
-static void one(struct made *made, size_t most) { put_plain(made, most - 5, most); }
 
 /* Letters from the middle segment on, by the first variant of each; what is missing is random. */
 static void pattern_of(const struct made *made, size_t m, uint8_t *pattern)
@@ -125,13 +136,17 @@ static void pattern_of(const struct made *made, size_t m, uint8_t *pattern)
     }
 }
 
-int data_make(const char *name, size_t most, size_t m, struct made *made, uint8_t pattern[MOST_BASES])
+static const struct {
+    const char *name;
+    void (*make)(struct made *, size_t);
+} known[] = {{"kg", kg},         {"synth", synth}, {"single", single}, {"one", one},
+             {"starts", starts}, {"ends", ends},   {"lone", lone},     {"empties", empties}};
+
+const char *data_name(size_t i) { return i < sizeof known / sizeof *known ? known[i].name : NULL; }
+
+int data_make(const char *name, size_t number, size_t most, size_t m, struct made *made, uint8_t pattern[MOST_BASES])
 {
-    static const struct {
-        const char *name;
-        void (*make)(struct made *, size_t);
-    } known[] = {{"kg", kg}, {"synth", synth}, {"single", single}, {"alike", alike}, {"empties", empties}, {"one", one}};
-    random.state = 2017;
+    random.state = 2017 + number;
     if (strcmp(name, "D") == 0) {
         braces("{CGA,G}{e,T}{TTAC,AT}{TA,e}{A,GATTAG}", made);
         memcpy(pattern, "GATTA", 5);

@@ -1,99 +1,51 @@
-/* Runs one piece of work so many times, for something outside to count the instructions.
-     pace METHOD DATA BYTES M TIMES   runs it
-     pace input DATA BYTES M CALL     writes what the program paced reads: the call's number, the pattern after its length, the stretch
-     pace size DATA BYTES M           prints bytes, segments, variants and letters of the data
-     pace check                       compares every search with the reference, on the data and on random texts */
-#include "cerantuh.h"
+/* Measures calls (calls.c) on data (data.c).
+     pace run CALL DATA BYTES M TIMES     makes the call so many times, for something outside to count the instructions
+     pace time DATA BYTES M CALL...       prints the nanoseconds of each call on such data, the least of many
+     pace size DATA BYTES M               prints bytes, segments and variants of the data
+     pace check                           compares the answers of all calls with the reference, on the data and on random texts, up
+                                          to the first text on which one differs */
+#include "calls.h"
 #include "data.h"
-#include "yardsticks.h"
+#include "timing.h"
 
 #include <stdio.h>
 #include <stdlib.h>
 #include <string.h>
 
-static const struct {
-    const char *name;
-    search_form *form;
-    int checks, searches; /* whether it refuses as document 01 says, and whether it marks */
-    enum { ON_GIVEN, ON_OPPOSITE, ON_EITHER } looks;
-} methods[] = {{"bits", cerantuh_search_bits, 1, 1, ON_GIVEN},
-               {"bits_opposite", cerantuh_search_bits_opposite, 1, 1, ON_OPPOSITE},
-               {"either", cerantuh_search_either, 1, 1, ON_EITHER},
-               {"borders", cerantuh_search_borders, 1, 1, ON_GIVEN},
-               {"borders_opposite", cerantuh_search_borders_opposite, 1, 1, ON_OPPOSITE},
-               {"shiftand", shiftand, 1, 1, ON_GIVEN},
-               {"edsmbv", edsmbv, 0, 1, ON_GIVEN},
-               {"validate", validate, 1, 0, ON_GIVEN},
-               {"memchr", through, 0, 0, ON_GIVEN}};
-enum { METHODS = sizeof methods / sizeof *methods };
-
 static struct made made;
-static uint8_t pattern[MOST_BASES], marks[MOST_SEGMENTS], block[24];
+static uint8_t pattern[MOST_BASES];
 
-static int size_of_data(void)
+static struct question question_of(size_t m) { return (struct question){pattern, made.bytes, m, made.len}; }
+
+static int size(void)
 {
     static struct text text;
-    size_t size = 0;
     if (reference_read(made.bytes, made.len, &text) != 0) {
         return 1;
     }
-    for (size_t v = 0; v < text.variant_count; v++) {
-        size += text.variants[v].len;
-    }
-    printf("%zu %zu %zu %zu\n", made.len, text.segment_count, text.variant_count, size);
+    printf("%zu %zu %zu\n", made.len, text.segment_count, text.variant_count);
     return 0;
 }
 
-/* What a method is to answer. */
-static void expect(size_t i, size_t m, struct expected *expected)
+static size_t differ_on(size_t m)
 {
-    if (methods[i].looks == ON_EITHER) {
-        reference_either(pattern, m, made.bytes, made.len, sizeof marks, sizeof block, expected);
-        return;
-    }
-    enum strand strand = methods[i].looks == ON_GIVEN ? GIVEN : OPPOSITE;
-    reference_search(strand, pattern, m, made.bytes, made.len, sizeof marks, sizeof block, expected);
-}
-
-/* Whether the methods answer, mark and count as the reference does; those that check nothing are asked of sound bytes alone. */
-static int agree(size_t m)
-{
-    static struct expected expected;
-    int agree = 1;
-    for (size_t i = 0; i < METHODS; i++) {
-        expect(i, m, &expected);
-        if (!methods[i].checks && (expected.answer != 0 || !methods[i].searches)) {
-            continue;
-        }
-        uint64_t answer = methods[i].form(pattern, m, made.bytes, made.len, marks, sizeof marks, block, sizeof block);
-        int same = answer == expected.answer;
-        if (same && answer == 0 && methods[i].searches) {
-            same = memcmp(marks, expected.marks, expected.mark_count) == 0 && cerantuh_result(block, 2) == expected.results[2];
-        }
-        if (same && answer == 0) {
-            same = cerantuh_result(block, 0) == expected.results[0] && cerantuh_result(block, 1) == expected.results[1];
-        }
-        if (!same) {
-            printf("%s differs from the reference\n", methods[i].name);
-        }
-        agree = agree && same;
-    }
-    return agree;
+    struct question question = question_of(m);
+    return calls_differ(&question);
 }
 
 static int check(void)
 {
-    static const char *const names[] = {"kg", "synth", "single", "alike", "empties", "one"};
     static struct made other;
     struct random random = {1};
-    size_t differ = 0, tried = 0;
-    for (size_t i = 0; i < sizeof names / sizeof *names; i++) {
+    data_make("D", 0, MOST_BYTES, 5, &made, pattern);
+    size_t differ = differ_on(5), tried = 1;
+    for (size_t i = 0; data_name(i) != NULL; i++) {
         for (size_t m = 1; m <= MOST_BASES; m++, tried++) {
-            data_make(names[i], MOST_BYTES, m, &made, pattern);
-            differ += !agree(m);
+            data_make(data_name(i), m, MOST_BYTES, m, &made, pattern);
+            differ += differ_on(m);
         }
     }
-    for (; tried < 100000; tried++) {
+    for (; tried < 100000 && differ == 0; tried++) {
         struct shape shape = shape_any(&random);
         make_text(&random, &shape, &made);
         size_t m = make_pattern(&random, &made, pattern);
@@ -101,23 +53,49 @@ static int check(void)
             make_text(&random, &shape, &other);
             damage_any(&random, &made, &other);
         }
-        differ += !agree(m);
+        differ += differ_on(m);
     }
-    printf("%zu texts, %zu differ from the reference\n", tried, differ);
+    printf("%zu texts, %zu answers differ from the reference\n", tried, differ);
     return differ > 0;
 }
 
 static int run(const char *name, size_t m, size_t times)
 {
-    for (size_t i = 0; i < METHODS; i++) {
-        if (strcmp(name, methods[i].name) == 0) {
-            for (; times > 0; times--) {
-                methods[i].form(pattern, m, made.bytes, made.len, marks, sizeof marks, block, sizeof block);
-            }
-            return 0;
+    const struct call *call = call_named(name);
+    struct question question = question_of(m);
+    for (; call != NULL && times > 0; times--) {
+        call_run(call, &question);
+    }
+    return call == NULL ? 2 : 0;
+}
+
+/* Of QUESTIONS stretches of this kind, as much as one of the first's bytes takes. */
+static int time_of(const char *data, size_t most, size_t m, size_t count, char **names)
+{
+    static struct made texts[QUESTIONS];
+    static uint8_t patterns[QUESTIONS][MOST_BASES];
+    const struct call *calls[MOST_TIMED];
+    struct question questions[QUESTIONS];
+    double nanoseconds[MOST_TIMED], bytes = 0;
+    if (count == 0 || count > MOST_TIMED) {
+        return 2;
+    }
+    for (size_t i = 0; i < count; i++) {
+        calls[i] = call_named(names[i]);
+        if (calls[i] == NULL) {
+            return 2;
         }
     }
-    return 2;
+    for (size_t k = 0; k < QUESTIONS; k++) {
+        data_make(data, k, most, m, texts + k, patterns[k]);
+        questions[k] = (struct question){patterns[k], texts[k].bytes, m, texts[k].len};
+        bytes += (double)texts[k].len;
+    }
+    calls_time(calls, count, questions, nanoseconds);
+    for (size_t i = 0; i < count; i++) {
+        printf("%.3f\n", nanoseconds[i] / bytes * (double)questions->len);
+    }
+    return 0;
 }
 
 int main(int argc, char **argv)
@@ -125,18 +103,15 @@ int main(int argc, char **argv)
     if (argc == 2 && strcmp(argv[1], "check") == 0) {
         return check();
     }
-    size_t m = argc > 4 ? strtoull(argv[4], NULL, 10) : 0;
-    if (m == 0 || m > MOST_BASES || !data_make(argv[2], strtoull(argv[3], NULL, 10), m, &made, pattern)) {
-        fprintf(stderr, "usage: pace METHOD DATA BYTES M TIMES\n");
+    int runs = argc == 7 && strcmp(argv[1], "run") == 0; /* the call's name comes first */
+    size_t most = argc > 3 + runs ? strtoull(argv[3 + runs], NULL, 10) : 0;
+    size_t m = argc > 4 + runs ? strtoull(argv[4 + runs], NULL, 10) : 0;
+    if (m == 0 || m > MOST_BASES || !data_make(argv[2 + runs], 0, most, m, &made, pattern)) {
+        fprintf(stderr, "usage: the first lines of bench/pace.c\n");
         return 2;
     }
     if (strcmp(argv[1], "size") == 0) {
-        return size_of_data();
+        return size();
     }
-    size_t last = argc > 5 ? strtoull(argv[5], NULL, 10) : 1;
-    if (strcmp(argv[1], "input") == 0) {
-        printf("%c%c", (int)last, (int)m);
-        return fwrite(pattern, 1, m, stdout) + fwrite(made.bytes, 1, made.len, stdout) != m + made.len;
-    }
-    return run(argv[1], m, last);
+    return runs ? run(argv[2], m, strtoull(argv[6], NULL, 10)) : time_of(argv[2], most, m, (size_t)argc - 5, argv + 5);
 }

@@ -34,7 +34,7 @@ def draw(sizes, lines):
         out.append(f'<path d="M{LEFT} {up(value):.1f}H{WIDTH - RIGHT}" stroke="#dddddd"/>')
         out.append(text(LEFT - 8, up(value) + 4, value, "end"))
     for x, size in zip(across, sizes):
-        out.append(text(x, HEIGHT - BOTTOM + 20, f"{size // 1024} KB"))
+        out.append(text(x, HEIGHT - BOTTOM + 20, f"{round(size / 1024)} KB"))
     # names beside the lines' ends, moved apart where they would touch
     lowest = HEIGHT
     for (name, line), colour in sorted(zip(lines.items(), COLOURS), key=lambda each: each[0][1][-1]):

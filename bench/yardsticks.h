@@ -1,4 +1,4 @@
-/* What the C forms are measured beside, a file each. The searches are called as the C forms are. */
+/* What the library is measured beside. Each is called as the C form of a search is. */
 #ifndef YARDSTICKS_H
 #define YARDSTICKS_H
 
@@ -8,9 +8,13 @@
 typedef uint64_t search_form(const uint8_t *pattern, size_t m, const uint8_t *stretch, size_t len, uint8_t *marks,
                              size_t marks_len, uint8_t *block, size_t block_len);
 
-search_form shiftand; /* every check of document 01 */
-search_form edsmbv;   /* trusts the bytes */
-search_form validate; /* every check, no search: only the segment count and the size are written */
-search_form through;  /* memchr of a byte that is not there */
+/* shiftand.c: the search by bit-vectors with every check, in three ways; and the one that trusts the bytes */
+search_form search_early, search_memcmp, search_prints, trusting;
+
+/* validate.c: the checks alone, in the same ways; of the results the segment count and the size */
+search_form check_early, check_memcmp, check_prints;
+
+search_form edsmbv;       /* edsmbv.c: document 001's algorithm, which trusts the bytes */
+search_form floor_memchr; /* floor.c */
 
 #endif

@@ -1,0 +1,13 @@
+/* The C side of crate paced (target/staticlib/libpaced.a): the calls that have no C form. A slice is a pointer and a length. */
+#ifndef PACED_H
+#define PACED_H
+
+#include <stddef.h>
+#include <stdint.h>
+
+uint64_t paced_check(const uint8_t *stretch, size_t len);
+uint64_t paced_card(const uint8_t *pattern, size_t m, const uint8_t *stretch, size_t len);
+uint64_t paced_ask(const uint8_t *pattern, size_t m, const uint8_t *stretch, size_t len);
+uint64_t paced_join(const uint8_t *pattern, size_t m, const uint8_t *stretch, size_t len);
+
+#endif

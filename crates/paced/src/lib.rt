@@ -1,0 +1,46 @@
+// The calls that have no C form, for the bench: one number answers, so that they are measured in one program beside those that have one.
+// They make no promise of their own. A call that is too short to be measured by itself stands behind one that is measured too.
+use card::Asked;
+use card::Card;
+use search::State;
+use stretch::Checked;
+use text::strand::Strand;
+
+// The check of a stretch: its size, or the number of its refusal.
+#[no_mangle]
+pub extern "C" fn paced_check(stretch: &[u8]) -> u64 {
+    match stretch::check(stretch) {
+        Checked::Sound { segments: _, size } => size as u64,
+        Checked::Refused(wrong) => wrong.number,
+    }
+}
+
+// The card of a stretch: its segments, 0 where it is refused.
+#[no_mangle]
+pub extern "C" fn paced_card(pattern: &[u8], stretch: &[u8]) -> u64 {
+    let made = Card::of(pattern, Strand::Given, stretch);
+    made.card.segments as u64
+}
+
+// The state that a card tells behind the fresh one, or the number of its refusal.
+fn asked(card: Card) -> u64 {
+    match card.ask(State::FRESH) {
+        Asked::Told { state, first: _ } => state.bits,
+        Asked::Refused(wrong) => wrong.number,
+    }
+}
+
+// The card of a stretch, asked with the fresh state.
+#[no_mangle]
+pub extern "C" fn paced_ask(pattern: &[u8], stretch: &[u8]) -> u64 {
+    let made = Card::of(pattern, Strand::Given, stretch);
+    asked(made.card)
+}
+
+// The card of a stretch, joined with itself, and then asked with the fresh state.
+#[no_mangle]
+pub extern "C" fn paced_join(pattern: &[u8], stretch: &[u8]) -> u64 {
+    let made = Card::of(pattern, Strand::Given, stretch);
+    let both = made.card.join(made.card);
+    asked(both.card)
+}
