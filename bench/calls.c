@@ -22,6 +22,7 @@ FORM(through)
 {
     return cerantuh_search_from(pattern, m, CERANTUH_FRESH_STATE, stretch, len, marks, marks_len, block, block_len);
 }
+FORM(first) { return UNUSED, cerantuh_first(pattern, m, CERANTUH_FRESH_STATE, stretch, len, block, CERANTUH_FIRST_BLOCK); }
 FORM(check) { return UNUSED, paced_check(stretch, len); }
 FORM(card) { return UNUSED, paced_card(pattern, m, stretch, len); }
 FORM(card_ask) { return UNUSED, paced_ask(pattern, m, stretch, len); }
@@ -35,7 +36,7 @@ static int anything(uint64_t answer, const struct question *question, const stru
     return (void)answer, (void)question, (void)expected, 1;
 }
 
-/* The answer and the first two results: the segment count and the size. */
+/* The answer and the first two results: the segment count and the size, or the first hit and the state. */
 static int summed(uint64_t answer, const struct question *question, const struct expected *expected)
 {
     (void)question;
@@ -85,8 +86,8 @@ static int asked_twice(uint64_t answer, const struct question *question, const s
     return answer == again.results[3];
 }
 
-/* What a call looks for: the pattern on a strand, on either, or nothing, which is the check of a stretch alone. */
-enum looks { ON_GIVEN, ON_OPPOSITE, ON_EITHER, FOR_NOTHING, LOOKS };
+/* What a call looks for: the pattern on a strand, on either, its first hit, or nothing, which is the check of a stretch alone. */
+enum looks { ON_GIVEN, ON_OPPOSITE, ON_EITHER, FOR_FIRST, FOR_NOTHING, LOOKS };
 
 static const struct call {
     const char *name;
@@ -102,6 +103,7 @@ static const struct call {
     {"borders_opposite", cerantuh_search_borders_opposite, ON_OPPOSITE, 1, marked},
     {"either", cerantuh_search_either, ON_EITHER, 1, marked},
     {"through", through, ON_GIVEN, 1, stated},
+    {"first", first, FOR_FIRST, 1, summed},
     {"check", check, FOR_NOTHING, 1, sized},
     {"card", card, ON_GIVEN, 1, segments},
     {"card_ask", card_ask, ON_GIVEN, 0, asked},
@@ -141,6 +143,7 @@ static void expect(const struct question *question, struct expected expected[LOO
     reference_from(GIVEN, pattern, m, fresh, stretch, len, most, room, expected + ON_GIVEN);
     reference_from(OPPOSITE, pattern, m, fresh, stretch, len, most, room, expected + ON_OPPOSITE);
     reference_either(pattern, m, stretch, len, most, room, expected + ON_EITHER);
+    reference_first(GIVEN, pattern, m, fresh, stretch, len, CERANTUH_FIRST_BLOCK, expected + FOR_FIRST);
     reference_from(GIVEN, (const uint8_t *)"A", 1, fresh, stretch, len, most, room, expected + FOR_NOTHING);
 }
 

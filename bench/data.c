@@ -1,4 +1,4 @@
-/* The bench's stretches (data.h): one like real ones, two of 001's setting, worst cases, and document 01's D. */
+/* The bench's stretches (data.h): one like real ones, two of 001's setting, worst cases, document 01's D, and two for the first hit. */
 #include "data.h"
 
 #include "braces.h"
@@ -123,6 +123,18 @@ static void empties(struct made *made, size_t most)
     }
 }
 
+/* A segment that spells the pattern, alone or with a text like kg behind it. */
+static void hit_at_once(struct made *made, size_t most, size_t m, uint8_t *pattern, int alone)
+{
+    made_begin(made);
+    put_plain(made, MOST_BASES, most);
+    memcpy(pattern, made->bytes + made->segment_at[0] + 3, m);
+    if (!alone) {
+        kg(made, most);
+    }
+    made_end(made);
+}
+
 /* Letters from the middle segment on, by the first variant of each; what is missing is random. */
 static void pattern_of(const struct made *made, size_t m, uint8_t *pattern)
 {
@@ -150,6 +162,10 @@ int data_make(const char *name, size_t number, size_t most, size_t m, struct mad
     if (strcmp(name, "D") == 0) {
         braces("{CGA,G}{e,T}{TTAC,AT}{TA,e}{A,GATTAG}", made);
         memcpy(pattern, "GATTA", 5);
+        return 1;
+    }
+    if (strcmp(name, "front") == 0 || strcmp(name, "alone") == 0) {
+        hit_at_once(made, most, m, pattern, name[0] == 'a');
         return 1;
     }
     for (size_t i = 0; i < sizeof known / sizeof *known; i++) {

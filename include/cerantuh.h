@@ -1,9 +1,12 @@
-/* Cerantuh's C forms: the searches and the feed, on either strand, for x86-64 Linux. Link target/staticlib/libcerantuh.a, which
-   'rt staticlib cerantuh' builds. docs/FORMAT.md has the bytes of a stretch and says when each refusal is given.
+/* Cerantuh's C forms: the searches, the first hit and the feed, on either strand, for x86-64 Linux. Link
+   target/staticlib/libcerantuh.a, which 'rt staticlib cerantuh' builds. docs/FORMAT.md has the bytes of a stretch and says when each
+   refusal is given.
 
    Which form. cerantuh_search_bits, _borders and _either, and those on the opposite strand, speak of ONE stretch. A text of many
    stretches is searched by cerantuh_search_from with the state handed on: an occurrence that begins in one stretch and ends in a
-   later one is seen by no search of each stretch alone. cerantuh_feed is for segments that come one by one.
+   later one is seen by no search of each stretch alone. cerantuh_first is for whoever asks only whether a text is clear: the state is
+   handed on in the same way, and a stretch is read up to the first segment in which something ends. cerantuh_feed is for segments that
+   come one by one.
 
    Memory. Every pointer comes with its length in bytes, and lends that many bytes for the time of the call. The caller owns
    them before and after; nothing is kept, nothing is allocated, nothing is freed. A slice of length 0 may have any pointer,
@@ -35,11 +38,14 @@ extern "C" {
 #define CERANTUH_MOST_SEGMENTS 10922    /* segments of a stretch, at most: a mark buffer of so many bytes always suffices */
 #define CERANTUH_SEARCH_BLOCK 24        /* bytes of a search's results */
 #define CERANTUH_FROM_BLOCK 32          /* bytes of the results of a search from a state */
+#define CERANTUH_FIRST_BLOCK 16         /* bytes of the results of the first hit */
 #define CERANTUH_FEED_BLOCK 16          /* bytes of a feed's results */
 #define CERANTUH_FRESH_STATE 1          /* the state before the first segment */
+#define CERANTUH_NO_SEGMENT 4294967295  /* what the first hit gives in the place of a segment where nothing ends */
 
 /* The refusals. The first that applies is given, in this order: 1, 2, 3, 4, 17 from the forms that take a state, then 5
-   to 8 in the order of the bytes (of one variant 5, then 7, then 8), 9, 16, and 10 last. */
+   to 8 in the order of the bytes (of one variant 5, then 7, then 8), 9, 16, and 10 last. Where a first hit was found, none of 5 to 9 and
+   16 is given, whatever stands behind it. */
 enum cerantuh_refusal {
     CERANTUH_ACCEPTED = 0,
     CERANTUH_PATTERN_EMPTY = 1,
@@ -51,7 +57,7 @@ enum cerantuh_refusal {
     CERANTUH_LETTER = 7,            /* a letter that is not A, C, G, T or N, nor one of them in lower case; place: that letter */
     CERANTUH_REPEATED = 8,          /* a variant equal to an earlier one of its segment; place: its length field */
     CERANTUH_BYTES_LEFT = 9,        /* bytes after the last segment; place: the first of them */
-    CERANTUH_TOO_SHORT = 10,        /* marks_len below the segment count, or block_len below 24 (32 from a state, 16 for the feed) */
+    CERANTUH_TOO_SHORT = 10,        /* marks_len below the segment count, or block_len below the bytes of the results */
     CERANTUH_SEGMENTS = 16,         /* over 10,922 segments; the 32,768 bytes have no room for them, so it never comes */
     CERANTUH_STATE = 17             /* bit 0 clear, or a bit set from the pattern's length up */
 };
@@ -116,6 +122,24 @@ uint64_t cerantuh_search_from(const uint8_t *pattern, size_t pattern_len, uint64
 uint64_t cerantuh_search_from_opposite(const uint8_t *pattern, size_t pattern_len, uint64_t state, const uint8_t *stretch,
                                        size_t stretch_len, uint8_t *marks, size_t marks_len, uint8_t *block,
                                        size_t block_len);
+
+/* Asks whether a stretch is clear, and if not, for the first segment in which an occurrence ends. Nothing behind that segment is read, so
+   that no fault there is seen; of a clear stretch all is read. A fault before any end, or inside the segment itself, is refused. The
+   stretches of a text are asked in order: the first from CERANTUH_FRESH_STATE, each other from the state that the one before gave, until
+   something ends or a call is refused. The text is clear if every one of its stretches was accepted and gave CERANTUH_NO_SEGMENT.
+
+   pattern  the bases of the pattern, the same at each stretch
+   state    as for cerantuh_search_from: the states of the two are the same, so that either may follow the other
+   stretch  the bytes of the stretch
+   block    lent for the results, 16 bytes: result 0 is the first segment of this stretch in which an occurrence ends, wherever it
+            begins, or CERANTUH_NO_SEGMENT; 1 is the next state where nothing ends, and 0, which is no state, where something does; bytes
+            from 16 on stay */
+uint64_t cerantuh_first(const uint8_t *pattern, size_t pattern_len, uint64_t state, const uint8_t *stretch, size_t stretch_len,
+                        uint8_t *block, size_t block_len);
+
+/* The same on the opposite strand: whoever asks for both strands keeps a state for each. */
+uint64_t cerantuh_first_opposite(const uint8_t *pattern, size_t pattern_len, uint64_t state, const uint8_t *stretch,
+                                 size_t stretch_len, uint8_t *block, size_t block_len);
 
 /* Feeds one segment to a search that goes from segment to segment: the first is fed with CERANTUH_FRESH_STATE, each other with
    the state that the one before gave. Feeding costs some 1,000 instructions a segment for its tables (500 to 1,400, by the

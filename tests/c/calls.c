@@ -12,7 +12,8 @@ uint64_t calls_made;
 
 static const char *const form_names[FORMS] = {
     "cerantuh_search_bits", "cerantuh_search_borders", "cerantuh_search_bits_opposite", "cerantuh_search_borders_opposite",
-    "cerantuh_search_either", "cerantuh_search_from", "cerantuh_search_from_opposite", "cerantuh_feed", "cerantuh_feed_opposite",
+    "cerantuh_search_either", "cerantuh_search_from", "cerantuh_search_from_opposite", "cerantuh_first", "cerantuh_first_opposite",
+    "cerantuh_feed", "cerantuh_feed_opposite",
 };
 static const char *const placement_names[PLACEMENTS] = {"slices start behind a page", "slices end at a page"};
 
@@ -111,11 +112,14 @@ void call_expect(enum form form, const struct call *call, struct expected *expec
         [SEARCH_BITS_OPPOSITE] = OPPOSITE,
         [SEARCH_BORDERS_OPPOSITE] = OPPOSITE,
         [SEARCH_FROM_OPPOSITE] = OPPOSITE,
+        [FIRST_OPPOSITE] = OPPOSITE,
         [FEED_OPPOSITE] = OPPOSITE,
     };
     enum strand strand = strands[form];
     if (form >= FEED) {
         reference_feed(strand, call->pattern, call->m, call->state, call->bytes, call->len, call->block_len, expected);
+    } else if (form >= FIRST) {
+        reference_first(strand, call->pattern, call->m, call->state, call->bytes, call->len, call->block_len, expected);
     } else if (form >= SEARCH_FROM) {
         reference_from(strand, call->pattern, call->m, call->state, call->bytes, call->len, call->marks_len, call->block_len, expected);
     } else if (form == SEARCH_EITHER) {
@@ -132,9 +136,11 @@ static uint64_t run(enum form form, const struct call *call, enum placement plac
     uint8_t *marks = room_lend(&marks_room, placement, NULL, call->marks_len);
     uint8_t *block = room_lend(&block_room, placement, NULL, call->block_len);
     expect_results(expected);
-    if (form >= FEED) {
-        return (form == FEED ? cerantuh_feed : cerantuh_feed_opposite)(pattern, call->m, call->state, bytes, call->len, block,
-                                                                        call->block_len);
+    if (form >= FIRST) {
+        static uint64_t (*const unmarked[])(const uint8_t *, size_t, uint64_t, const uint8_t *, size_t, uint8_t *, size_t) = {
+            cerantuh_first, cerantuh_first_opposite, cerantuh_feed, cerantuh_feed_opposite,
+        };
+        return unmarked[form - FIRST](pattern, call->m, call->state, bytes, call->len, block, call->block_len);
     }
     if (form >= SEARCH_FROM) {
         return (form == SEARCH_FROM ? cerantuh_search_from : cerantuh_search_from_opposite)(

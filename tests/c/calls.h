@@ -7,7 +7,7 @@
 
 #include <stdbool.h>
 
-/* The searches of one stretch, those from a state, then the feeds. */
+/* The searches of one stretch, those from a state, the first hit from a state, then the feeds. */
 enum form {
     SEARCH_BITS,
     SEARCH_BORDERS,
@@ -16,6 +16,8 @@ enum form {
     SEARCH_EITHER,
     SEARCH_FROM,
     SEARCH_FROM_OPPOSITE,
+    FIRST,
+    FIRST_OPPOSITE,
     FEED,
     FEED_OPPOSITE,
     FORMS
@@ -24,7 +26,7 @@ enum form {
 struct call {
     const uint8_t *pattern;
     size_t m;
-    uint64_t state; /* only the searches from a state and the feeds take it */
+    uint64_t state; /* the searches of one stretch do not take it */
     const uint8_t *bytes;
     size_t len;
     size_t marks_len; /* only the searches take it */

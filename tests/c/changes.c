@@ -1,5 +1,5 @@
-/* Every truncation of some stretches, and every change of one byte of them: each is one call of each search, and of the feed for
-   each segment alone. Where a state is taken, all lengths are carried. */
+/* Every truncation of some stretches, and every change of one byte of them: each is one call of each search and of the first hit, and of
+   the feed for each segment alone. Where a state is taken, all lengths are carried; the first hit is asked from the fresh state too. */
 #include "braces.h"
 #include "groups.h"
 #include "tally.h"
@@ -15,14 +15,22 @@ static const struct {
     {"ACACA", "{C}{A,C}{AC,ACC,CACA}{C,e}{A,AC}{C}"},
     {"GATTACAGATTACA", "{GATTACAGAT}{e}{T,TA,TAC}{A,CA,ACA}{GATTACAGATTACAGATTACA}"},
     {"T", "{e}{A,C,G,T,AA,AC,AG,AT,CA,CC,CG,CT,GA,GC,GG,GT,TA,TC,TG,TT}{e}"},
+    {"GA", "{C,gA,CA}{TT,e}{G,GC,N}{AA,A}"},       /* the first hit is in the first segment */
+    {"ACGT", "{AC,N}{e,G}{c,C}{T,gt}"},            /* in the last */
+    {"ACGTA", "{AC,cA}{e,n}{GT,TT}{C,G}"},         /* and in none, on neither strand */
 };
 
-/* A search of the first len bytes, or, where feeds is set, a feed of those of a lone segment. */
+/* A search of the first len bytes and their first hit, or, where feeds is set, a feed of those of a lone segment. */
 static void try_part(const char *pattern, const uint8_t *bytes, size_t len, bool feeds)
 {
     struct call call = {(const uint8_t *)pattern, strlen(pattern), 1, bytes, len, 8, feeds ? 16 : 24};
     call.state = ((uint64_t)1 << call.m) - 1;
     (feeds ? try_feed : try_searches)(&call);
+    if (!feeds) {
+        try_first(&call);
+        call.state = 1;
+        try_first(&call);
+    }
 }
 
 static void cut(const char *pattern, const uint8_t *bytes, size_t len, bool feeds)

@@ -25,6 +25,16 @@ static void feed_all(const struct call *search, const char *marks, const uint64_
     }
 }
 
+/* The first segment that is marked 1 here. */
+static void first_hit(const struct call *search, const char *marks)
+{
+    static struct expected expected;
+    const char *hit = strchr(marks, '1');
+    try_first(search);
+    call_expect(FIRST, search, &expected);
+    tally_check(expected.results[0] == (hit == NULL ? NO_HIT : (uint64_t)(hit - marks)), "the first hit is not the one written here");
+}
+
 static void example(const char *pattern, const char *text, const char *marks, uint64_t size, const uint64_t *states)
 {
     static struct expected expected;
@@ -41,6 +51,7 @@ static void example(const char *pattern, const char *text, const char *marks, ui
     }
     tally_check(expected.results[1] == size, "the size is not the one written here");
     tally_check(expected.results[2] == ones, "the number of ends is not the one written here");
+    first_hit(&call, marks);
     feed_all(&call, marks, states);
 }
 

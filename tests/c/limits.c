@@ -40,6 +40,7 @@ static void bases(void)
             feed.m = tried[i];
             call.state = feed.state;
             try_searches(&call);
+            try_first(&call);
             try_feed(&feed);
         }
     }
@@ -56,9 +57,11 @@ static void states(void)
         for (size_t r = 0; r < 64; r++) {
             call.state = (uint64_t)1 << r | 1;
             try_refused_from(&call, r < m ? 0 : 17, 0);
+            try_refused_first(&call, r < m ? 0 : 17, 0);
         }
         call.state = feed_of(m).state - 1;
         try_refused_from(&call, 17, 0);
+        try_refused_first(&call, 17, 0);
     }
 }
 
@@ -69,6 +72,7 @@ static void bytes(void)
         make_one_variant(len - 5);
         struct call call = call_of(64), short_call = call_of(3);
         try_refused_searches(&call, len > MOST_BYTES ? 4 : 0, 0);
+        try_refused_first(&call, len > MOST_BYTES ? 4 : 0, 0);
         try_searches(&short_call);
         tally_test("a variant that makes a lone segment of %zu bytes", len);
         make_one_variant(len - 3);
@@ -96,6 +100,7 @@ static void segments(void)
     struct call call = call_of(2);
     tally_check(made.len == MOST_BYTES, "10,922 segments of the empty variant have not 32,768 bytes");
     try_refused_searches(&call, 0, 0);
+    try_refused_first(&call, 0, 0);
     tally_test("10,922 segments, a mark buffer one shorter and one longer");
     call.marks_len = MOST_SEGMENTS - 1;
     try_refused_searches(&call, 10, 0);
@@ -104,8 +109,10 @@ static void segments(void)
     tally_test("10,923 and 65,535 segments stated");
     made.bytes[0]++;
     try_refused_searches(&call, 5, MOST_BYTES);
+    try_refused_first(&call, 5, MOST_BYTES);
     made.bytes[0] = made.bytes[1] = 255;
     try_refused_searches(&call, 5, MOST_BYTES);
+    try_refused_first(&call, 5, MOST_BYTES);
 }
 
 /* {A,e} as often as it fits: every length is carried past every segment. */
@@ -122,6 +129,7 @@ static void carried(void)
         tally_test("%zu bases in segments of A and the empty variant", m);
         struct call call = call_of(m);
         try_searches(&call);
+        try_first(&call);
     }
 }
 
@@ -184,6 +192,7 @@ static void lent(void)
         feed.len = 3;
         try_refused_searches(&call, block_len < 24 ? 10 : 0, 0);
         try_refused_from(&call, block_len < 32 ? 10 : 0, 0);
+        try_refused_first(&call, block_len < 16 ? 10 : 0, 0);
         try_refused_feeds(&feed, block_len < 16 ? 10 : 0, 0);
     }
 }

@@ -48,6 +48,7 @@ static void damaged_text(struct random *random)
     damage_any(random, &made, &other);
     call.len = made.len;
     try_searches(&call);
+    try_first(&call);
 }
 
 /* A lone segment, sound or damaged, fed with any state that the pattern allows, and now and then with one that it does not. */

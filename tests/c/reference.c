@@ -86,6 +86,7 @@ static uint64_t read_segment(const uint8_t *bytes, size_t len, size_t *at, struc
     for (size_t k = 0; k < count; k++) {
         uint64_t refusal = read_variant(bytes, len, at, text);
         if (refusal != 0) {
+            text->segment_count--; /* it does not read whole */
             return refusal;
         }
     }
@@ -96,7 +97,6 @@ static uint64_t read_segment(const uint8_t *bytes, size_t len, size_t *at, struc
    for a segment more than MOST_SEGMENTS. */
 static uint64_t read_segments(const uint8_t *bytes, size_t len, size_t at, size_t count, struct text *text)
 {
-    text->segment_count = text->variant_count = 0;
     for (size_t k = 0; k < count; k++) {
         uint64_t refusal = read_segment(bytes, len, &at, text);
         if (refusal != 0) {
@@ -106,8 +106,11 @@ static uint64_t read_segments(const uint8_t *bytes, size_t len, size_t at, size_
     return at < len ? refused(9, at) : 0;
 }
 
+static void forget(struct text *text) { text->segment_count = text->variant_count = 0; }
+
 uint64_t reference_read(const uint8_t *stretch, size_t len, struct text *text)
 {
+    forget(text);
     if (len > MOST_BYTES) {
         return refused(4, 0);
     }
@@ -288,6 +291,44 @@ void reference_from(enum strand strand, const uint8_t *pattern, size_t m, uint64
     }
 }
 
+/* The first segment in which an occurrence ends, or NO_HIT; carried goes up to it. */
+static uint64_t first_end(const uint8_t *pattern, size_t m, bool *carried, const struct text *text)
+{
+    bool next[MOST_BASES];
+    for (size_t j = 0; j < text->segment_count; j++) {
+        if (pass(pattern, m, carried, text, j, next)) {
+            return j;
+        }
+        memcpy(carried, next, sizeof next);
+    }
+    return NO_HIT;
+}
+
+void reference_first(enum strand strand, const uint8_t *pattern, size_t m, uint64_t state, const uint8_t *stretch, size_t len,
+                     size_t block_len, struct expected *out)
+{
+    static struct text text;
+    bool carried[MOST_BASES];
+    uint8_t turned[MOST_BASES] = {0};
+    out->result_count = out->mark_count = 0;
+    out->answer = entry_refusal(pattern, m, state, len);
+    if (out->answer != 0) {
+        return;
+    }
+    uint64_t fault = reference_read(stretch, len, &text);
+    lengths_in(state, carried);
+    uint64_t first = first_end(read_on(strand, pattern, m, turned), m, carried, &text);
+    out->answer = first == NO_HIT ? fault : 0;
+    if (out->answer == 0 && block_len < 16) {
+        out->answer = refused(10, 0);
+    }
+    if (out->answer == 0) {
+        out->result_count = 2;
+        out->results[0] = first;
+        out->results[1] = first == NO_HIT ? state_of(m, carried) : 0;
+    }
+}
+
 void reference_either(const uint8_t *pattern, size_t m, const uint8_t *stretch, size_t len, size_t marks_len, size_t block_len,
                       struct expected *out)
 {
@@ -309,6 +350,7 @@ void reference_feed(enum strand strand, const uint8_t *pattern, size_t m, uint64
     out->result_count = out->mark_count = 0;
     out->answer = entry_refusal(pattern, m, state, len);
     if (out->answer == 0) {
+        forget(&text);
         out->answer = read_segments(segment, len, 0, 1, &text);
     }
     if (out->answer == 0 && block_len < 16) {

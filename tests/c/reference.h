@@ -47,6 +47,12 @@ void reference_search(enum strand strand, const uint8_t *pattern, size_t m, cons
 /* From a state: 1, 2, 3, 4, 17, then as the search; the fourth result is the state behind the stretch. */
 void reference_from(enum strand strand, const uint8_t *pattern, size_t m, uint64_t state, const uint8_t *stretch, size_t len,
                     size_t marks_len, size_t block_len, struct expected *out);
+
+/* The first hit: 1, 2, 3, 4, 17; then the first of the segments that read whole before the first fault in which an occurrence ends, and
+   the state 0; else that fault's refusal, or NO_HIT and the state behind a sound stretch; 10 last. */
+#define NO_HIT 4294967295
+void reference_first(enum strand strand, const uint8_t *pattern, size_t m, uint64_t state, const uint8_t *stretch, size_t len,
+                     size_t block_len, struct expected *out);
 void reference_feed(enum strand strand, const uint8_t *pattern, size_t m, uint64_t state, const uint8_t *segment, size_t len,
                     size_t block_len, struct expected *out);
 
@@ -54,7 +60,7 @@ void reference_feed(enum strand strand, const uint8_t *pattern, size_t m, uint64
 void reference_either(const uint8_t *pattern, size_t m, const uint8_t *stretch, size_t len, size_t marks_len, size_t block_len,
                       struct expected *out);
 
-/* The text of a stretch, or its refusal (number + 256 * place). */
+/* The text of a stretch; or its refusal (number + 256 * place), and the segments that read whole before the fault. */
 uint64_t reference_read(const uint8_t *stretch, size_t len, struct text *text);
 
 /* The marks of a text once more, by trying every start of an occurrence by itself: slow, and the definition to the letter. */

@@ -33,6 +33,14 @@ static void from(uint64_t number, uint64_t place, const char *pattern, uint64_t 
     try_refused_from(&call, number, place);
 }
 
+static void first(uint64_t number, uint64_t place, const char *pattern, uint64_t state, const char *stretch, size_t len,
+                  size_t block_len)
+{
+    struct call call = call_of(pattern, state, stretch, len, 0, block_len);
+    tally_test("first hit: %d at %d", (int)number, (int)place);
+    try_refused_first(&call, number, place);
+}
+
 static void feed(uint64_t number, uint64_t place, const char *pattern, uint64_t state, const char *segment, size_t len,
                  size_t block_len)
 {
@@ -102,6 +110,44 @@ static void froms(void)
     from(0, 0, "AC", 3, SOUND, 13, 2, 32);
 }
 
+/* GC, its own opposite, ends nowhere in the stretch; AT, too, ends in the first segment of HELD, and what stands behind is not read. */
+#define HELD "\2\0" "\1\2\0AT"
+
+static void firsts(void)
+{
+    first(1, 0, "", 3, SOUND, 13, 16);
+    first(2, 0, LONG, 3, SOUND, 13, 16);
+    first(3, 1, "G-C", 3, SOUND, 13, 16);
+    first(3, 1, "Gc", 3, SOUND, 13, 16);
+    first(4, 0, "GC", 3, NULL, 0, 16);
+    first(4, 0, "AT", 3, NULL, 0, 16);
+    first(17, 0, "AT", 0, HELD, 7, 16);
+    first(17, 0, "AT", 2, HELD, 7, 16);
+    first(17, 0, "AT", 5, HELD, 7, 16);
+    first(17, 0, "A", 3, HELD, 7, 16);
+    first(17, 0, "AT", 0x8000000000000001, HELD, 7, 16);
+    first(5, 0, "GC", 1, SOUND, 1, 16);
+    first(5, 2, "GC", 1, SOUND, 2, 16);
+    first(5, 9, "GC", 1, SOUND, 9, 16);
+    first(5, 3, "AT", 1, HELD, 6, 16);                         /* the segment itself does not read whole */
+    first(6, 7, "GC", 1, "\2\0" "\1\2\0AC" "\0", 8, 16);
+    first(7, 6, "GC", 1, "\2\0" "\2\2\0AX\0\0" "\1\1\0G", 13, 16);
+    first(7, 9, "AT", 1, "\1\0" "\2\2\0AT\1\0X", 10, 16); /* a fault in the segment of the hit, behind it */
+    first(8, 7, "GC", 1, "\1\0" "\2\2\0AC\2\0AC", 11, 16);
+    first(8, 7, "AT", 1, "\1\0" "\2\2\0AT\2\0at", 11, 16);
+    first(9, 13, "GC", 1, SOUND "\0", 14, 16);
+    first(10, 0, "GC", 1, SOUND, 13, 15);
+    first(10, 0, "GC", 1, SOUND, 13, 0);
+    first(10, 0, "AT", 1, HELD, 7, 15);                        /* of a hit too */
+    first(10, 0, "AT", 1, HELD, 7, 0);
+    first(0, 0, "GC", 1, SOUND, 13, 16);
+    first(0, 0, "AT", 1, HELD, 7, 16);                         /* the bytes end behind the hit: no matter */
+    first(0, 0, "AT", 1, HELD "\0", 8, 16);                    /* and what stands there */
+    first(0, 0, "AT", 1, HELD "\1\1\0X", 11, 16);
+    first(0, 0, "AT", 1, HELD "\2\0\0\0\0", 12, 16);
+    first(0, 0, "AT", 1, "\1\0" "\1\2\0AT" "\0", 8, 16);
+}
+
 static void feeds(void)
 {
     feed(1, 0, "", 1, FIRST, 7, 16);
@@ -155,6 +201,19 @@ static void orders(void)
     from(7, 8, "AC", 3, "\1\0" "\3\1\0A\1\0X\1\0A", 12, 0, 0);
     from(8, 6, "AC", 3, "\1\0" "\3\1\0A\1\0A\1\0X", 12, 0, 0);
     from(9, 5, "AC", 3, "\1\0" "\1\0\0" "\0", 6, 0, 0);
+    first(1, 0, "", 0, NULL, 0, 0);
+    first(2, 0, LONG "N", 0, NULL, 0, 0);
+    first(3, 1, "AN", 0, NULL, 0, 0);
+    first(4, 0, "GC", 0, NULL, 0, 0);
+    first(17, 0, "GC", 0, "", 0, 0);
+    first(17, 0, "AT", 4, HELD, 7, 0);
+    first(5, 0, "GC", 3, "", 0, 0);
+    first(6, 2, "GC", 1, "\2\0" "\0" "\1\1\0X", 7, 0);
+    first(7, 8, "GC", 1, "\1\0" "\3\1\0A\1\0X\1\0A", 12, 0);
+    first(8, 6, "GC", 1, "\1\0" "\3\1\0A\1\0A\1\0X", 12, 0);
+    first(9, 5, "GC", 1, "\1\0" "\1\0\0" "\0", 6, 0);
+    first(6, 2, "AT", 1, "\2\0" "\0" "\1\2\0AT", 8, 0);        /* a fault before the hit */
+    first(10, 0, "AT", 1, HELD "\0", 8, 0);                      /* the hit before a later fault, and then its room */
     feed(1, 0, "", 0, NULL, 0, 0);
     feed(2, 0, LONG, 0, NULL, 0, 0);
     feed(3, 0, "N", 0, NULL, 0, 0);
@@ -171,6 +230,8 @@ void refusals(void)
     searches();
     tally_group("refusals of the search from a state");
     froms();
+    tally_group("refusals of the first hit");
+    firsts();
     tally_group("refusals of the feed");
     feeds();
     tally_group("the order of refusals");

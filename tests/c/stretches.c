@@ -13,9 +13,10 @@ static struct expected of_whole, of_part, of_other;
 
 /* The forms of a strand. */
 struct forms {
-    enum form from, bits, feed;
+    enum form from, bits, first, feed;
 };
-static const struct forms given = {SEARCH_FROM, SEARCH_BITS, FEED}, opposite = {SEARCH_FROM_OPPOSITE, SEARCH_BITS_OPPOSITE, FEED_OPPOSITE};
+static const struct forms given = {SEARCH_FROM, SEARCH_BITS, FIRST, FEED};
+static const struct forms opposite = {SEARCH_FROM_OPPOSITE, SEARCH_BITS_OPPOSITE, FIRST_OPPOSITE, FEED_OPPOSITE};
 
 struct pattern {
     const uint8_t *bases;
@@ -50,6 +51,28 @@ static void try_cuts(const struct forms *forms, struct pattern pattern, uint64_t
     }
     tally_check(next == of_whole.results[3], "the last state is not the one behind the whole text");
     tally_check(size == of_whole.results[1] && ends == of_whole.results[2], "the sums are not those of the whole text");
+}
+
+/* The first hit of the whole text: the first of its marks, and that of the first stretch in which something ends, when each is asked
+   from the state that the one before gave. */
+static void try_hits(const struct forms *forms, struct pattern pattern, uint64_t state, const size_t *cuts, size_t count)
+{
+    uint64_t next = state, hit = NO_HIT;
+    search(forms->from, pattern, state, &whole, &of_other);
+    search(forms->first, pattern, state, &whole, &of_whole);
+    const uint8_t *mark = memchr(of_other.marks, 1, whole.segment_count);
+    tally_check(of_whole.results[0] == (mark == NULL ? NO_HIT : (uint64_t)(mark - of_other.marks)), "the first hit is not the first mark");
+    tally_check(of_whole.results[1] == (mark == NULL ? of_other.results[3] : 0), "the state is not the one behind a clear text, or 0");
+    for (size_t i = 0, first = 0; i <= count && hit == NO_HIT; i++) {
+        size_t behind = i < count ? cuts[i] : whole.segment_count;
+        made_part(&whole, first, behind, &part);
+        search(forms->first, pattern, next, &part, &of_part);
+        hit = of_part.results[0] == NO_HIT ? NO_HIT : first + of_part.results[0];
+        next = of_part.results[1];
+        first = behind;
+    }
+    tally_check(hit == of_whole.results[0], "the first hit is not that of the whole text");
+    tally_check(next == of_whole.results[1], "the last state is not that of the whole text");
 }
 
 /* Every segment a stretch of its own, beside the same segment fed. */
@@ -92,6 +115,8 @@ static void at_every_segment(const char *bases, const char *text)
     for (size_t cut = 0; cut <= whole.segment_count; cut++) {
         try_cuts(&given, pattern, 1, &cut, 1);
         try_cuts(&opposite, pattern, 1, &cut, 1);
+        try_hits(&given, pattern, 1, &cut, 1);
+        try_hits(&opposite, pattern, 1, &cut, 1);
     }
     try_singles(&given, pattern, 1);
     try_singles(&opposite, pattern, 1);
@@ -110,6 +135,16 @@ static void known(enum form from, const char *bases, uint64_t state, const char 
     }
     tally_check(of_whole.mark_count == strlen(marks), "the number of segments is not the one written here");
     tally_check(of_whole.results[3] == next, "the next state is not the one written here");
+}
+
+/* A stretch whose first hit, or NO_HIT and the next state, is written here by hand. */
+static void hit(enum form first, const char *bases, uint64_t state, const char *text, uint64_t segment, uint64_t next)
+{
+    tally_test("the first hit of %.60s from state %llx in %.60s", bases, (unsigned long long)state, text);
+    braces(text, &whole);
+    search(first, pattern_of(bases), state, &whole, &of_whole);
+    tally_check(of_whole.results[0] == segment, "the segment is not the one written here");
+    tally_check(of_whole.results[1] == next, "the next state is not the one written here");
 }
 
 /* A length that goes past stretch after stretch of empty variants, as many as a stretch can have. */
@@ -157,6 +192,23 @@ static void knowns(void)
     past_empties();
 }
 
+static void hits(void)
+{
+    hit(FIRST, "GATTA", 1, "{CGA,G}{e,T}{TTAC,AT}{TA,e}{A,GATTAG}", 2, 0); /* document 01's D, and its other strand */
+    hit(FIRST_OPPOSITE, "TAATC", 1, "{CGA,G}{e,T}{TTAC,AT}{TA,e}{A,GATTAG}", 2, 0);
+    hit(FIRST_OPPOSITE, "GATTA", 1, "{CGA,G}{e,T}{TTAC,AT}{TA,e}{A,GATTAG}", NO_HIT, 0x0D);
+    hit(FIRST, "ACGTTGCA", 1, "{TTACG,TTAGG}{e,C}", NO_HIT, 0x09);         /* the README's story, cut */
+    hit(FIRST, "ACGTTGCA", 9, "{TTGCAAC,GGA}", 0, 0);
+    hit(FIRST, "ACGTTGCA", 1, "{TTGCAAC,GGA}", NO_HIT, 0x07);
+    hit(FIRST_OPPOSITE, "TGCAACGT", 9, "{TTGCAAC,GGA}", 0, 0);
+    hit(FIRST, "ACGTTGCA", 9, "", NO_HIT, 0x09);                           /* no segments, and one that is empty, change nothing */
+    hit(FIRST, "ACGTTGCA", 9, "{e}", NO_HIT, 0x09);
+    hit(FIRST, "AC", 1, "{A}{e,g}{c}{AC}", 2, 0);                          /* the first of two, in lower case */
+    hit(FIRST, "AC", 1, "{A}{N}{C}{n,a}", NO_HIT, 0x03);                   /* not through an unknown base */
+    hit(FIRST, "A" A63, UINT64_MAX, "{e}{C}{A}", NO_HIT, 0x03);
+    hit(FIRST, "A" A63, UINT64_MAX, "{e}{A}{C}", 1, 0);
+}
+
 /* Places to cut at, in order; where two are the same, a stretch has no segments. */
 static size_t draw_cuts(struct random *random, size_t cuts[MOST_CUTS])
 {
@@ -191,6 +243,7 @@ static void any_text(struct random *random)
     const struct forms *forms = random_below(random, 3) == 0 ? &opposite : &given;
     size_t count = draw_cuts(random, cuts);
     try_cuts(forms, pattern, state, cuts, count);
+    try_hits(forms, pattern, state, cuts, count);
     try_singles(forms, pattern, state);
     try_fresh(forms, pattern);
     try_definition(pattern);
@@ -201,6 +254,7 @@ void stretches(void)
     struct random random = {20170704};
     tally_group("texts of many stretches");
     knowns();
+    hits();
     at_every_segment("ACGTTGCA", "{TTACG,TTAGG}{e,C}{TTGCAAC,GGA}");
     at_every_segment("TGCAACGT", "{TTACG,TTAGG}{e,C}{TTGCAAC,GGA}");
     at_every_segment("GATTA", "{CGA,G}{e,T}{TTAC,AT}{TA,e}{A,GATTAG}");

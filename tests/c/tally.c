@@ -95,6 +95,12 @@ void try_from(const struct call *call)
     try_call(SEARCH_FROM_OPPOSITE, call);
 }
 
+void try_first(const struct call *call)
+{
+    try_call(FIRST, call);
+    try_call(FIRST_OPPOSITE, call);
+}
+
 void try_feed(const struct call *call)
 {
     try_call(FEED, call);
@@ -134,6 +140,12 @@ void try_refused_from(const struct call *call, uint64_t number, uint64_t place)
 {
     try_refusal(SEARCH_FROM, call, number, place);
     try_refusal(SEARCH_FROM_OPPOSITE, call, number, place);
+}
+
+void try_refused_first(const struct call *call, uint64_t number, uint64_t place)
+{
+    try_refusal(FIRST, call, number, place);
+    try_refusal(FIRST_OPPOSITE, call, number, place);
 }
 
 void try_refused_feeds(const struct call *call, uint64_t number, uint64_t place)

@@ -16,6 +16,7 @@ int tally_end(void);
 uint64_t try_call(enum form form, const struct call *call);
 void try_searches(const struct call *call); /* by each search; those from a state get 8 bytes more of block, for the next one */
 void try_from(const struct call *call);     /* by each search from a state */
+void try_first(const struct call *call);    /* the first hit, on each strand */
 void try_feed(const struct call *call);     /* by each feed */
 
 /* Feeds the segments of a text one by one, the first with the search's state, each other with the state that the one before gave.
@@ -29,6 +30,7 @@ void try_feeds(const struct call *search, const struct made *made, struct fed fe
 void try_refusal(enum form form, const struct call *call, uint64_t number, uint64_t place);
 void try_refused_searches(const struct call *call, uint64_t number, uint64_t place);
 void try_refused_from(const struct call *call, uint64_t number, uint64_t place);
+void try_refused_first(const struct call *call, uint64_t number, uint64_t place);
 void try_refused_feeds(const struct call *call, uint64_t number, uint64_t place);
 
 #endif

@@ -25,6 +25,8 @@ static bool aimed_at(const struct aim *aim, int number) { return aim->first == n
 
 static bool feeds(const struct aim *aim) { return aim->form >= FEED; }
 
+static bool marks(const struct aim *aim) { return aim->form < FIRST; }
+
 /* A text and a pattern from it. One in 256 texts is large. Where a segment is needed, one with none is drawn again. */
 static size_t draw(struct random *random, size_t least_segments)
 {
@@ -111,10 +113,10 @@ static uint64_t draw_state(struct random *random, const struct aim *aim, size_t 
 
 static void draw_lent(struct random *random, const struct aim *aim, struct call *call)
 {
-    size_t least = feeds(aim) ? 16 : aim->form >= SEARCH_FROM ? 32 : 24;
+    size_t least = !marks(aim) ? 16 : aim->form >= SEARCH_FROM ? 32 : 24;
     call->marks_len = made.segment_count + random_below(random, 3);
     call->block_len = least + random_below(random, 3);
-    if (aimed_at(aim, 10) && (feeds(aim) || random_below(random, 2) == 0)) {
+    if (aimed_at(aim, 10) && (!marks(aim) || random_below(random, 2) == 0)) {
         call->block_len = random_below(random, least);
     } else if (aimed_at(aim, 10)) {
         call->marks_len = random_below(random, made.segment_count);
@@ -148,7 +150,7 @@ static void choose_faults(struct random *random, struct aim *aim)
     }
 }
 
-/* 45 of 100 calls are searches to be accepted, 10 feeds to be accepted; the others are spread over the refusals. */
+/* 45 of 100 calls are searches or first hits to be accepted, 10 feeds to be accepted; the others are spread over the refusals. */
 static struct aim choose(struct random *random)
 {
     size_t choice = random_below(random, 100);
@@ -170,7 +172,7 @@ static uint64_t counts[256][FORMS];
 static void print_counts(void)
 {
     static const char *const names[FORMS] = {"bits", "borders", "bits_opp.", "borders_opp.", "either",
-                                              "from", "from_opp.", "feed", "feed_opp."};
+                                              "from", "from_opp.", "first", "first_opp.", "feed", "feed_opp."};
     printf("%-12s", "answer");
     for (enum form form = 0; form < FORMS; form++) {
         printf(" %12s", names[form]);
@@ -198,7 +200,7 @@ int main(int argc, char **argv)
 {
     static struct expected expected;
     uint64_t calls = argc > 1 ? strtoull(argv[1], NULL, 10) : 1000, seed = argc > 2 ? strtoull(argv[2], NULL, 10) : 1;
-    uint64_t differences = 0, marked = 0, ends = 0;
+    uint64_t differences = 0, marked = 0, hits = 0, ends = 0;
     struct random random = {seed};
     made_begin(&other);
     made_end(&other);
@@ -208,11 +210,12 @@ int main(int argc, char **argv)
         call_expect(aim.form, &call, &expected);
         differences += !call_agrees(aim.form, &call, (enum placement)random_below(&random, PLACEMENTS), &expected);
         counts[expected.answer & 255][aim.form]++;
-        marked += !feeds(&aim) && expected.answer == 0 && expected.results[2] > 0;
+        marked += marks(&aim) && expected.answer == 0 && expected.results[2] > 0;
+        hits += !marks(&aim) && !feeds(&aim) && expected.answer == 0 && expected.results[0] != NO_HIT;
         ends += feeds(&aim) && expected.answer == 0 && expected.results[1] > 0;
     }
     print_counts();
-    printf("an occurrence ends in %" PRIu64 " texts and %" PRIu64 " fed segments\n", marked, ends);
+    printf("an occurrence ends in %" PRIu64 " marked texts, %" PRIu64 " first hits and %" PRIu64 " fed segments\n", marked, hits, ends);
     printf("seed %" PRIu64 ": %" PRIu64 " calls, %" PRIu64 " differences\n", seed, calls_made, differences);
     return differences > 0;
 }

@@ -4,14 +4,16 @@ use Prim.Native.Nat.{ℕ, _+_, _*_, _/_, _%_, _^_, _≤_, _<_}
 use native.Mathlib.Omega.{arith}
 use mathlib.Core.Path.{_≡_, refl, subst}
 use mathlib.Core.Logic.{_↔_}
-use mathlib.Core.Bool.{Bool, true, false}
+use mathlib.Core.Bool.{Bool, true, false, cond}
 use mathlib.Core.List.{List}
 use borrow.Author.Tests.{leb-true}
 use lib.Dec.{leb, ltb}
 use lib.ListN.{length}
 use Rattle.text.specs.declared.strand.Strand.{Strand}
+use Rattle.text.specs.Card.{none}
 use Rattle.text.specs.Letter.{base, every, firstNot}
 use Rattle.text.specs.State.{isState}
+use Rattle.text.specs.Strand.{onStrand}
 use Rattle.text.specs.Refusal.{Outcome, ok, refused, demand, after, pattern, greatestPattern}
 use Rattle.text.proofs.Letters.{first-le}
 use Rattle.text.proofs.Outcomes.{refused-ok, told-refused}
@@ -20,7 +22,8 @@ use Rattle.stretch.specs.Reading.{stretchOf, segmentOf, loneSegment}
 use Rattle.stretch.specs.Answers.{checking}
 use Rattle.stretch.proofs.Refusals.{Low, stretch-low, segment-low}
 use Rattle.search.specs.Answers.{entering, into, stretchInto, searching, seeking, feeding}
-use Rattle.cerantuh.specs.Forms.{coded, withRoom, searchingInto, seekingInto, feedingInto}
+use Rattle.search.specs.First.{endsIn, firstIn, hitting, firsting}
+use Rattle.cerantuh.specs.Forms.{coded, withRoom, searchingInto, seekingInto, feedingInto, firstingInto}
 
 -- such a number and place
 pub record Small (n p : ℕ) : Type 0 where
@@ -84,6 +87,19 @@ feeding-coded P strand st s =
     let alone : segmentOf s ≡ loneSegment s = rw fit in
     after-coded (loneSegment s) _ (subst Coded alone (low-coded (segmentOf s) (segment-low s))) (λ g. tt)
 
+either-coded : {A : Type 0} (b : Bool) (a : A) (o : Outcome A) → Coded o → Coded (cond b (ok a) o)
+either-coded true a o k = tt
+either-coded false a o k = k
+
+-- a hit refuses nothing, and without one the stretch decides
+firsting-coded : (P : List ℕ) (strand : Strand) (st : ℕ) (s : List ℕ) → Coded (firsting P strand st s)
+unfolding firsting hitting
+firsting-coded P strand st s =
+    let read : List ℕ = onStrand strand P in
+    entering-coded P st s _ λ _.
+    either-coded (ltb (firstIn read st s) none) (endsIn (firstIn read st s)) _
+    (after-coded (stretchOf s) _ (low-coded (stretchOf s) (stretch-low s)) (λ t. tt))
+
 -- with the room of the results asked too
 with-room-coded : {A : Type 0} (bytes block : ℕ) (o : Outcome A) → Coded o → Coded (withRoom bytes block o)
 with-room-coded bytes block o k = after-coded o _ k (λ a. demand-coded (leb bytes block) 10 0 (ok a) (omega arith) (λ _. tt))
@@ -100,6 +116,10 @@ pub feed-form-coded : (P : List ℕ) (strand : Strand) (st : ℕ) (s : List ℕ)
 unfolding feedingInto
 feed-form-coded P strand st s block = with-room-coded 16 block (feeding P strand st s) (feeding-coded P strand st s)
 
+pub first-form-coded : (P : List ℕ) (strand : Strand) (st : ℕ) (s : List ℕ) (block : ℕ) → Coded (firstingInto P strand st s block)
+unfolding firstingInto
+first-form-coded P strand st s block = with-room-coded 16 block (firsting P strand st s) (firsting-coded P strand st s)
+
 -- so is each
 pub refused-small : {A : Type 0} (o : Outcome A) (n p : ℕ) → Coded o → o ≡ refused n p → Small n p
 refused-small o n p k e = subst Coded e k
@@ -113,6 +133,9 @@ checking-small s n p e = omega (arith, stretch-low s n p (told-refused (stretchO
 
 pub feeding-small : (P : List ℕ) (strand : Strand) (st : ℕ) (s : List ℕ) (n p : ℕ) → feeding P strand st s ≡ refused n p → Small n p
 feeding-small P strand st s n p e = refused-small (feeding P strand st s) n p (feeding-coded P strand st s) e
+
+pub firsting-small : (P : List ℕ) (strand : Strand) (st : ℕ) (s : List ℕ) (n p : ℕ) → firsting P strand st s ≡ refused n p → Small n p
+firsting-small P strand st s n p e = refused-small (firsting P strand st s) n p (firsting-coded P strand st s) e
 
 -- the answer fits its 64 bits
 pub coded-fits : {A : Type 0} (o : Outcome A) → Coded o → coded o < 2 ^ 64

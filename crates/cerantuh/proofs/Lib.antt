@@ -5,4 +5,6 @@ pub mod Rooms
 pub mod SearchForms
 pub mod FeedForms
 pub mod FromForms
+pub mod FirstForms
+pub mod HitResults
 pub mod Theorems

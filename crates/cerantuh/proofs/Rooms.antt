@@ -1,21 +1,23 @@
 -- What the C forms answer and leave: where the block has room for the results, and where it is too short.
-use Prim.Native.Nat.{ℕ, _≤_, _<_}
+use Prim.Native.Nat.{ℕ, _+_, _*_, _≤_, _<_}
+use native.Mathlib.Omega.{arith}
 use mathlib.Core.Path.{_≡_, refl, sym, ap, _∙_}
 use mathlib.Core.Bool.{Bool, true, false}
-use mathlib.Core.List.{List}
+use mathlib.Core.List.{List, _++_}
 use borrow.Author.Tests.{le-leb, lt-leb}
 use lib.Dec.{leb}
 use lib.ListN.{length}
-use Rattle.text.specs.declared.strand.Strand.{Strand}
 use Rattle.text.specs.Text.{Text}
 use Rattle.text.specs.Refusal.{Outcome, ok, refused, demand, after, pattern}
 use Rattle.text.proofs.Outcomes.{told-met, told-refused}
 use Rattle.text.proofs.Patterns.{pattern-after, pattern-refused, pattern-sound, sound-pattern}
+use Rattle.stretch.specs.Bytes.{over}
 use Rattle.stretch.specs.Reading.{stretchOf}
 use Rattle.stretch.specs.Answers.{Sum, checking, leftBy}
-use Rattle.search.specs.Answers.{Next, entering, into, searching, seeking, feeding}
+use Rattle.search.specs.Answers.{entering, into, searching, seeking}
 use Rattle.search.proofs.Entries.{entering-after}
-use Rattle.cerantuh.specs.Forms.{coded, withRoom, searchingInto, seekingInto, feedingInto}
+use Rattle.cerantuh.specs.Forms.{lowFirst, coded, withRoom, twoInto, searchingInto, seekingInto}
+use Rattle.cerantuh.proofs.Blocks.{two-put}
 
 -- a value that is told in other words: the same code, and the same bytes left
 pub told-code : {A B : Type 0} (o : Outcome A) (g : A → B) → coded (after o (λ a. ok (g a))) ≡ coded o
@@ -124,16 +126,31 @@ module _ (P : List ℕ) (st : ℕ) (s : List ℕ) (marks block : ℕ) where
   seek-left f d l =
       rw (seek-short l, entering-after P st s (after (stretchOf s) (λ _. roomless))) (none-left (entering P st s (ok (tt {0}))) (stretchOf s) f d)
 
--- the feed decides first; its block is asked last
-module _ (P : List ℕ) (strand : Strand) (st : ℕ) (s : List ℕ) (block : ℕ) where
-  pub feed-room : 16 ≤ block → feedingInto P strand st s block ≡ feeding P strand st s
-  unfolding feedingInto
-  feed-room l = room-enough 16 block (feeding P strand st s) l
+-- what a form without a mark buffer promises of its answer and of the block, where o is what it accepts or refuses
+abbrev pub Answered : {A : Type 0} → (A → List ℕ) → Outcome A → List ℕ → ℕ → List ℕ → Type 0
+Answered f o block r block′ = (r ≡ coded o) × (block′ ≡ leftBy f o block)
 
-  pub feed-not : (n p : ℕ) → feeding P strand st s ≡ refused n p → feedingInto P strand st s block ≡ refused n p
-  unfolding feedingInto
-  feed-not n p e = rw e
+-- one with two results: the call o decides first; the block is asked last
+module _ {A : Type 0} (f : A → List ℕ) (o : Outcome A) (block : List ℕ) where
+  pub two-not : (n p r : ℕ) → o ≡ refused n p → r ≡ n + 256 * p → Answered f (withRoom 16 (length block) o) block r block
+  two-not n p r e is = rw e (is, refl)
 
-  pub feed-short : (x : Next) → feeding P strand st s ≡ ok x → block < 16 → feedingInto P strand st s block ≡ refused 10 0
-  unfolding feedingInto
-  feed-short x e l = rw (e, lt-leb 16 block l)
+  pub two-met :
+      (x : A) (a b r : ℕ) (left : List ℕ) → o ≡ ok x → f x ≡ lowFirst 8 a ++ lowFirst 8 b →
+      Answered (λ l. l) (twoInto a b (length block)) block r left → Answered f (withRoom 16 (length block) o) block r left
+  two-met x a b r left e bytes (is, wrote) = rw e (asked (leb 16 (length block)) is wrote)
+    where
+      asked : (t : Bool) → r ≡ coded (demand t 10 0 (ok (lowFirst 8 a ++ lowFirst 8 b))) →
+          left ≡ leftBy (λ l. l) (demand t 10 0 (ok (lowFirst 8 a ++ lowFirst 8 b))) block → Answered f (demand t 10 0 (ok x)) block r left
+      asked true is wrote = (is, rw bytes wrote)
+      asked false is wrote = (is, wrote)
+
+-- the two results stand in a block that has room for them, and a shorter one is left as it was
+pub two-short : (a b : ℕ) (block : List ℕ) → length block < 16 → Answered (λ l. l) (twoInto a b (length block)) block 10 block
+two-short a b block l = rw (lt-leb 16 (length block) l) (refl, refl)
+
+pub two-room :
+    (a b : ℕ) (block one left : List ℕ) → 16 ≤ length block → one ≡ over block 0 (lowFirst 8 a) → left ≡ over one 8 (lowFirst 8 b) →
+    Answered (λ l. l) (twoInto a b (length block)) block 0 left
+two-room a b block one left l f g =
+    rw (le-leb 16 (length block) l) (refl, g ∙ rw f (two-put block a b (omega arith)))

@@ -5,14 +5,20 @@ use native.Mathlib.Nat.{pow-suc}
 use native.Mathlib.Omega.{arith}
 use mathlib.Core.Path.{_≡_, refl, ap, _∙_}
 use mathlib.Core.Logic.{_↔_}
+use mathlib.Core.Bool.{true}
 use mathlib.Core.List.{List}
 use lib.ListN.{length}
 use Rattle.text.specs.declared.strand.Strand.{Strand}
+use Rattle.text.specs.Card.{none}
+use Rattle.text.specs.State.{isState}
 use Rattle.text.specs.Text.{Text}
 use Rattle.text.specs.Refusal.{ok, refused}
 use Rattle.search.specs.Answers.{Next}
+use Rattle.search.specs.First.{Hit, endsIn, clear}
 use Rattle.cerantuh.specs.Forms.{lowFirst, lowValue, searchingInto, searchAnswer, seekingInto, fromAnswer, feedingInto, feedAnswer}
-use Rattle.cerantuh.proofs.Codes.{coded-zero, coded-apart, search-form-coded, from-form-coded, feed-form-coded}
+use Rattle.cerantuh.specs.Forms.{firstingInto, firstAnswer}
+use Rattle.cerantuh.proofs.HitResults.{segment-below, state-handed}
+use Rattle.cerantuh.proofs.Codes.{coded-zero, coded-apart, search-form-coded, from-form-coded, feed-form-coded, first-form-coded}
 
 -- a search answers 0 exactly when it is accepted
 pub search-zero : (P s marks block : List ℕ) → (searchAnswer P s marks block ≡ 0) ↔ ((t : Text) × (searchingInto P s (length marks) (length block) ≡ ok t))
@@ -42,6 +48,25 @@ feed-zero P strand st s block = coded-zero (feedingInto P strand st s (length bl
 pub feed-apart : (P : List ℕ) (strand : Strand) (st : ℕ) (s block : List ℕ) (n p : ℕ) → feedingInto P strand st s (length block) ≡ refused n p
     → (feedAnswer P strand st s block % 256 ≡ n) × (feedAnswer P strand st s block / 256 ≡ p)
 feed-apart P strand st s block n p e = coded-apart (feedingInto P strand st s (length block)) n p (feed-form-coded P strand st s (length block)) e
+
+-- the same of the first hit
+pub first-zero : (P : List ℕ) (strand : Strand) (st : ℕ) (s block : List ℕ)
+    → (firstAnswer P strand st s block ≡ 0) ↔ ((h : Hit) × (firstingInto P strand st s (length block) ≡ ok h))
+first-zero P strand st s block = coded-zero (firstingInto P strand st s (length block)) (first-form-coded P strand st s (length block))
+
+pub first-apart : (P : List ℕ) (strand : Strand) (st : ℕ) (s block : List ℕ) (n p : ℕ) → firstingInto P strand st s (length block) ≡ refused n p
+    → (firstAnswer P strand st s block % 256 ≡ n) × (firstAnswer P strand st s block / 256 ≡ p)
+first-apart P strand st s block n p e =
+    coded-apart (firstingInto P strand st s (length block)) n p (first-form-coded P strand st s (length block)) e
+
+-- its first result tells a hit from none
+pub first-segment : (P : List ℕ) (strand : Strand) (st : ℕ) (s block : List ℕ) (k : ℕ) → firstingInto P strand st s (length block) ≡ ok (endsIn k) → k < none
+first-segment P strand st s block k e = segment-below P strand st s (length block) k e
+
+-- and the state that it hands on is one: no call with this pattern refuses it, and it is not 0
+pub first-state : (P : List ℕ) (strand : Strand) (st : ℕ) (s block : List ℕ) (next : ℕ) → firstingInto P strand st s (length block) ≡ ok (clear next)
+    → isState (length P) next ≡ true
+first-state P strand st s block next e = state-handed P strand st s (length block) next e
 
 -- the bytes of a number read back as the number
 low-value : (k n : ℕ) → n < 256 ^ k → lowValue (lowFirst k n) ≡ n

@@ -11,6 +11,7 @@ use Rattle.text.specs.Strand.{onStrand}
 use Rattle.text.specs.declared.strand.Strand.{Strand}
 use Rattle.stretch.specs.Answers.{leftBy}
 use Rattle.search.specs.Answers.{Sums, Seen, Next, searching, seeking, seenFrom, feeding}
+use Rattle.search.specs.First.{Hit, Stop, stopOf, firsting}
 
 -- one number answers: the refusal number plus 256 times the place; accepted is 0
 abbrev pub coded : {A : Type 0} → Outcome A → ℕ
@@ -39,9 +40,17 @@ seenBlock x = lowFirst 8 (x .segments) ++ lowFirst 8 (x .size) ++ lowFirst 8 (x 
 unfoldable pub nextBlock : Next → List ℕ
 nextBlock x = lowFirst 8 (x .state) ++ lowFirst 8 (cond (x .ends) 1 0)
 
+-- the block of the first hit: the segment or "none", and the state behind the stretch, 0 where something ends
+unfoldable pub stopBlock : Stop → List ℕ
+stopBlock x = lowFirst 8 (x .segment) ++ lowFirst 8 (x .state)
+
 -- what a form asks last: that its results, of so many bytes, have room in the block; 10
 abbrev pub withRoom : {A : Type 0} → ℕ → ℕ → Outcome A → Outcome A
 withRoom bytes block o = after o λ a. demand (leb bytes block) 10 0 (ok a)
+
+-- two results that go into a block of so many bytes
+abbrev pub twoInto : ℕ → ℕ → ℕ → Outcome (List ℕ)
+twoInto first second block = withRoom 16 block (ok (lowFirst 8 first ++ lowFirst 8 second))
 
 -- a search with a mark buffer and a result block of so many bytes: 10 also where the block is too short
 unfoldable pub searchingInto : List ℕ → List ℕ → ℕ → ℕ → Outcome Text
@@ -82,3 +91,14 @@ feedAnswer P strand st s block = coded (feedingInto P strand st s (length block)
 
 abbrev pub feedBlock : List ℕ → Strand → ℕ → List ℕ → List ℕ → List ℕ
 feedBlock P strand st s block = leftBy nextBlock (feedingInto P strand st s (length block)) block
+
+-- the first hit with a result block of so many bytes: 10 is asked last, of a hit too
+unfoldable pub firstingInto : List ℕ → Strand → ℕ → List ℕ → ℕ → Outcome Hit
+firstingInto P strand st s block = withRoom 16 block (firsting P strand st s)
+
+-- its answer, and what it leaves in the block
+abbrev pub firstAnswer : List ℕ → Strand → ℕ → List ℕ → List ℕ → ℕ
+firstAnswer P strand st s block = coded (firstingInto P strand st s (length block))
+
+abbrev pub firstBlock : List ℕ → Strand → ℕ → List ℕ → List ℕ → List ℕ
+firstBlock P strand st s block = leftBy (λ h. stopBlock (stopOf h)) (firstingInto P strand st s (length block)) block

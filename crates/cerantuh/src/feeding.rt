@@ -1,16 +1,12 @@
 // The feed for C.
 use crate::block::code;
-use crate::block::put;
+use crate::block::two;
 use search::Fed;
 use search::State;
-use text::refusal;
 use text::strand::Strand;
 ghost use mathlib.Core.Path.{_≡_};
 ghost use Rattle.text.specs.declared.strand.Strand.the-variants.{Given, Opposite};
 ghost use Rattle.cerantuh.specs.Forms.{feedAnswer, feedBlock};
-
-// The bytes of a feed's results.
-const FEED_BLOCK: usize = 16;
 
 // The state after a lone segment, and 1 where an occurrence ends in it, of the pattern as the strand reads it. The block's room is asked
 // last.
@@ -21,14 +17,7 @@ fn form(pattern: &[u8], strand: Strand, state: u64, segment: &[u8], block: &mut 
     let before = State { bits: state };
     match before.feed(pattern, strand, segment) {
         Fed::Refused(wrong) => code(wrong),
-        Fed::Next { state: after, ends } => {
-            if block.len() < FEED_BLOCK {
-                return refusal::BUFFER_SHORT;
-            }
-            put(after.bits, &mut *block, 0);
-            put(ends as u64, &mut *block, 8);
-            0
-        }
+        Fed::Next { state: after, ends } => two(after.bits, ends as u64, &mut *block),
     }
 }
 

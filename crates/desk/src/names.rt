@@ -7,15 +7,17 @@ ghost use Rattle.io.specs.Counts.{Counts};
 // No file of names is open: the names are words of the command line.
 const NO_FILE: i32 = -1;
 
-// Where the names come from, and how many there are.
+// Where the names come from, the first word of the command line that may be one, and how many there are.
 pub struct Files {
     pub from: i32,
+    pub word: usize,
     pub count: usize,
 }
 
 // No name is asked for, or none is found.
 const NONE: Files = Files {
     from: NO_FILE,
+    word: 0,
     count: 0,
 };
 
@@ -105,25 +107,30 @@ fn listed(path: &[u8]) -> Files {
         os::fail(path);
         return NONE;
     }
-    Files { from, count }
+    Files {
+        from,
+        word: 0,
+        count,
+    }
 }
 
-// The files that the command line names. Its first two words are the program's and the list's.
-pub fn asked() -> Files {
-    let words = os::arg_count();
+// The files that the command line names from this word on, which stands behind the list's.
+pub fn asked(at: usize) -> Files {
+    let words = std::num::wrapping_sub_usize(os::arg_count(), at);
     let mut word = io::buffer();
-    let n = os::arg(2, &mut word);
+    let n = os::arg(at, &mut word);
     if same(&word[..n], b"-l") {
-        if words != 4 {
+        if words != 2 {
             return NONE;
         }
         let mut path = io::buffer();
-        let m = os::arg(3, &mut path);
+        let m = os::arg(std::num::wrapping_add_usize(at, 1), &mut path);
         return listed(&path[..m]);
     }
     Files {
         from: NO_FILE,
-        count: std::num::wrapping_sub_usize(words, 2),
+        word: at,
+        count: words,
     }
 }
 
@@ -177,7 +184,7 @@ pub fn name_of(files: Files, i: usize, name: &mut [u8]) -> usize
     ensures { λ r. ⌜ Counts r (now (name .exit)) ⌝ }
 {
     if files.from < 0 {
-        return os::arg(std::num::wrapping_add_usize(i, 2), &mut *name);
+        return os::arg(std::num::wrapping_add_usize(i, files.word), &mut *name);
     }
     let n = next_name(files.from, &mut *name);
     bounded(n, name)

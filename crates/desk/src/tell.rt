@@ -46,7 +46,7 @@ pub fn tell_fault(line: u64, fault: Fault) {
 }
 
 // One segment in which a sequence ends. Whether it is written.
-fn tell_hit(label: u64, before: u64, segment: u64, name: &[u8]) -> bool {
+pub fn tell_hit(label: u64, before: u64, segment: u64, name: &[u8]) -> bool {
     let mut out = [0u8; LINE];
     let n = put_hit(label, before, segment, name, &mut out);
     print(&out[..n])
@@ -92,7 +92,14 @@ pub fn tell_last(whole: bool, ends: u64) {
     decide(&out[..n]);
 }
 
-// So many files of all are done: said some twenty times in all.
+// So many files of all are done.
+pub fn say_done(done: usize, all: usize) {
+    let mut out = [0u8; 64];
+    let n = put_done(done as u64, all as u64, &mut out);
+    say(&out[..n]);
+}
+
+// The same, some twenty times in all.
 pub fn tell_done(done: usize, all: usize) {
     let step = all / 20 + 1;
     if done % step != 0 {
@@ -100,7 +107,5 @@ pub fn tell_done(done: usize, all: usize) {
             return;
         }
     }
-    let mut out = [0u8; 64];
-    let n = put_done(done as u64, all as u64, &mut out);
-    say(&out[..n]);
+    say_done(done, all);
 }

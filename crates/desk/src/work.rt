@@ -1,66 +1,30 @@
-// The work of a night: each file is read once, and each sequence of the list taken over it on both strands.
+// The work of a night: each file is read once, and each sequence of the list taken over it on both strands. A night to the first ends
+// reads no further than the file in which the last of them is found.
 use crate::list::MOST;
 use crate::names::Files;
 use crate::names::name_of;
 use crate::read::read_file;
+use crate::sequence::Work;
+use crate::sequence::over_sequence;
+use crate::tell::say_done;
 use crate::tell::tell_done;
-use crate::tell::tell_hits;
 use crate::tell::tell_last;
 use crate::tell::tell_refused;
 use crate::tell::tell_standing;
 use crate::tell::tell_unread;
+use text::Refusal;
 use text::refusal;
-use verdict::Passed;
 use verdict::Standing;
-use verdict::pass;
 use verdict::plus;
 use withheld::Line;
 use withheld::line_at;
 use withheld::part;
-
-// Where each sequence stands, and whether every file so far was read and accepted, and every line written.
-struct Work {
-    standings: [Standing; MOST],
-    whole: bool,
-}
 
 // How far the list has been gone through: the place, and the number of the sequence there.
 struct Step {
     at: usize,
     k: usize,
     work: Work,
-}
-
-// Takes sequence k over a stretch.
-fn over_sequence(
-    work: Work,
-    k: usize,
-    label: u64,
-    pattern: &[u8],
-    stretch: &[u8],
-    name: &[u8],
-) -> Work {
-    let mut next = work;
-    next.whole = false;
-    if MOST <= k {
-        return next;
-    }
-    let mut marks = [0u8; refusal::MOST_IN_STRETCH];
-    let standing = next.standings[k];
-    match pass(pattern, standing, stretch, &mut marks) {
-        Passed::Refused(wrong) => {
-            tell_refused(wrong, name);
-            next
-        }
-        Passed::To {
-            segments,
-            standing: reached,
-        } => {
-            next.standings[k] = reached;
-            next.whole = tell_hits(label, standing.segments, name, &marks[..segments]);
-            next
-        }
-    }
 }
 
 // Takes the sequence of a line over a stretch. A line that is wrong, or a file that is refused, is not passed.
@@ -104,7 +68,7 @@ fn over_line(step: Step, list: &[u8], stretch: &[u8], name: &[u8]) -> Step {
     }
 }
 
-// Takes every sequence of the list over a stretch, up to the first refusal.
+// Takes every sequence of the list over a stretch, up to the first line or refusal that ends the work.
 fn over_stretch(work: Work, list: &[u8], stretch: &[u8], name: &[u8]) -> Work {
     let mut step = Step { at: 0, k: 0, work };
     let mut at = 0;
@@ -131,14 +95,28 @@ fn over_file(work: Work, list: &[u8], files: Files, i: usize) -> Work {
         next.whole = false;
         return next;
     }
-    over_stretch(work, list, &bytes[..count], &name[..n])
+    let mut begun = work;
+    begun.ended = work.first;
+    let mut next = over_stretch(begun, list, &bytes[..count], &name[..n]);
+    let wrong = next.wrong;
+    if wrong.number != 0 {
+        tell_refused(wrong, &name[..n]);
+        next.whole = false;
+    }
+    next
 }
 
-// Takes every sequence over every file, up to the first that is not read or refused.
-fn over_files(list: &[u8], files: Files) -> Work {
+// Takes every sequence over every file, up to the first that is not read or refused, or behind which all have ended.
+fn over_files(list: &[u8], files: Files, first: bool) -> Work {
     let mut work = Work {
         standings: [Standing::BEGUN; MOST],
         whole: true,
+        first,
+        ended: false,
+        wrong: Refusal {
+            number: 0,
+            place: 0,
+        },
     };
     let all = files.count;
     let mut i = 0;
@@ -148,6 +126,10 @@ fn over_files(list: &[u8], files: Files) -> Work {
             return work;
         }
         i += 1;
+        if work.ended {
+            say_done(i, all);
+            return work;
+        }
         tell_done(i, all);
     }
     work
@@ -211,8 +193,8 @@ fn tell_standings(work: Work, list: &[u8]) {
 }
 
 // Screens the files. Of a text that was not read and accepted to its end only the last line is printed.
-pub fn screen(list: &[u8], files: Files) {
-    let work = over_files(list, files);
+pub fn screen(list: &[u8], files: Files, first: bool) {
+    let work = over_files(list, files, first);
     if work.whole {
         tell_standings(work, list);
         return;

@@ -36,7 +36,7 @@ module _ (P : List ℕ) (y : SoundPattern P) where
       and-both _ _ (next-open P st g (y .some) ∙ and-left (bit st 0) (ltb st (2 ^ length P)) i)
       (lt-ltb (next P st g) (2 ^ length P) (next-lt P st g))
 
-  run-state : (st : ℕ) (T : Text) → isState (length P) st ≡ true → isState (length P) (run P st T) ≡ true
+  pub run-state : (st : ℕ) (T : Text) → isState (length P) st ≡ true → isState (length P) (run P st T) ≡ true
   unfolding run
   run-state st [] i = i
   run-state st (g ∷ T) i = run-state (next P st g) T (next-state st g i)

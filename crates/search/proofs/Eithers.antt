@@ -142,14 +142,14 @@ module _ {r : PassedBoth} {x y : Outcome Pass} (own : toldPassed (passedGiven r)
 -- k segments from `from` on have been searched on both strands, from the fresh states on
 pub record Uniting (P s : List ℕ) (from : ℕ) (buffer : List ℕ) (k at size ends given other : ℕ) : Type 0 where
   pub seen : Text
-  pub walk : Marking (eitherMarks P) s from buffer seen k at size ends
+  pub walk : Marking false (eitherMarks P) s from buffer seen k at size ends
   pub own : given ≡ run P fresh seen
   pub turned : other ≡ run (opposite P) fresh seen
 
 pub uniting-none : (P s : List ℕ) (from : ℕ) (buffer : List ℕ) → from ≤ length s → Uniting P s from buffer 0 from 0 0 fresh fresh
 unfolding run
 uniting-none P s from buffer l =
-    record { seen = []; walk = marking-none (eitherMarks P) s from buffer (either-none P) l; own = refl; turned = refl }
+    record { seen = []; walk = marking-none false (eitherMarks P) s from buffer (either-none P) l; own = refl; turned = refl }
 
 module _ {P s : List ℕ} {from : ℕ} {buffer : List ℕ} {k at size ones given other : ℕ} (q : Uniting P s from buffer k at size ones given other) where
   -- the states are those of the two strands
@@ -195,7 +195,7 @@ module _ {P s : List ℕ} {from : ℕ} {buffer : List ℕ} {k at size ones given
     uniting-more mark is room =
         record {
           seen = q .seen ++ (g ∷ []);
-          walk = marking-more (q .walk) (met .read) (met .size) (hit || back) last mark is room;
+          walk = marking-more (q .walk) (met .read) (met .size) (hit || back) last mark is (λ _. room);
           own = sym (met .state) ∙ ap (λ (n : ℕ). next P n g) (q .own) ∙ sym (run-snoc P fresh (q .seen) g);
           turned =
               sym (faced .state) ∙ ap₂ (λ (n : ℕ) (h : Segment). next (opposite P) n h) (q .turned) same
@@ -216,7 +216,7 @@ module _ {P s : List ℕ} {from : ℕ} {buffer : List ℕ} {k at size ones given
 
     pub uniting-ran : k ≡ n → Run (ok (record { next = at; size = size; ends = ones }))
     unfolding eitherCourse size
-    uniting-ran done = (rw (marking-all (q .walk) n done, q .walk .sum .sum, q .walk .ones), marking-marks (q .walk) n done)
+    uniting-ran done = (rw (marking-all (q .walk) n done, q .walk .sum .sum, q .walk .ones), marking-marks (q .walk) n done refl)
 
 -- from what a run over segments tells
 module _ (P s : List ℕ) (n from : ℕ) where

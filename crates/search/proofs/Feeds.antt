@@ -34,12 +34,14 @@ module _ (P s : List ℕ) (st : ℕ) where
   unfolding many alone
   lone-not j p e = told-refused (segmentAt s 0) alone j p (told-refused (many (λ _. segmentAt s) 1 [] 0) (courseOf P st) j p e)
 
-  lone-met : (behind size bits ones : ℕ)
-      → after (many (λ _. segmentAt s) 1 [] 0) (λ x. ok (courseOf P st x)) ≡ ok (record { next = behind; size = size; state = bits; ends = ones })
+  lone-met : (read behind size bits ones : ℕ)
+      → after (many (λ _. segmentAt s) 1 [] 0) (λ x. ok (courseOf P st x))
+      ≡ ok (record { segments = read; next = behind; size = size; state = bits; ends = ones })
       → Lone P s st behind bits ones
   unfolding many alone courseOf run marksFrom total
-  lone-met behind size bits ones e =
-      let m = told-met (many (λ _. segmentAt s) 1 [] 0) (courseOf P st) (record { next = behind; size = size; state = bits; ends = ones }) e in
+  lone-met read behind size bits ones e =
+      let m = told-met (many (λ _. segmentAt s) 1 [] 0) (courseOf P st)
+      (record { segments = read; next = behind; size = size; state = bits; ends = ones }) e in
       let x = told-met (segmentAt s 0) alone (m .0) (m .1) in
       let all = ap (courseOf P st) (x .2) ∙ m .2 in
       let one : cond (ends P st (x .0 .value)) 1 0 + 0 ≡ ones = ap (λ (c : Course). c .ends) all in
@@ -65,11 +67,12 @@ module _ (P : List ℕ) (strand : Strand) (s : List ℕ) (st : ℕ) where
     unfolding feeding
     fed-refused j p e = entering-sound P st s y _ ∙ rw (lone-refused-inside s (lone-not R s st j p e))
 
-    module _ (behind size bits hits : ℕ)
-        (e : after (many (λ _. segmentAt s) 1 [] 0) (λ x. ok (courseOf R st x)) ≡ ok (record { next = behind; size = size; state = bits; ends = hits }))
+    module _ (count behind size bits hits : ℕ)
+        (e : after (many (λ _. segmentAt s) 1 [] 0) (λ x. ok (courseOf R st x))
+        ≡ ok (record { segments = count; next = behind; size = size; state = bits; ends = hits }))
         (v : Verdict) (told : toldVerdict v ≡ closedAt s behind 1) where
       met : Lone R s st behind bits hits
-      met = lone-met R s st behind size bits hits e
+      met = lone-met R s st count behind size bits hits e
 
       pub fed-left : {w : Refusal} → v ≡ Verdict.Refused w → feeding P strand st s ≡ refused (w .number) (w .place)
       unfolding feeding

@@ -7,7 +7,9 @@ pub mod Passes
 pub mod Entries
 pub mod ReadOns
 pub mod Markings
+pub mod Stops
 pub mod Searches
+pub mod Hits
 pub mod Pairs
 pub mod Eithers
 pub mod Methods
@@ -24,5 +26,6 @@ pub mod BorderCarried
 pub mod BorderWalks
 pub mod BorderSteps
 pub mod Chains
+pub mod FirstHits
 pub mod Told
 pub mod Theorems

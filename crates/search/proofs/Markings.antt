@@ -22,21 +22,22 @@ use Rattle.stretch.proofs.Walks.{walk-length}
 use Rattle.stretch.proofs.Stretches.{InStretch, through-none, through-more, through-refused, through-all, segment-bytes}
 use Rattle.search.specs.Answers.{MarksFrom, RoomyFrom, MarksOf, handed, into, stretchInto, searching}
 
--- k segments from `from` on have been read, and their marks stand in front of the buffer
-pub record Marking (f : Text → List ℕ) (s : List ℕ) (from : ℕ) (buffer : List ℕ) (seen : Text) (k at size ends : ℕ) : Type 0 where
+-- k segments from `from` on have been read, and their marks stand in front of the buffer, unless the walk is one that stops
+pub record Marking (stop : Bool) (f : Text → List ℕ) (s : List ℕ) (from : ℕ) (buffer : List ℕ) (seen : Text) (k at size ends : ℕ) : Type 0 where
   pub sum : InStretch s from k seen at size
   pub far : from + 3 * k ≤ at
-  pub marked : take k buffer ≡ f seen
+  pub marked : stop ≡ false → take k buffer ≡ f seen
   pub ones : ends ≡ total (λ x. x) (f seen)
   pub few : ends ≤ k
 
-pub marking-none : (f : Text → List ℕ) (s : List ℕ) (from : ℕ) (buffer : List ℕ) → f [] ≡ [] → from ≤ length s → Marking f s from buffer [] 0 from 0 0
+pub marking-none : (stop : Bool) (f : Text → List ℕ) (s : List ℕ) (from : ℕ) (buffer : List ℕ) → f [] ≡ [] → from ≤ length s
+    → Marking stop f s from buffer [] 0 from 0 0
 unfolding total
-marking-none f s from buffer none l =
-    record { sum = through-none s from l; far = omega arith; marked = sym none; ones = sym (ap (total (λ x. x)) none); few = omega arith }
+marking-none stop f s from buffer none l =
+    record { sum = through-none s from l; far = omega arith; marked = λ _. sym none; ones = sym (ap (total (λ x. x)) none); few = omega arith }
 
-module _ {f : Text → List ℕ} {s : List ℕ} {from : ℕ} {buffer : List ℕ} {seen : Text} {k at size ones : ℕ}
-    (q : Marking f s from buffer seen k at size ones) where
+module _ {stop : Bool} {f : Text → List ℕ} {s : List ℕ} {from : ℕ} {buffer : List ℕ} {seen : Text} {k at size ones : ℕ}
+    (q : Marking stop f s from buffer seen k at size ones) where
   -- one segment more
   module _ {g : Segment} {behind more : ℕ} (read : segmentAt s at ≡ ok (record { value = g; next = behind })) (weighs : total weight g ≡ more) where
     further : InStretch s from (k + 1) (seen ++ (g ∷ [])) behind (size + more)
@@ -55,12 +56,14 @@ module _ {f : Text → List ℕ} {s : List ℕ} {from : ℕ} {buffer : List ℕ}
       one-more true = omega (arith, q .few)
       one-more false = omega (arith, q .few)
 
-      pub marking-more : k < length buffer → Marking f s from (set buffer k mark) (seen ++ (g ∷ [])) (k + 1) behind (size + more) (ones + mark)
+      pub marking-more : (stop ≡ false → k < length buffer)
+          → Marking stop f s from (cond stop buffer (set buffer k mark)) (seen ++ (g ∷ [])) (k + 1) behind (size + more) (ones + mark)
       marking-more room =
           record {
             sum = further;
             far = omega (arith, three, q .far);
-            marked = rw add-one (take-suc-set buffer k mark room) ∙ ap₂ (λ (l : List ℕ) (x : ℕ). l ++ (x ∷ [])) (q .marked) is ∙ sym last;
+            marked = λ kept. rw (kept, add-one) (take-suc-set buffer k mark (room kept))
+                ∙ ap₂ (λ (l : List ℕ) (x : ℕ). l ++ (x ∷ [])) (q .marked kept) is ∙ sym last;
             ones = ap₂ _+_ (q .ones) is ∙ sym (ap (total (λ x. x)) last ∙ total-snoc (λ x. x) (f seen) (cond hit 1 0));
             few = rw is (one-more hit);
           }
@@ -72,12 +75,12 @@ module _ {f : Text → List ℕ} {s : List ℕ} {from : ℕ} {buffer : List ℕ}
     pub marking-all : k ≡ n → many (λ _. segmentAt s) n [] from ≡ ok (record { value = seen; next = at })
     marking-all done = through-all s from k seen at size (q .sum) n done
 
-    pub marking-marks : k ≡ n → MarksFrom f (many (λ _. segmentAt s) n [] from) buffer
-    marking-marks done x h =
+    pub marking-marks : k ≡ n → stop ≡ false → MarksFrom f (many (λ _. segmentAt s) n [] from) buffer
+    marking-marks done kept x h =
         let all = marking-all done in
         let count = walk-length (λ _. segmentAt s) from n seen at all in
         subst (λ (y : Taken Text ℕ). take (length (y .value)) buffer ≡ f (y .value)) (ok-inj (sym all ∙ h))
-        (ap (λ (m : ℕ). take m buffer) (count ∙ sym done) ∙ q .marked)
+        (ap (λ (m : ℕ). take m buffer) (count ∙ sym done) ∙ q .marked kept)
 
 -- after a refusal nothing is asked of the marks
 pub run-marks-not : (f : Text → List ℕ) (o : Outcome (Taken Text ℕ)) (j p : ℕ) (buffer : List ℕ) → o ≡ refused j p → MarksFrom f o buffer

@@ -4,30 +4,36 @@ use native.Mathlib.Decide.{decLt}
 use native.Mathlib.Omega.{arith}
 use mathlib.Core.Logic.{by-cases}
 use mathlib.Core.Path.{_≡_, refl, sym, ap, _∙_}
-use mathlib.Core.Bool.{Bool, true, false, cond}
+use mathlib.Core.Bool.{Bool, true, false, _&&_, cond, false≢true}
 use mathlib.Core.List.{List, [], _∷_, _++_}
 use borrow.Author.Tests.{eq-eqb, eqb-true}
-use lib.ListN.{length, set}
+use lib.ListN.{length, set, length-set}
 use mir.Val.{boolByte}
-use Rattle.text.specs.Text.{Text, size}
+use Rattle.text.specs.Text.{Text, size, total}
 use Rattle.text.specs.State.{next, ends, run, fresh, marksFrom, marks}
 use Rattle.text.specs.Refusal.{Outcome, ok, refused, after, pattern}
 use Rattle.text.proofs.Outcomes.{after-after, told-met, told-refused}
 use Rattle.text.proofs.Patterns.{SoundPattern, pattern-refused, pattern-sound, sound-pattern}
 use Rattle.text.proofs.Bits.{bit-first}
 use Rattle.text.proofs.Runs.{run-open, run-lt}
+use Rattle.text.specs.Card.{none, firstEnd}
 use Rattle.text.proofs.Folds.{run-snoc, marks-snoc}
+use Rattle.text.proofs.Marks.{marks-length}
+use Rattle.text.proofs.Truth.{and-left, and-right}
 use Rattle.stretch.specs.Bytes.{greatestStretch}
 use Rattle.stretch.specs.Reading.{Taken, segmentAt, many, stretchOf}
 use Rattle.stretch.proofs.Stretches.{stretch-long}
+use Rattle.stretch.proofs.Walks.{walk-length}
 use Rattle.search.specs.Masks.{StateOf}
 use Rattle.search.specs.Step.{segmentPass}
+use Rattle.search.specs.First.{reach, manyTo}
 use Rattle.search.specs.Answers.{Course, courseOf, MarksFrom, RoomyFrom, Seen, seenFrom, Sums, sums, sumsOf}
 use Rattle.search.specs.Answers.{entering, into, stretchInto, searching, seeking}
 use Rattle.search.proofs.Entries.{Entered, fresh-state, entering-refused, entering-sound, entering-pattern, entering-over}
 use Rattle.search.proofs.Passes.{Stepped, segment-met, segment-not}
 use Rattle.search.proofs.Markings.{Marking, marking-none, marking-room, marking-more, marking-refused, marking-all, marking-marks}
 use Rattle.search.proofs.Markings.{run-marks-not, Told, pattern-asked}
+use Rattle.search.proofs.Stops.{no-ones, walk-few, first-last, reach-stopped, reach-more, reach-all}
 
 -- a mark as the code writes it
 pub byte-mark : (b : Bool) → boolByte b ≡ cond b 1 0
@@ -42,60 +48,121 @@ run-state P st T some s =
       odd = eqb-true (run P st T % 2) 1 (sym (bit-first (run P st T)) ∙ run-open P st T some ∙ bit-first st ∙ eq-eqb (st % 2) 1 (s .odd));
     }
 
--- k segments from `from` on have been searched, from the state st on
-pub record Searching (P : List ℕ) (st : ℕ) (s : List ℕ) (from : ℕ) (buffer : List ℕ) (k at size ends bits : ℕ) : Type 0 where
+-- k segments from `from` on have been searched, from the state st on; a search that stops has met no end
+pub record Searching (stop : Bool) (P : List ℕ) (st : ℕ) (s : List ℕ) (from : ℕ) (buffer : List ℕ) (k at size ends bits : ℕ) : Type 0 where
   pub seen : Text
-  pub walk : Marking (marksFrom P st) s from buffer seen k at size ends
+  pub walk : Marking stop (marksFrom P st) s from buffer seen k at size ends
   pub state : bits ≡ run P st seen
+  pub clear : stop ≡ true → ends ≡ 0
 
-pub searching-none : (P : List ℕ) (st : ℕ) (s : List ℕ) (from : ℕ) (buffer : List ℕ) → from ≤ length s → Searching P st s from buffer 0 from 0 0 st
+pub searching-none : (stop : Bool) (P : List ℕ) (st : ℕ) (s : List ℕ) (from : ℕ) (buffer : List ℕ) → from ≤ length s
+    → Searching stop P st s from buffer 0 from 0 0 st
 unfolding run marksFrom
-searching-none P st s from buffer l = record { seen = []; walk = marking-none (marksFrom P st) s from buffer refl l; state = refl }
+searching-none stop P st s from buffer l =
+    record { seen = []; walk = marking-none stop (marksFrom P st) s from buffer refl l; state = refl; clear = λ _. refl }
 
-module _ {P : List ℕ} {st : ℕ} {s : List ℕ} {from : ℕ} {buffer : List ℕ} {k at size ones bits : ℕ}
-    (q : Searching P st s from buffer k at size ones bits) where
+-- what a run tells of n segments, and the marks that it leaves where it does not stop
+abbrev Run : Bool → List ℕ → ℕ → List ℕ → ℕ → ℕ → List ℕ → Outcome Course → Type 0
+Run stop P st s from n buffer told =
+    (told ≡ after (manyTo stop P st s n from) (λ x. ok (courseOf P st x)))
+    × (stop ≡ false → MarksFrom (marksFrom P st) (many (λ _. segmentAt s) n [] from) buffer)
+
+-- what is read up to `behind`, in all that a run reads, is what it tells
+pub run-told : (stop : Bool) (P : List ℕ) (st : ℕ) (s : List ℕ) (from n : ℕ) (seen : Text) (k at size bits ones : ℕ) (buffer : List ℕ)
+    → Marking stop (marksFrom P st) s from buffer seen k at size ones → bits ≡ run P st seen → k ≡ reach stop P st s n from
+    → ok (record { segments = k; next = at; size = size; state = bits; ends = ones })
+    ≡ after (manyTo stop P st s n from) (λ x. ok (courseOf P st x))
+unfolding courseOf size
+run-told stop P st s from n seen k at size bits ones buffer w is all =
+    let long = walk-length (λ _. segmentAt s) from k seen at (w .sum .walk) in
+    rw (marking-all w (reach stop P st s n from) all, long, w .sum .sum, is, w .ones) refl
+
+module _ {stop : Bool} {P : List ℕ} {st : ℕ} {s : List ℕ} {from : ℕ} {buffer : List ℕ} {k at size ones bits : ℕ}
+    (q : Searching stop P st s from buffer k at size ones bits) where
   -- the state is one of the pattern's
   pub searching-state : 0 < length P → StateOf P st → StateOf P bits
   searching-state some s = rw (q .state) (run-state P st (q .seen) some s)
 
   module _ {behind more reached : ℕ} {hit : Bool}
       (e : segmentPass P bits s at ≡ ok (record { next = behind; size = more; state = reached; ends = hit })) where
-    met : Stepped P bits s at behind more reached hit
+    abbrev pub met : Stepped P bits s at behind more reached hit
     met = segment-met P bits s at behind more reached hit e
 
     -- there is room for its mark
     pub searching-room : (n : ℕ) → k < n → RoomyFrom s from n buffer → k < length buffer
     searching-room = marking-room (q .walk) (met .read) (met .size)
 
-    -- the mark that the code writes for the segment
-    pub searching-more : (mark : ℕ) → mark ≡ cond hit 1 0 → k < length buffer
-        → Searching P st s from (set buffer k mark) (k + 1) behind (size + more) (ones + mark) reached
-    searching-more mark is room =
-        let g = met .segment in
-        let end : ends P (run P st (q .seen)) g ≡ hit = ap (λ (n : ℕ). ends P n g) (sym (q .state)) ∙ met .end in
-        let last : marksFrom P st (q .seen ++ (g ∷ [])) ≡ marksFrom P st (q .seen) ++ (cond hit 1 0 ∷ []) =
-        marks-snoc P st (q .seen) g ∙ ap (λ (b : Bool). marksFrom P st (q .seen) ++ (cond b 1 0 ∷ [])) end in
-        record {
-          seen = q .seen ++ (g ∷ []);
-          walk = marking-more (q .walk) (met .read) (met .size) hit last mark is room;
-          state = sym (met .state) ∙ ap (λ (n : ℕ). next P n g) (q .state) ∙ sym (run-snoc P st (q .seen) g);
-        }
+    -- the segment, and its mark
+    module _ (mark : ℕ) (is : mark ≡ cond hit 1 0) (room : stop ≡ false → k < length buffer)
+        (left : List ℕ) (writes : left ≡ cond stop buffer (set buffer k mark)) where
+      last : marksFrom P st (q .seen ++ (met .segment ∷ [])) ≡ marksFrom P st (q .seen) ++ (cond hit 1 0 ∷ [])
+      last =
+          let end : ends P (run P st (q .seen)) (met .segment) ≡ hit = ap (λ (n : ℕ). ends P n (met .segment)) (sym (q .state)) ∙ met .end in
+          marks-snoc P st (q .seen) (met .segment) ∙ ap (λ (b : Bool). marksFrom P st (q .seen) ++ (cond b 1 0 ∷ [])) end
 
-  module _ (n : ℕ) where
-    -- what a run tells of n segments, and the marks that it leaves
-    abbrev Run : Outcome Course → Type 0
-    Run told =
-        (told ≡ after (many (λ _. segmentAt s) n [] from) (λ x. ok (courseOf P st x)))
-        × MarksFrom (marksFrom P st) (many (λ _. segmentAt s) n [] from) buffer
+      pub searching-walk : Marking stop (marksFrom P st) s from left (q .seen ++ (met .segment ∷ [])) (k + 1) behind (size + more) (ones + mark)
+      searching-walk = rw writes (marking-more (q .walk) (met .read) (met .size) hit last mark is room)
 
-    pub searching-refused : k < n → (j p : ℕ) → segmentPass P bits s at ≡ refused j p → Run (refused j p)
+      pub searching-length : length left ≡ length buffer
+      searching-length = ap length writes ∙ go stop
+        where
+          go : (b : Bool) → length (cond b buffer (set buffer k mark)) ≡ length buffer
+          go true = refl
+          go false = length-set buffer k mark
+
+      onward : reached ≡ run P st (q .seen ++ (met .segment ∷ []))
+      onward =
+          sym (met .state) ∙ ap (λ (n : ℕ). next P n (met .segment)) (q .state) ∙ sym (run-snoc P st (q .seen) (met .segment))
+
+      -- where nothing ends in it, or the run does not stop, it goes on
+      pub searching-more : (stop && hit) ≡ false
+          → Searching stop P st s from left (k + 1) behind (size + more) (ones + mark) reached
+      searching-more goes =
+          record {
+            seen = q .seen ++ (met .segment ∷ []);
+            walk = searching-walk;
+            state = onward;
+            clear = λ stops.
+                let unmarked : hit ≡ false = rw stops at goes in
+                let zero : mark ≡ 0 = is ∙ ap (λ (b : Bool). cond b 1 0) unmarked in
+                omega (arith, q .clear stops, zero);
+          }
+
+      -- else it is the first end, and all that the run reads
+      pub searching-stopped : (n : ℕ) → k < n → length s < none → from ≤ length s → (stop && hit) ≡ true
+          → Run stop P st s from n left
+          (ok (record { segments = k + 1; next = behind; size = size + more; state = reached; ends = ones + mark }))
+      searching-stopped n l small within stops =
+          let stopped = and-left stop hit stops in
+          let hits = and-right stop hit stops in
+          let seen = q .seen in
+          let long = marks-length P st seen ∙ walk-length (λ _. segmentAt s) from k seen at (q .walk .sum .walk) in
+          let few = walk-few s from (k + 1) _ behind within (searching-walk .sum .walk) in
+          let unmarked = no-ones P st seen (omega (arith, marks-length P st seen, long, few)) (sym (q .walk .ones) ∙ q .clear stopped) in
+          let first = first-last (marksFrom P st seen) k unmarked long (omega (arith, few)) in
+          let one = ap firstEnd (last ∙ ap (λ (h : Bool). marksFrom P st seen ++ (cond h 1 0 ∷ [])) hits) ∙ first in
+          let all = reach-stopped P st s n from small within (k + 1) (seen ++ (met .segment ∷ [])) behind (searching-walk .sum .walk) (omega arith)
+          (omega (arith, one)) in (
+            run-told stop P st s from n _ (k + 1) behind _ _ _ _ searching-walk onward
+                (all ∙ ap (λ (h : Bool). reach h P st s n from) (sym stopped)),
+            λ kept. absurd (false≢true (sym kept ∙ stopped)),
+          )
+
+  module _ (n : ℕ) (small : length s < none) (within : from ≤ length s) where
+    clear : stop ≡ true → total (λ x. x) (marksFrom P st (q .seen)) ≡ 0
+    clear stops = sym (q .walk .ones) ∙ q .clear stops
+
+    pub searching-refused : k < n → (j p : ℕ) → segmentPass P bits s at ≡ refused j p → Run stop P st s from n buffer (refused j p)
     searching-refused l j p e =
-        let none = marking-refused (q .walk) n l j p (segment-not P bits s at j p e) in
-        (rw none, run-marks-not (marksFrom P st) _ j p buffer none)
+        let wrong = segment-not P bits s at j p e in
+        let more = reach-more P st s n from small within k (q .seen) at (q .walk .sum .walk) (omega arith) stop clear l in
+        let none = marking-refused (q .walk) (reach stop P st s n from) more j p wrong in
+        (rw none refl, λ _. run-marks-not (marksFrom P st) _ j p buffer (marking-refused (q .walk) n l j p wrong))
 
-    pub searching-ran : k ≡ n → Run (ok (record { next = at; size = size; state = bits; ends = ones }))
-    unfolding courseOf size
-    searching-ran done = (rw (marking-all (q .walk) n done, q .walk .sum .sum, q .state, q .walk .ones), marking-marks (q .walk) n done)
+    pub searching-ran : k ≡ n → Run stop P st s from n buffer (ok (record { segments = k; next = at; size = size; state = bits; ends = ones }))
+    searching-ran done =
+        let all = reach-all P st s n from small within k (q .seen) at (q .walk .sum .walk) (omega arith) stop clear done in
+        (run-told stop P st s from n (q .seen) k at size bits ones buffer (q .walk) (q .state) all, marking-marks (q .walk) n done)
 
 -- from what a run over segments tells
 module _ (P : List ℕ) (st : ℕ) (s : List ℕ) (n from : ℕ) where
@@ -103,18 +170,20 @@ module _ (P : List ℕ) (st : ℕ) (s : List ℕ) (n from : ℕ) where
       → many (λ _. segmentAt s) n [] from ≡ refused j p
   run-not j p e = told-refused (many (λ _. segmentAt s) n [] from) (courseOf P st) j p e
 
-  pub run-met : (at sum bits ones : ℕ)
-      → after (many (λ _. segmentAt s) n [] from) (λ x. ok (courseOf P st x)) ≡ ok (record { next = at; size = sum; state = bits; ends = ones })
+  pub run-met : (read at sum bits ones : ℕ)
+      → after (many (λ _. segmentAt s) n [] from) (λ x. ok (courseOf P st x))
+      ≡ ok (record { segments = read; next = at; size = sum; state = bits; ends = ones })
       → (t : Text) × (many (λ _. segmentAt s) n [] from ≡ ok (record { value = t; next = at }))
-      × (record { segments = length t; size = sum; ends = ones; state = bits } ≡ seenFrom P st t)
+      × (record { segments = read; size = sum; ends = ones; state = bits } ≡ seenFrom P st t)
   unfolding courseOf seenFrom
-  run-met at sum bits ones e =
-      let m = told-met (many (λ _. segmentAt s) n [] from) (courseOf P st) (record { next = at; size = sum; state = bits; ends = ones }) e in
+  run-met read at sum bits ones e =
+      let m = told-met (many (λ _. segmentAt s) n [] from) (courseOf P st)
+      (record { segments = read; next = at; size = sum; state = bits; ends = ones }) e in
       let t = m .0 .value in
       let q = sym (m .2) in (
         t,
         m .1 ∙ ap (λ (i : ℕ). ok (record { value = t; next = i })) (ap (λ (x : Course). x .next) (m .2)),
-        λ i. record { segments = length t; size = q i .size; ends = q i .ends; state = q i .state },
+        λ i. record { segments = q i .segments; size = q i .size; ends = q i .ends; state = q i .state },
       )
 
 -- what a search tells of a text
@@ -122,6 +191,10 @@ module _ (P : List ℕ) (st : ℕ) where
   pub seen-segments : (x : Seen) (t : Text) → seenFrom P st t ≡ x → length t ≡ x .segments
   unfolding seenFrom
   seen-segments x t e = ap (λ (y : Seen). y .segments) e
+
+  pub seen-ends : (x : Seen) (t : Text) → x ≡ seenFrom P st t → x .ends ≡ total (λ x. x) (marksFrom P st t)
+  unfolding seenFrom
+  seen-ends x t e = ap (λ (y : Seen). y .ends) e
 
   module _ (o : Outcome Text) where
     pub told-not : (j p : ℕ) → o ≡ refused j p → after o (λ t. ok (seenFrom P st t)) ≡ refused j p

@@ -1,16 +1,17 @@
--- What this crate proves of its calls, theorem by theorem: read this file first. `searching`, `seeking`, `feeding` and what is told of them
+-- What this crate proves of its calls, theorem by theorem: read this file first. `searching`, `seeking`, `feeding`, `firsting` and what is told of them
 -- are what the contracts say of the calls' answers.
 use Prim.Native.Nat.{ℕ, suc, _+_, _≤_, _<_}
 use mathlib.Core.Path.{_≡_, refl, sym, ap, ap₂, _∙_}
-use mathlib.Core.Logic.{_⊎_, inl, inr, ⊎-elim, _↔_}
+use mathlib.Core.Logic.{_⊎_, inl, inr, ⊎-elim, _↔_, by-cases}
+use native.Mathlib.Decide.{ℕ-discrete}
 use mathlib.Core.Bool.{Bool, true, false, cond}
-use mathlib.Core.List.{List, [], _∷_, map}
+use mathlib.Core.List.{List, [], _∷_, _++_, map}
 use native.Mathlib.Omega.{arith}
 use lib.ListN.{length, getD, drop, take, List·getD-append, List·getD-map, length-map}
-use Rattle.text.specs.Text.{Text, total}
+use Rattle.text.specs.Text.{Segment, Text, total}
 use Rattle.text.specs.Occurrence.{EndsIn, CarriedOut}
 use Rattle.text.specs.Bits.{bit}
-use Rattle.text.specs.State.{isState, fresh, run, marksFrom, marks}
+use Rattle.text.specs.State.{isState, fresh, ends, run, marksFrom, marks}
 use Rattle.text.specs.Refusal.{Outcome, ok, refused, after}
 use Rattle.text.specs.Strand.{opposite, onStrand}
 use Rattle.text.specs.declared.strand.Strand.{Strand}
@@ -23,14 +24,17 @@ use Rattle.text.proofs.Occurrences.{marks-ends, state-carried}
 use Rattle.stretch.specs.Bytes.{over}
 use Rattle.stretch.specs.Pieces.{mostInStretch}
 use Rattle.stretch.specs.Answers.{leftBy}
+use Rattle.stretch.specs.Reading.{segmentAt, stretchOf}
 use Rattle.search.specs.Answers.{Next, sumsOf, searching, toldSearched}
 use Rattle.search.specs.Either.{eitherMarks, eitherSums}
-use Rattle.search.specs.Chain.{segmentsText, feeds, markOf, stretchesText, Trail, seeks}
+use Rattle.search.specs.First.{endsIn, clear, firsting}
+use Rattle.search.specs.Chain.{segmentsText, feeds, markOf, stretchesText, Trail, seeks, asks}
 use Rattle.search.specs.declared.searching.Searched.{Searched}
-use Rattle.search.proofs.Entries.{fresh-state}
+use Rattle.search.proofs.Entries.{Entered, entering-sound, fresh-state}
 use Rattle.search.proofs.Told.{searched-once}
 use Rattle.search.proofs.Eithers.{one, either-length, either-ones, either-at}
 use Rattle.search.proofs.Chains.{steps, feeds-steps, steps-marks, steps-states, seeks-text}
+use Rattle.search.proofs.FirstHits.{hitOf, Reads, hit-first, hit-fault, first-sound, asks-clear, asks-ends, zeros-at, ones-none, ends-clear}
 
 -- the byte that a search of an accepted text leaves for segment j is its mark
 left-at : (f : Text → List ℕ) (o : Outcome Text) (out : List ℕ) (t : Text) (j : ℕ) → o ≡ ok t → j < length (f t)
@@ -148,3 +152,41 @@ unfolding marks
 seeks-ends P strand room ss T x j y roomy e f =
     let all = seeks-stretches P strand fresh room ss T y (fresh-state P (y .some)) roomy e in
     rw (ap (λ (z : Trail). z .marks) (ok-inj (sym f ∙ all))) (marks-ends (onStrand strand P) T j (strand-sound strand P y .some))
+
+-- the first hit of a sound stretch is the first one among the marks that a search from the same state leaves; where it leaves none, it
+-- is "none", and the state behind the stretch
+pub first-marks : (P : List ℕ) (strand : Strand) (st : ℕ) (s : List ℕ) (t : Text) → SoundPattern P → isState (length P) st ≡ true → stretchOf s ≡ ok t
+    → firsting P strand st s ≡ ok (hitOf (marksFrom (onStrand strand P) st t) (run (onStrand strand P) st t))
+first-marks P strand st s t y i e = first-sound P strand y st s t i e
+
+-- a segment that reads whole, in which an occurrence ends and in none before it, is the first hit, whatever stands behind it
+pub first-beats-fault : (P : List ℕ) (strand : Strand) (st : ℕ) (s : List ℕ) (n k : ℕ) (T : Text) (g : Segment) (behind : ℕ) → Entered P st s
+    → Reads s n (k + 1) (T ++ (g ∷ [])) behind → length T ≡ k → total (λ x. x) (marksFrom (onStrand strand P) st T) ≡ 0
+    → ends (onStrand strand P) (run (onStrand strand P) st T) g ≡ true → firsting P strand st s ≡ ok (endsIn k)
+unfolding firsting
+first-beats-fault P strand st s n k T g behind y r long zeros hit =
+    entering-sound P st s y _ ∙ hit-first (onStrand strand P) st s n k T behind g behind r long zeros hit
+
+-- a fault before any end, inside the segment in which one would end too, is the answer
+pub fault-beats-first : (P : List ℕ) (strand : Strand) (st : ℕ) (s : List ℕ) (n k : ℕ) (T : Text) (at j p : ℕ) → Entered P st s
+    → Reads s n k T at → k < n → total (λ x. x) (marksFrom (onStrand strand P) st T) ≡ 0 → segmentAt s at ≡ refused j p
+    → firsting P strand st s ≡ refused j p
+unfolding firsting
+fault-beats-first P strand st s n k T at j p y r l zeros wrong =
+    entering-sound P st s y _ ∙ hit-fault (onStrand strand P) st s n k T at j p r l zeros wrong
+
+-- the stretches of a text, asked in order from the fresh state, are clear exactly when no occurrence ends anywhere in the text
+pub asks-text : (P : List ℕ) (strand : Strand) (ss : List (List ℕ)) (T : Text) → SoundPattern P → stretchesText ss ≡ ok T
+    → (asks P strand fresh ss ≡ ok (clear (run (onStrand strand P) fresh T))) ↔ ((j : ℕ) → EndsIn (onStrand strand P) T j → ⊥)
+unfolding marks
+asks-text P strand ss T y e =
+    let Q : List ℕ = onStrand strand P in
+    let i = fresh-state P (y .some) in
+    let at : (j : ℕ) → (getD (marksFrom Q fresh T) j 0 ≡ 1) ↔ EndsIn Q T j = λ j. marks-ends Q T j (strand-sound strand P y .some) in (
+      λ h j hit. by-cases (ℕ-discrete (total (λ x. x) (marksFrom Q fresh T)) 0)
+          (λ (zeros : total (λ x. x) (marksFrom Q fresh T) ≡ 0). zeros-at (marksFrom Q fresh T) zeros j (at j .1 hit))
+          (λ (some : ¬ (total (λ x. x) (marksFrom Q fresh T) ≡ 0)).
+          let one = asks-ends P strand y fresh ss T i e some in
+          absurd (ends-clear _ _ (ok-inj (sym (one .1) ∙ h)))),
+      λ h. asks-clear P strand y fresh ss T i e (ones-none Q fresh T (λ j m. h j (at j .0 m))),
+    )

@@ -1,11 +1,13 @@
 -- Answers that are told alike are the same answer, and what they say in numbers is what they tell.
 use Prim.Native.Nat.{ℕ}
 use mathlib.Core.Path.{_≡_, sym, ap, ap₂}
-use Rattle.text.specs.Refusal.{Outcome, refused, answer}
+use Rattle.text.specs.Refusal.{Outcome, ok, refused, after, answer}
 use Rattle.text.specs.declared.refusal.Refusal.{Refusal}
 use Rattle.text.proofs.Outcomes.{refused-ok, refused-inj, ok-inj}
 use Rattle.search.specs.Answers.{Next, zeroNext, toldFed, answerFed, Seen, zeroSeen, toldSought, answerSought}
 use Rattle.search.specs.Answers.{Sums, zeroSums, toldSearched, answerSearched}
+use Rattle.search.specs.First.{Hit, toldFirst, answerFirst, stopOf, zeroStop}
+use Rattle.search.specs.declared.first.First.{First}
 use Rattle.search.specs.declared.state.Fed.{Fed}
 use Rattle.search.specs.declared.state.Sought.{Sought}
 use Rattle.search.specs.declared.searching.Searched.{Searched}
@@ -59,3 +61,9 @@ pub searched-both :
 unfolding answerSearched
 searched-both (Searched.Marked n z m) e = (e .0, (ap (answer zeroSums) (e .0), e .1))
 searched-both (Searched.Refused r) e = (e .0, (ap (answer zeroSums) (e .0), e .1))
+
+pub first-both : (r : First) {o : Outcome Hit} → toldFirst r ≡ o → (toldFirst r ≡ o) × (answerFirst r ≡ answer zeroStop (after o (λ h. ok (stopOf h))))
+unfolding answerFirst
+first-both (First.Ends k) e = (e, ap (λ (o : Outcome Hit). answer zeroStop (after o (λ h. ok (stopOf h)))) e)
+first-both (First.None s) e = (e, ap (λ (o : Outcome Hit). answer zeroStop (after o (λ h. ok (stopOf h)))) e)
+first-both (First.Refused r) e = (e, ap (λ (o : Outcome Hit). answer zeroStop (after o (λ h. ok (stopOf h)))) e)

@@ -104,8 +104,10 @@ MarksOf f o buffer = (t : Text) → o ≡ ok t → take (length t) buffer ≡ f 
 abbrev pub handed : ℕ → List ℕ → List ℕ → List ℕ
 handed n found out = cond (leb n (length out)) (over out 0 (take n found)) out
 
--- what a run over segments tells: the place behind them, their size, the state there, and the number of ones among their marks
+-- what a run over segments tells: how many were read, the place behind them, their size, the state there, and the number of ones
+-- among their marks
 pub record Course : Type 0 where
+  pub segments : ℕ
   pub next : ℕ
   pub size : ℕ
   pub state : ℕ
@@ -114,6 +116,7 @@ pub record Course : Type 0 where
 unfoldable pub courseOf : List ℕ → ℕ → Taken Text ℕ → Course
 courseOf P st x =
     record {
+      segments = length (x .value);
       next = x .next;
       size = size (x .value);
       state = run P st (x .value);
@@ -121,7 +124,8 @@ courseOf P st x =
     }
 
 abbrev pub toldRan : Ran → Outcome Course
-toldRan (To next size state ends) = ok (record { next = next; size = size; state = state .bits; ends = ends })
+toldRan (To segments next size state ends) =
+    ok (record { segments = segments; next = next; size = size; state = state .bits; ends = ends })
 toldRan (Ran.Refused r) = refused (r .number) (r .place)
 
 -- a buffer that holds the marks of accepted segments in front, as f gives them; after a refusal it may hold anything

@@ -9,6 +9,7 @@ use Rattle.text.specs.Strand.{onStrand}
 use Rattle.text.specs.declared.strand.Strand.{Strand}
 use Rattle.stretch.specs.Reading.{segmentOf, stretchOf}
 use Rattle.search.specs.Answers.{Next, feeding, seeking, seenFrom}
+use Rattle.search.specs.First.{Hit, endsIn, clear, firsting}
 
 -- the text of lone segments; the first that is refused refuses all
 unfoldable pub segmentsText : List (List ℕ) → Outcome Text
@@ -29,6 +30,11 @@ unfoldable pub stretchesText : List (List ℕ) → Outcome Text
 stretchesText [] = ok []
 stretchesText (s ∷ ss) = after (stretchOf s) λ t. after (stretchesText ss) λ T. ok (t ++ T)
 
+-- an end stays; where nothing ends, go on with the state
+abbrev pub onward : (ℕ → Outcome Hit) → Hit → Outcome Hit
+onward f (endsIn k) = ok (endsIn k)
+onward f (clear st) = f st
+
 -- the marks that searches leave, end to end, and the state behind the last of them
 pub record Trail : Type 0 where
   pub marks : List ℕ
@@ -41,3 +47,9 @@ seeks P strand st room (s ∷ ss) =
     after (seeking P st s room) λ t.
     after (seeks P strand (seenFrom (onStrand strand P) st t .state) room ss) λ x.
     ok (record { marks = marksFrom (onStrand strand P) st t ++ x .marks; state = x .state })
+
+-- stretches asked one by one for the first hit, of the pattern as a strand reads it: each from the state behind the one before, up to
+-- the first in which something ends
+unfoldable pub asks : List ℕ → Strand → ℕ → List (List ℕ) → Outcome Hit
+asks P strand st [] = ok (clear st)
+asks P strand st (s ∷ ss) = after (firsting P strand st s) (onward λ reached. asks P strand reached ss)

@@ -7,5 +7,6 @@ pub mod BorderStep
 pub mod Method
 pub mod Answers
 pub mod Either
+pub mod First
 pub mod Chain
 pub mod Carried

@@ -3,6 +3,7 @@ mod bits;
 mod borders;
 mod both;
 mod entry;
+mod first;
 mod marking;
 mod method;
 mod run;
@@ -12,6 +13,7 @@ mod state;
 mod vectors;
 
 pub use both::either;
+pub use first::First;
 pub use searching::Searched;
 pub use searching::by_bits;
 pub use searching::by_borders;

@@ -67,6 +67,7 @@ fn mark_by_way_of(
 {
     let letters = classes();
     match run_stretch(
+        false,
         method,
         pattern,
         table,

@@ -20,6 +20,8 @@ ghost use Rattle.text.specs.Refusal.{ok, after, answer};
 ghost use Rattle.text.specs.State.{marksFrom};
 ghost use Rattle.text.specs.Strand.{onStrand};
 ghost use Rattle.stretch.specs.Reading.{segmentAt, many};
+ghost use Prim.Native.Nat.{_≤_};
+ghost use Rattle.stretch.specs.Bytes.{greatestStretch};
 ghost use Rattle.stretch.specs.Answers.{leftBy};
 ghost use Rattle.search.specs.Masks.{StateOf};
 ghost use Rattle.search.specs.Border.{Sized};
@@ -73,6 +75,7 @@ impl State {
         match alone(&bytes[..m], self, segment) {
             Ran::Refused(refused) => Fed::Refused(refused),
             Ran::To {
+                segments: _,
                 next,
                 size: _,
                 state,
@@ -131,7 +134,7 @@ impl State {
 
 // The run over a lone segment. What it marks is told by the number of ones.
 fn alone(pattern: &[u8], state: State, segment: &[u8]) -> Ran
-    requires { ⌜ Sized (now pattern) × StateOf (now pattern) (state .bits) ⌝ }
+    requires { ⌜ Sized (now pattern) × StateOf (now pattern) (state .bits) × (length (now segment) ≤ greatestStretch) ⌝ }
     ensures { λ r. ⌜ toldRan r
         ≡ after (many (λ _. segmentAt (now (segment .entry))) 1 [] 0) (λ x. ok (courseOf (now (pattern .entry)) (state .bits) x)) ⌝ }
 {
@@ -139,6 +142,7 @@ fn alone(pattern: &[u8], state: State, segment: &[u8]) -> Ran
     let letters = classes();
     let mut mark = [0u8; 1];
     run(
+        false,
         Method::Bits,
         pattern,
         &table,

@@ -2,5 +2,6 @@
 pub mod Saying
 pub mod Uniting
 pub mod Standings
+pub mod Firsts
 pub mod Rows
 pub mod Theorems

@@ -1,37 +1,49 @@
 -- What this crate proves of its calls, theorem by theorem: read this file first. `passing`, `stood` and `bothMarks` are what the contract of
 -- `pass` says of its answer, `stands` is that call on one stretch after another, each from where the one before has led, and `night` is
--- that for each sequence of a list.
-use Prim.Native.Nat.{ℕ, zero, suc, _+_, _≤_, _<_, _^_, min}
+-- that for each sequence of a list. `halting`, `halts` and `firstNight` are the same of `pass_first`.
+use Prim.Native.Nat.{ℕ, zero, suc, _+_, _≤_, _<_, _-_, _^_, min}
 use native.Mathlib.Omega.{arith}
 use mathlib.Core.Path.{_≡_, refl, sym, ap, ap₂, _∙_}
-use mathlib.Core.Logic.{_⊎_, ⊎-elim, _↔_}
+use mathlib.Core.Logic.{_⊎_, inl, inr, ⊎-elim, _↔_, by-cases}
 use mathlib.Core.Bool.{Bool, true, false, cond}
 use mathlib.Core.List.{List, [], _∷_, _++_, append-assoc, append-nil}
-use mathlib.Core.List.{List·Memᴰ, List·Memᴰ·cases-cons, List·Memᴰ·not-nil, Memᴰ·cast}
-use borrow.Author.Tests.{ne-eqb}
+use mathlib.Core.List.{List·Memᴰ, List·Memᴰ·head, List·Memᴰ·tail, List·Memᴰ·cases-cons, List·Memᴰ·not-nil, Memᴰ·cast}
+use native.Mathlib.Decide.{decLt}
+use borrow.Author.Tests.{ne-eqb, lt-ltb}
+use lib.Dec.{ltb}
 use lib.ListN.{length, getD, length-append, List·getD-append}
 use Rattle.text.specs.Text.{Text}
 use Rattle.text.specs.Occurrence.{EndsIn}
-use Rattle.text.specs.State.{isState, fresh, run, marksFrom, marks}
+use Rattle.text.specs.Bits.{bit}
+use Rattle.text.specs.State.{isState, fresh, next, run, marksFrom, marks}
+use Rattle.text.specs.Card.{none, firstEnd}
 use Rattle.text.specs.Strand.{opposite}
 use Rattle.text.specs.Refusal.{Outcome, ok, refused, after}
 use Rattle.text.proofs.Outcomes.{ok-inj, refused-ok, after-met}
 use Rattle.text.proofs.Patterns.{SoundPattern}
+use Rattle.text.proofs.Truth.{and-left, and-both}
+use Rattle.text.proofs.Steps.{next-open, next-lt}
+use Rattle.text.proofs.Strands.{opposite-length}
+use Rattle.text.proofs.Ends.{firstEnd-least, firstEnd-within, firstEnd-mark}
 use Rattle.text.proofs.Marks.{marks-length, run-append, marks-append}
 use Rattle.stretch.specs.Pieces.{mostInStretch}
 use Rattle.stretch.specs.Reading.{stretchOf}
 use Rattle.search.specs.Answers.{seeking}
 use Rattle.search.specs.Chain.{stretchesText}
+use Rattle.search.specs.First.{wholeOf}
+use Rattle.search.proofs.Entries.{fresh-state}
 use Rattle.search.specs.Either.{united, eitherMarks}
 use Rattle.search.proofs.Eithers.{united-length}
 use Rattle.lines.specs.Answer.{markedFrom}
 use Rattle.lines.specs.declared.strands.Strands.the-variants.{Either}
 use Rattle.lines.proofs.Screens.{on-ends, on-length}
 use Rattle.lines.proofs.Named.{named-is, is-named}
-use Rattle.verdict.specs.Standing.{plus, passing, bothMarks, stood, begun, stands, night}
+use Rattle.verdict.specs.Standing.{plus, passing, bothMarks, stood, begun, stands, allEnds, night}
+use Rattle.verdict.specs.First.{at, ended, halting, halts, firstNight}
 use Rattle.verdict.specs.Said.{clearLine, heldLine, lastLine, nightLine}
 use Rattle.verdict.specs.declared.standing.Standing.{Standing}
 use Rattle.verdict.proofs.Standings.{sought-sound}
+use Rattle.verdict.proofs.Firsts.{some-named, at-heard, at-first, halts-stands, stands-halts}
 use Rattle.verdict.proofs.Rows.{united-append, count-append, getD-behind, plus-cut}
 
 -- an occurrence of P ends in segment j on the strand as given or on the opposite one
@@ -117,11 +129,7 @@ stands-text P ss y e = stands-from P [] begun ss y (at-begun P) e
 ends-some : (P : List ℕ) (T : Text) (j : ℕ) → SoundPattern P → EndsOnEither P T j → 0 < length (markedFrom 0 (eitherMarks P T))
 ends-some P T j y h =
     let m : List·Memᴰ (0 + j) (markedFrom 0 (eitherMarks P T)) = is-named 0 (eitherMarks P T) j (on-ends P T Either j (y .some) .1 h) in
-    some (markedFrom 0 (eitherMarks P T)) m
-  where
-    some : (l : List ℕ) → List·Memᴰ (0 + j) l → 0 < length l
-    some [] m = absurd (List·Memᴰ·not-nil m)
-    some (a ∷ l) m = omega arith
+    some-named (markedFrom 0 (eitherMarks P T)) m
 
 -- where nothing is counted, every stretch was accepted and no occurrence ends anywhere in their text
 pub stands-clear : (P : List ℕ) (ss : List (List ℕ)) (y : Standing) → SoundPattern P → stands P begun ss ≡ ok y → y .ends ≡ 0
@@ -140,20 +148,32 @@ line-clear true (suc n) e =
     let held : lastLine true (suc n) ≡ heldLine = rw (ne-eqb (suc n) 0 some) refl in
     absurd (let z : ⊥ = omega (arith, ap (λ (l : List ℕ). getD l 0 0) (sym held ∙ e)) in z)
 
-night-none : (Ps ss : List (List ℕ)) (n : ℕ) → night Ps ss ≡ ok n → n ≡ 0 → (P : List ℕ) → List·Memᴰ P Ps
-    → (y : Standing) × (stands P begun ss ≡ ok y) × (y .ends ≡ 0)
-unfolding night plus
-night-none [] ss n e none P m = absurd (List·Memᴰ·not-nil m)
-night-none (Q ∷ Ps) ss n e none P m =
-    let (y, here, more) = after-met (stands Q begun ss) (λ x. after (night Ps ss) λ k. ok (plus (x .ends) k)) n e in
-    let (k, there, sum) = after-met (night Ps ss) (λ k. ok (plus (y .ends) k)) n more in
+-- a sequence that is accepted, and ends nowhere
+abbrev pub Clears : Outcome Standing → Type 0
+Clears o = (y : Standing) × (o ≡ ok y) × (y .ends ≡ 0)
+
+all-none : (stand : List ℕ → Outcome Standing) (Ps : List (List ℕ)) (n : ℕ) → allEnds stand Ps ≡ ok n → n ≡ 0
+    → (P : List ℕ) → List·Memᴰ P Ps → Clears (stand P)
+unfolding allEnds plus
+all-none stand [] n e none P m = absurd (List·Memᴰ·not-nil m)
+all-none stand (Q ∷ Ps) n e none P m =
+    let (y, here, more) = after-met (stand Q) (λ x. after (allEnds stand Ps) λ k. ok (plus (x .ends) k)) n e in
+    let (k, there, sum) = after-met (allEnds stand Ps) (λ k. ok (plus (y .ends) k)) n more in
     let zero-sum : min (y .ends + k) most ≡ 0 = ok-inj sum ∙ none in
     let own : y .ends ≡ 0 = omega (arith, zero-sum) in
     let rest : k ≡ 0 = omega (arith, zero-sum) in
     ⊎-elim
-    (λ (same : P ≡ Q). (y, ap (λ (R : List ℕ). stands R begun ss) same ∙ here, own))
-    (λ (later : List·Memᴰ P Ps). night-none Ps ss k there rest P later)
+    (λ (same : P ≡ Q). (y, ap stand same ∙ here, own))
+    (λ (later : List·Memᴰ P Ps). all-none stand Ps k there rest P later)
     (List·Memᴰ·cases-cons m)
+
+none-all : (stand : List ℕ → Outcome Standing) (Ps : List (List ℕ)) → ((P : List ℕ) → List·Memᴰ P Ps → Clears (stand P))
+    → allEnds stand Ps ≡ ok 0
+unfolding allEnds plus
+none-all stand [] all = refl
+none-all stand (Q ∷ Ps) all =
+    let (y, here, own) = all Q (List·Memᴰ·head refl) in
+    rw (here, none-all stand Ps (λ P m. all P (List·Memᴰ·tail m)), own) refl
 
 night-zero : (o : Outcome ℕ) → nightLine o ≡ clearLine → o ≡ ok 0
 night-zero (ok n) e = ap ok (line-clear true n e .1)
@@ -166,8 +186,9 @@ night-zero (refused n p) e = let z : _≡_ {A = Bool} false true = line-clear fa
 -- of the sequences, on either strand, ends anywhere in the text of all the stretches, across every cut
 pub night-clear : (Ps ss : List (List ℕ)) → nightLine (night Ps ss) ≡ clearLine → (P : List ℕ) → List·Memᴰ P Ps → SoundPattern P
     → (T : Text) × (stretchesText ss ≡ ok T) × ((j : ℕ) → EndsOnEither P T j → ⊥)
+unfolding night
 night-clear Ps ss e P m sound =
-    let (y, met, none) = night-none Ps ss 0 (night-zero (night Ps ss) e) refl P m in
+    let (y, met, none) = all-none (λ P. stands P begun ss) Ps 0 (night-zero (night Ps ss) e) refl P m in
     stands-clear P ss y sound met none
 
 -- a file behind others: with T the text of those before, t its own and U that of those behind, segment j of it is reported exactly when an
@@ -215,3 +236,108 @@ module _ (P : List ℕ) (T t U : Text) (x : Standing) (a : At P T x) where
   pub numbered : (j : ℕ) → length T + j ≤ most → plus (x .segments) j ≡ length T + j
   unfolding plus
   numbered j l = let own : x .segments ≡ length T = omega (arith, a .segments) in omega (arith, own)
+
+-- the last line is one of two
+line-or : (o : Outcome ℕ) → (o ≡ ok 0) ⊎ (nightLine o ≡ heldLine)
+unfolding lastLine
+line-or (ok zero) = inl refl
+line-or (ok (suc n)) =
+    let some : suc n ≡ 0 → ⊥ = λ h. (let z : ⊥ = omega arith in z) in
+    inr (rw (ne-eqb (suc n) 0 some) refl)
+line-or (refused n p) = inr refl
+
+-- two ways to stand that clear the same sequences give the same last line
+same-line : (one two : List ℕ → Outcome Standing) → ((P : List ℕ) → Clears (one P) → Clears (two P))
+    → ((P : List ℕ) → Clears (two P) → Clears (one P)) → (Ps : List (List ℕ)) → nightLine (allEnds one Ps) ≡ nightLine (allEnds two Ps)
+same-line one two there back Ps =
+    let over : allEnds one Ps ≡ ok 0 → allEnds two Ps ≡ ok 0 = λ e. none-all two Ps (λ P m. there P (all-none one Ps 0 e refl P m)) in
+    let from : allEnds two Ps ≡ ok 0 → allEnds one Ps ≡ ok 0 = λ e. none-all one Ps (λ P m. back P (all-none two Ps 0 e refl P m)) in
+    ⊎-elim
+    (λ (e : allEnds one Ps ≡ ok 0). ap nightLine (e ∙ sym (over e)))
+    (λ (h : nightLine (allEnds one Ps) ≡ heldLine).
+    ⊎-elim
+    (λ (e : allEnds two Ps ≡ ok 0). ap nightLine (from e ∙ sym e))
+    (λ (k : nightLine (allEnds two Ps) ≡ heldLine). h ∙ sym k)
+    (line-or (allEnds two Ps)))
+    (line-or (allEnds one Ps))
+
+-- the last line with `--first` is the last line without it, of every list of sequences and every row of stretches
+pub first-line : (Ps ss : List (List ℕ)) → nightLine (firstNight Ps ss) ≡ nightLine (night Ps ss)
+unfolding firstNight night
+first-line Ps ss =
+    same-line (λ P. halts P begun ss) (λ P. stands P begun ss)
+    (λ P c. (c .0, halts-stands P begun ss (c .0) refl (c .1) (c .2), c .2))
+    (λ P c. (c .0, stands-halts P begun ss (c .0) (c .1) (c .2) .1, c .2))
+    Ps
+
+-- a run leads from state to state
+run-state : (P : List ℕ) (st : ℕ) (T : Text) → 0 < length P → isState (length P) st ≡ true → isState (length P) (run P st T) ≡ true
+unfolding run isState
+run-state P st [] l i = i
+run-state P st (g ∷ T) l i =
+    run-state P (next P st g) T l
+    (and-both _ _ (next-open P st g l ∙ and-left (bit st 0) (ltb st (2 ^ length P)) i)
+    (lt-ltb (next P st g) (2 ^ length P) (next-lt P st g)))
+
+-- the first end of P: with T the text of the stretches before, in which nothing ends, and t the segments of this one that read whole before
+-- its first fault, an occurrence ends in segment `length T + k` on either strand, and in none before it, whatever U follows
+pub record FirstOf (P : List ℕ) (T t : Text) (k : ℕ) (x y : Standing) : Type 0 where
+  pub inside : k < length t
+  pub there : (U : Text) → EndsOnEither P (T ++ (t ++ U)) (length T + k)
+  pub before : (U : Text) (j : ℕ) → j < length T + k → EndsOnEither P (T ++ (t ++ U)) j → ⊥
+  pub number : length T + k ≤ most → plus (x .segments) k ≡ length T + k
+  pub held : y .ends ≡ 1
+
+-- no segment of a text in which nothing ends is marked, whatever follows it
+clear-before : (P : List ℕ) (T U : Text) (x : Standing) → At P T x → x .ends ≡ 0 → (j : ℕ) → j < length T
+    → getD (eitherMarks P (T ++ U)) j 0 ≡ 1 → ⊥
+clear-before P T U x a e j l marked =
+    let inside : j < length (eitherMarks P T) = omega (arith, on-length P T Either) in
+    let own : getD (eitherMarks P T) j 0 ≡ 1 =
+    sym (ap (λ (m : List ℕ). getD m j 0) (marks-behind P T U x a) ∙ List·getD-append (eitherMarks P T) (bothMarks P x U) 0 j inside)
+    ∙ marked in
+    let c : ⊥ = omega (arith, e, a .ends, some-named (markedFrom 0 (eitherMarks P T)) (is-named 0 (eitherMarks P T) j own)) in c
+
+first-of : (P : List ℕ) (T : Text) (x : Standing) (s : List ℕ) (k : ℕ) (y : Standing) → SoundPattern P → At P T x → x .ends ≡ 0
+    → halting P x s ≡ ok (at k y) → FirstOf P T (wholeOf s) k x y
+first-of P T x s k y sound a e met =
+    let heard = at-heard P x s e k y met in
+    let own : isState (length P) (x .given .bits) ≡ true =
+    ap (isState (length P)) (a .own) ∙ run-state P fresh T (sound .some) (fresh-state P (sound .some)) in
+    let some : 0 < length (opposite P) = rw (opposite-length P) (sound .some) in
+    let turned : isState (length P) (x .opposite .bits) ≡ true =
+    ap (isState (length P)) (a .turned) ∙ ap (λ (m : ℕ). isState m (run (opposite P) fresh T)) (sym (opposite-length P))
+    ∙ run-state (opposite P) fresh T some (fresh-state (opposite P) some) in
+    let t : Text = wholeOf s in
+    let (is, small) = at-first P x s sound own turned k (heard .0) in
+    let low : firstEnd (bothMarks P x t) < none = omega (arith, is, small) in
+    let in-marks = firstEnd-within (bothMarks P x t) low in
+    let in-text : k < length t = omega (arith, is, in-marks, both-length P T t [] x a) in
+    let mark : getD (bothMarks P x t) k 0 ≡ 1 = ap (λ (i : ℕ). getD (bothMarks P x t) i 0) is ∙ firstEnd-mark (bothMarks P x t) low in
+    record {
+      inside = in-text;
+      there = λ U. on-ends P (T ++ (t ++ U)) Either (length T + k) (sound .some) .0 (mark-there P T t U x a k in-text ∙ mark);
+      before = λ U j l h.
+          let marked : getD (eitherMarks P (T ++ (t ++ U))) j 0 ≡ 1 = on-ends P (T ++ (t ++ U)) Either j (sound .some) .1 h in
+          by-cases (decLt j (length T))
+          (λ (early : j < length T). clear-before P T (t ++ U) x a e j early marked)
+          (λ (late : ¬ (j < length T)).
+          let at-i : j ≡ length T + (j - length T) = omega arith in
+          let near : j - length T < k = omega arith in
+          let here : getD (bothMarks P x t) (j - length T) 0 ≡ 1 =
+          sym (mark-there P T t U x a (j - length T) (let z : j - length T < length t = omega (arith, near, in-text) in z))
+          ∙ ap (λ (n : ℕ). getD (eitherMarks P (T ++ (t ++ U))) n 0) (sym at-i) ∙ marked in
+          let high : k ≤ none = omega (arith, small) in
+          let upto : k ≤ firstEnd (bothMarks P x t) = omega (arith, is) in
+          firstEnd-least (bothMarks P x t) k high .0 upto (j - length T) near here);
+      number = numbered P T t [] x a k;
+      held = ap (λ (z : Standing). z .ends) (heard .1);
+    }
+
+-- what `--first` reports of a stretch behind others is the first end of the sequence, with its number in the text
+pub first-reported : (P : List ℕ) (ss : List (List ℕ)) (x : Standing) (s : List ℕ) (k : ℕ) (y : Standing) → SoundPattern P
+    → halts P begun ss ≡ ok x → x .ends ≡ 0 → halting P x s ≡ ok (at k y)
+    → (T : Text) × (stretchesText ss ≡ ok T) × FirstOf P T (wholeOf s) k x y
+first-reported P ss x s k y sound met e there =
+    let z = stands-text P ss x (halts-stands P begun ss x refl met e) in
+    (z .text, z .accepted, first-of P (z .text) x s k y sound (z .at) e there)

@@ -68,7 +68,11 @@ unfoldable pub stands : List ℕ → Standing → List (List ℕ) → Outcome St
 stands P x [] = ok x
 stands P x (s ∷ ss) = after (passing P x s mostInStretch) λ t. stands P (stood P x t) ss
 
--- the sum of what the sequences of a list end in, behind all stretches; the first refusal refuses all
+-- the sum of what the sequences of a list end in, each where it stands; the first refusal refuses all
+unfoldable pub allEnds : (List ℕ → Outcome Standing) → List (List ℕ) → Outcome ℕ
+allEnds stand [] = ok 0
+allEnds stand (P ∷ Ps) = after (stand P) λ x. after (allEnds stand Ps) λ n. ok (plus (x .ends) n)
+
+-- the same behind all stretches
 unfoldable pub night : List (List ℕ) → List (List ℕ) → Outcome ℕ
-night [] ss = ok 0
-night (P ∷ Ps) ss = after (stands P begun ss) λ x. after (night Ps ss) λ n. ok (plus (x .ends) n)
+night Ps ss = allEnds (λ P. stands P begun ss) Ps

@@ -1,10 +1,13 @@
 // What the release desk decides of a text that comes as stretches: where a withheld sequence stands behind each of them, in which
 // segments it ends, and the lines that say so.
+mod first;
 mod said;
 mod standing;
 mod sum;
 mod unite;
 
+pub use first::Stopped;
+pub use first::pass_first;
 pub use said::put_done;
 pub use said::put_fault;
 pub use said::put_hit;

@@ -5,10 +5,10 @@ use Rattle.desk.proofs.work.over_files.Statement.{statement}
 use Rattle.desk.proofs.work.over_files.Tie as tie
 
 abbrev Inv-loop : tie.InvT-loop
-Inv-loop list files work₀ all i₀ work i = i ≤ all
+Inv-loop list files first work₀ all i₀ work i = i ≤ all
 
 abbrev μ-loop : tie.MeasureT-loop
-μ-loop list files work₀ all i₀ work i = all - i
+μ-loop list files first work₀ all i₀ work i = all - i
 
 pub over-files-spec : {M : Type 1} → statement M
 over-files-spec =
@@ -19,6 +19,8 @@ over-files-spec =
     (λ c. search needs)
     (λ c κs. search needs)
     (λ c. search needs)
+    (λ c. search needs)
+    (λ c κs. search needs)
     (λ c. search needs)
     (λ c κs. search needs)
     (λ c. search needs)

@@ -1,6 +1,7 @@
 -- `search::state::alone` meets its contract: `run` has it, and one mark has room.
 use borrow.Author.Needs.{needs}
 use native.Mathlib.Omega.{arith}
+use Rattle.search.specs.First.{reach}
 use Rattle.search.proofs.BitScans.{masks-short}
 use Rattle.search.proofs.state.alone.Statement.{statement}
 use Rattle.search.proofs.state.alone.Tie as tie
@@ -21,10 +22,11 @@ run-requires c κs =
         },
         p .1,
       ),
-      (omega arith, omega arith),
+      ((omega arith, omega (arith, p .2)), λ _. omega arith),
     )
 
 returns : tie.Need-returns
+unfolding reach
 returns c = c .before .run .ensures .0
 
 pub alone-spec : {M : Type 1} → statement M

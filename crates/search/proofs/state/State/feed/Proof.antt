@@ -28,7 +28,7 @@ alone-requires : tie.Need-alone-requires
 alone-requires c κs =
     let r = c .before in
     let y = entry (r .before) in
-    (read-sized _ _ _ (r .read-on .ensures) (y .sound), read-state _ _ _ (r .read-on .ensures) (y .sound) _ (y .state))
+    (read-sized _ _ _ (r .read-on .ensures) (y .sound), read-state _ _ _ (r .read-on .ensures) (y .sound) _ (y .state), y .short)
 
 returns-2 : tie.Need-returns-2
 returns-2 c =
@@ -39,7 +39,7 @@ returns-2 c =
     let y = entry (r .before) in
     let on = sym (g .alone .ensures) ∙ ap toldRan (n .next .given .1) in
     let read = read-is _ _ _ (r .read-on .ensures) (y .sound) in
-    fed-both _ (sym (fed-left _ _ _ _ _ read y _ _ _ _ on _ (d .closed .ensures) (c .before .refused3 .given .1)))
+    fed-both _ (sym (fed-left _ _ _ _ _ read y _ _ _ _ _ on _ (d .closed .ensures) (c .before .refused3 .given .1)))
 
 returns-3 : tie.Need-returns-3
 returns-3 c =
@@ -58,7 +58,7 @@ returns-4 c =
     let y = entry (r .before) in
     let on = sym (g .alone .ensures) ∙ ap toldRan (n .next .given .1) in
     let read = read-is _ _ _ (r .read-on .ensures) (y .sound) in
-    fed-both _ (sym (fed-next _ _ _ _ _ read y _ _ _ _ on _ (d .closed .ensures) (c .enum-told2 .given .1)))
+    fed-both _ (sym (fed-next _ _ _ _ _ read y _ _ _ _ _ on _ (d .closed .ensures) (c .enum-told2 .given .1)))
 
 pub feed-spec : {M : Type 1} → statement M
 feed-spec =

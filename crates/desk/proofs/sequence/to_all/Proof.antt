@@ -1,11 +1,11 @@
--- `desk::work::over_sequence` is safe: a stretch has no more segments than there is room for marks.
+-- `desk::sequence::to_all` is safe: a stretch has no more segments than there is room for marks.
 use native.Mathlib.Omega.{arith}
 use mathlib.Core.Path.{sym}
 use lib.Seq.{length-take-le}
 use Rattle.verdict.proofs.Standings.{passed-room}
 use borrow.Author.Needs.{needs}
-use Rattle.desk.proofs.work.over_sequence.Statement.{statement}
-use Rattle.desk.proofs.work.over_sequence.Tie as tie
+use Rattle.desk.proofs.sequence.to_all.Statement.{statement}
+use Rattle.desk.proofs.sequence.to_all.Tie as tie
 
 array-share-prefix-marks : tie.Need-array-share-prefix-marks
 array-share-prefix-marks c =
@@ -15,8 +15,8 @@ array-share-prefix-marks c =
 slice-aggregate-tell-hits : tie.Need-slice-aggregate-tell-hits
 slice-aggregate-tell-hits c = sym (length-take-le _ _ (array-share-prefix-marks (c .before)))
 
-pub over-sequence-spec : {M : Type 1} → statement M
-over-sequence-spec =
+pub to-all-spec : {M : Type 1} → statement M
+to-all-spec =
     tie.close
     (tie.spec
     (λ c. search needs)

@@ -1,0 +1,66 @@
+// The first hit: whether a stretch is clear, and if not, the first segment in which an occurrence ends. It is the run of the searches,
+// which stops there: what stands behind is not read, and no mark is kept. The right call where one end decides.
+use crate::entry::Entry;
+use crate::entry::enter;
+use crate::method::Method;
+use crate::run::run_stretch;
+use crate::state::Sought;
+use crate::state::State;
+use crate::vectors::classes;
+use crate::vectors::masks;
+use text::Refusal;
+use text::strand::Strand;
+use text::strand::read_on;
+ghost use mathlib.Core.Path.{_≡_};
+ghost use Rattle.text.specs.Refusal.{ok, after, answer};
+ghost use Rattle.search.specs.First.{firsting, toldFirst, answerFirst, stopOf, zeroStop};
+
+// The first segment in which an occurrence ends; or the state behind a sound stretch in which nothing ends.
+pub enum First {
+    Ends(usize),
+    None(State),
+    Refused(Refusal),
+}
+
+impl State {
+    // The first segment in which an occurrence of the pattern ends, as the strand reads it: refusals 1, 2, 3, 4, 17. Where no segment
+    // that reads whole before the first fault ends one, the answer is that fault's refusal, or the state behind a sound stretch.
+    pub fn first(self, pattern: &[u8], strand: Strand, stretch: &[u8]) -> First
+        ensures { λ r. ⌜ toldFirst r ≡ firsting (now (pattern .entry)) strand (self .bits) (now (stretch .entry)) ⌝ }
+        ensures { λ r. ⌜ answerFirst r
+            ≡ answer zeroStop (after (firsting (now (pattern .entry)) strand (self .bits) (now (stretch .entry))) (λ h. ok (stopOf h))) ⌝ }
+    {
+        if let Entry::Refused(refused) = enter(pattern, self, stretch) {
+            return First::Refused(refused);
+        }
+        let m = pattern.len();
+        let bytes = read_on(strand, pattern);
+        let read = &bytes[..m];
+        let table = masks(read);
+        let letters = classes();
+        let mut kept = [0u8; 0];
+        match run_stretch(
+            true,
+            Method::Bits,
+            read,
+            &table,
+            &letters,
+            self,
+            stretch,
+            &mut kept,
+        ) {
+            Sought::Refused(refused) => First::Refused(refused),
+            Sought::Marked {
+                segments,
+                size: _,
+                ends,
+                state,
+            } => {
+                if ends == 0 {
+                    return First::None(state);
+                }
+                First::Ends(segments - 1)
+            }
+        }
+    }
+}
