@@ -1,5 +1,5 @@
 // Whether the variant that ends stands in its segment already. `write` asks this too; asked here, the place in the text is known.
-use text::compare::alike;
+use text::from_end::alike_from_end;
 
 // A length as a number.
 pub fn stated(length: u16) -> usize {
@@ -24,7 +24,7 @@ pub fn stands(letters: &[u8], lengths: &[u16], from: usize, spelt: usize) -> boo
             return false;
         }
         let next = start + size;
-        if alike(variant, &letters[start..next]) {
+        if alike_from_end(variant, &letters[start..next]) {
             return true;
         }
         start = next;

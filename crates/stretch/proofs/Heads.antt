@@ -1,7 +1,9 @@
 -- Laws of a variant's head, and of its letters as they stand.
 use Prim.Native.Nat.{ℕ, _+_, _-_, _≤_, _<_}
+use native.Mathlib.Decide.{decLt}
 use native.Mathlib.Omega.{arith}
 use mathlib.Core.Path.{_≡_, refl, sym, ap, _∙_}
+use mathlib.Core.Logic.{by-cases}
 use mathlib.Core.List.{List}
 use borrow.Author.Tests.{leb-true, le-leb, lt-leb}
 use lib.Dec.{leb}
@@ -9,7 +11,7 @@ use lib.ListN.{length, take, drop, length-take, length-drop}
 use Rattle.text.specs.Letter.{meant}
 use Rattle.text.specs.Refusal.{ok, refused}
 use Rattle.text.proofs.Likes.{meant-length}
-use Rattle.text.proofs.Outcomes.{ok-inj, demand-met}
+use Rattle.text.proofs.Outcomes.{ok-inj, demand-met, refused-ok}
 use Rattle.stretch.specs.Bytes.{word}
 use Rattle.stretch.specs.Pieces.{lettersAt, nextOf, Span, headAt}
 use Rattle.stretch.specs.Reading.{valueOf}
@@ -40,6 +42,12 @@ head-is s at start next e =
       ends = sym (ap (λ (x : Span). x .next) p);
       inside = leb-true (nextOf s at) (length s) fits;
     }
+
+-- refused, it is cut off
+pub head-not : (s : List ℕ) (at j p : ℕ) → headAt s at ≡ refused j p → length s < nextOf s at
+head-not s at j p e =
+    by-cases (decLt (length s) (nextOf s at)) (λ (l : length s < nextOf s at). l)
+    (λ (l : ¬ (length s < nextOf s at)). absurd (refused-ok j p _ (sym e ∙ head-found s at _ refl (omega arith))))
 
 -- the part from start to next is the variant's letters
 pub whole-part : (s : List ℕ) (at start next : ℕ) → Whole s at start next → take (next - start) (drop start s) ≡ lettersAt s at

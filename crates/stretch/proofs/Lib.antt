@@ -9,6 +9,7 @@ pub mod Heads
 pub mod Skips
 pub mod RepeatsInBytes
 pub mod Verdicts
+pub mod Prints
 pub mod Walks
 pub mod Frames
 -- walks over the variants of a segment and the segments of a stretch

@@ -2,7 +2,7 @@
 -- stand before it.
 use Prim.Native.Nat.{ℕ, zero, suc, _+_, _-_, _≤_, _<_}
 use native.Mathlib.Omega.{arith}
-use mathlib.Core.Path.{_≡_, refl, ap, _∙_}
+use mathlib.Core.Path.{_≡_, refl, sym, ap, _∙_}
 use mathlib.Core.Bool.{true, false, _||_}
 use mathlib.Core.List.{List}
 use borrow.Author.Tests.{le-leb, lt-leb, lt-ltb, le-ltb}
@@ -13,10 +13,11 @@ use Rattle.text.specs.Compare.{same, alike}
 use Rattle.text.proofs.Likes.{like-lengths}
 use Rattle.text.specs.Bits.{anyOf}
 use Rattle.stretch.specs.Pieces.{lettersAt, nextOf, repeatedBefore, repeats}
-use Rattle.stretch.specs.Reading.{among, valuesFrom}
+use Rattle.stretch.specs.Reading.{among, valueOf, valuesFrom}
+use Rattle.stretch.specs.Prints.{repeatsAt}
 use Rattle.stretch.specs.Skips.{stepped, behindVariants, UpTo}
 use Rattle.stretch.proofs.Skips.{variants-grow}
-use Rattle.stretch.proofs.Heads.{Whole, value-part}
+use Rattle.stretch.proofs.Heads.{Whole, whole-part, value-part}
 
 module _ (s : List ℕ) (v : Variant) (first at : ℕ) where
   -- no room for the variant itself
@@ -90,3 +91,23 @@ repeats-walk s first k at start next up w =
     let room : at + 2 + length v ≤ length s = omega (arith, w .starts, w .ends, w .inside) in
     let enough : k ≤ at = omega (arith, few s v at k first (up .ends)) in
     repeats-room s v first at room ∙ before-all s v at k at first (up .ends) enough
+
+-- the same of the variant that stands there
+pub repeats-at-walk :
+    (s : List ℕ) (first k at start next : ℕ) → UpTo s first k at → Whole s at start next →
+    repeatsAt s first at ≡ among (valueOf s at) (valuesFrom s k first)
+unfolding repeatsAt
+repeats-at-walk s first k at start next up w =
+    let spells : meant (take (next - start) (drop start s)) ≡ valueOf s at =
+    ap meant (whole-part s at start next w) ∙ sym (value-part s at) in
+    rw (le-leb (nextOf s at) (length s) (w .inside), ← whole-part s at start next w, repeats-walk s first k at start next up w, spells)
+
+-- as it is asked: of a variant that is there, and of one that is cut off
+pub repeats-at-cut : (s : List ℕ) (first at : ℕ) → length s < nextOf s at → repeatsAt s first at ≡ false
+unfolding repeatsAt
+repeats-at-cut s first at l = rw (lt-leb (nextOf s at) (length s) l)
+
+pub repeats-at-whole : (s : List ℕ) (first at start next : ℕ) → Whole s at start next
+    → repeats s (take (next - start) (drop start s)) first at ≡ repeatsAt s first at
+unfolding repeatsAt
+repeats-at-whole s first at start next w = rw (le-leb (nextOf s at) (length s) (w .inside), whole-part s at start next w)

@@ -2,6 +2,7 @@
 pub mod Bytes
 pub mod Pieces
 pub mod Reading
+pub mod Prints
 pub mod Encoding
 pub mod Cuts
 pub mod Writing

@@ -5,7 +5,7 @@ pub mod pieces;
 mod places;
 mod reader;
 mod reading;
-mod repetition;
+pub mod repetition;
 mod segment;
 mod writer;
 

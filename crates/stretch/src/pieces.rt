@@ -3,11 +3,13 @@
 // behind the last segment. Any bytes and any places are fine.
 use crate::number::pair;
 use crate::number::wide;
+use crate::repetition::again;
 use crate::repetition::repeated;
 use text::Refusal;
 use text::letter::first_wrong;
 use text::refusal;
 ghost use mathlib.Core.Path.{_≡_};
+ghost use Rattle.text.specs.Refusal.{refused};
 ghost use Rattle.stretch.specs.Pieces.{fitsAt, openAt, variantsAt, headAt, misspeltAt, judgedAt, closedAt};
 ghost use Rattle.stretch.specs.Pieces.{toldOpened, toldCounted, toldPart, toldVerdict};
 
@@ -110,17 +112,17 @@ pub fn head(stretch: &[u8], at: usize) -> Part
 }
 
 // Refusal 7 of the variant at `at`, one of whose letters is no letter. Only now its place is looked for.
-fn misspelt(stretch: &[u8], at: usize) -> Verdict
-    ensures { λ r. ⌜ toldVerdict r ≡ misspeltAt (now (stretch .entry)) at ⌝ }
+pub fn misspelt(stretch: &[u8], at: usize) -> Refusal
+    ensures { λ r. ⌜ refused (r .number) (r .place) ≡ misspeltAt (now (stretch .entry)) at ⌝ }
 {
     match head(stretch, at) {
-        Part::Refused(wrong) => Verdict::Refused(wrong),
+        Part::Refused(wrong) => wrong,
         Part::At { start, next } => {
             let place = start + first_wrong(&stretch[start..next]);
-            Verdict::Refused(Refusal {
+            Refusal {
                 number: refusal::WRONG_LETTER,
                 place,
-            })
+            }
         }
     }
 }
@@ -131,13 +133,10 @@ pub fn judged(stretch: &[u8], first: usize, at: usize, letters: &[u8], wrong: bo
     ensures { λ r. ⌜ toldVerdict r ≡ judgedAt (now (stretch .entry)) first at (now (letters .entry)) wrong ⌝ }
 {
     if wrong {
-        return misspelt(stretch, at);
+        return Verdict::Refused(misspelt(stretch, at));
     }
     if repeated(stretch, first, at, letters) {
-        return Verdict::Refused(Refusal {
-            number: refusal::REPEATED,
-            place: at,
-        });
+        return Verdict::Refused(again(at));
     }
     Verdict::Sound
 }

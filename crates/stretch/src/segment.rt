@@ -1,16 +1,21 @@
 // One segment in the bytes, checked: its count and its variants, one after another.
 use crate::pieces::Counted;
 use crate::pieces::Part;
-use crate::pieces::Verdict;
 use crate::pieces::head;
-use crate::pieces::judged;
+use crate::pieces::misspelt;
 use crate::pieces::variants;
+use crate::repetition::again;
+use crate::repetition::print;
+use crate::repetition::repeated_at;
+use crate::repetition::suspected;
 use text::Refusal;
 use text::letter::first_wrong;
 use text::size::counted;
+ghost use Prim.Native.Nat.{_-_, _<_};
 ghost use mathlib.Core.Path.{_≡_};
 ghost use Rattle.stretch.specs.Skips.{UpTo};
 ghost use Rattle.stretch.specs.Pieces.{toldPart};
+ghost use Rattle.stretch.specs.Prints.{Noted};
 ghost use Rattle.stretch.specs.Reading.{valuesFrom};
 ghost use Rattle.stretch.specs.Answers.{spanAt, toldWalked, walkedSegment};
 
@@ -20,20 +25,32 @@ pub enum Walked {
     Refused(Refusal),
 }
 
-// The variant at `at`, behind the k of its segment that stand from `first` on: refusals 5, 7 and 8.
-fn variant_at(stretch: &[u8], first: usize, k: usize, at: usize) -> Part
-    requires { ⌜ UpTo (now stretch) first k at ⌝ }
-    ensures { λ r. ⌜ toldPart r ≡ spanAt (now (stretch .entry)) (valuesFrom (now (stretch .entry)) k first) at ⌝ }
+// The variant at `at`, the first of the `left` that are left of so many; those before it stand from `first` on, and the set has their
+// prints. Refusals 5, 7 and 8.
+fn variant_at(
+    stretch: &[u8],
+    count: usize,
+    prints: u64,
+    first: usize,
+    left: usize,
+    at: usize,
+) -> Part
+    requires { ⌜ UpTo (now stretch) first (count - left) at × Noted (now stretch) count first (count - left) prints × (count - left < count) ⌝ }
+    ensures { λ r. ⌜ toldPart r ≡ spanAt (now (stretch .entry)) (valuesFrom (now (stretch .entry)) (count - left) first) at ⌝ }
 {
     match head(stretch, at) {
         Part::Refused(wrong) => Part::Refused(wrong),
         Part::At { start, next } => {
             let letters = &stretch[start..next];
-            let wrong = first_wrong(letters) < next - start;
-            match judged(stretch, first, at, letters, wrong) {
-                Verdict::Refused(wrong) => Part::Refused(wrong),
-                Verdict::Sound => Part::At { start, next },
+            if first_wrong(letters) < next - start {
+                return Part::Refused(misspelt(stretch, at));
             }
+            if suspected(stretch, count, prints, at) {
+                if repeated_at(stretch, first, at) {
+                    return Part::Refused(again(at));
+                }
+            }
+            Part::At { start, next }
         }
     }
 }
@@ -51,9 +68,10 @@ pub fn segment_at(stretch: &[u8], at: usize) -> Walked
     let first = at + 1;
     let mut next = first;
     let mut size = 0;
-    let mut k = 0;
-    while k < count {
-        match variant_at(stretch, first, k, next) {
+    let mut prints = 0;
+    let mut left = count;
+    while 0 < left {
+        match variant_at(stretch, count, prints, first, left, next) {
             Part::Refused(wrong) => {
                 return Walked::Refused(wrong);
             }
@@ -62,8 +80,9 @@ pub fn segment_at(stretch: &[u8], at: usize) -> Walked
                 next: behind,
             } => {
                 size += counted(behind - start);
+                prints = prints | print(stretch, count, next);
                 next = behind;
-                k += 1;
+                left -= 1;
             }
         }
     }

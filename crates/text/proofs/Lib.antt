@@ -12,6 +12,7 @@ pub mod Sizes
 pub mod Bits
 pub mod Strings
 pub mod Likes
+pub mod FromEnd
 pub mod Snoc
 pub mod Steps
 pub mod Scan

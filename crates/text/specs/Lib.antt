@@ -2,6 +2,7 @@
 pub mod Letter
 pub mod Text
 pub mod Compare
+pub mod FromEnd
 pub mod Occurrence
 pub mod Bits
 pub mod State

@@ -48,7 +48,7 @@ pub fn suffix(p: &[u8], s: &[u8]) -> bool
 
 // Whether two bytes mean something else. Equal bytes need no second look, nor do bytes that differ by more than the bit of a letter's
 // case.
-fn differ(a: u8, b: u8) -> bool
+pub(crate) fn differ(a: u8, b: u8) -> bool
     ensures { λ r. ⌜ r ≡ not (eqb (raised a) (raised b)) ⌝ }
 {
     if a == b {

@@ -1,5 +1,6 @@
 // Letters, patterns, refusals, and tests on parts of slices: what every crate above this one cites.
 pub mod compare;
+pub mod from_end;
 pub mod letter;
 pub mod pattern;
 pub mod refusal;

@@ -3,7 +3,7 @@
 use crate::number::wide;
 use crate::writer::sums::stated;
 use text::Refusal;
-use text::compare::alike;
+use text::from_end::alike_from_end;
 use text::letter::first_wrong;
 use text::refusal;
 ghost use mathlib.Core.Path.{_≡_};
@@ -38,7 +38,7 @@ fn repeated(
     let mut i = 0;
     while i < k {
         let end = start + stated(lengths[first + i]);
-        if alike(variant, &letters[start..end]) {
+        if alike_from_end(variant, &letters[start..end]) {
             return true;
         }
         start = end;

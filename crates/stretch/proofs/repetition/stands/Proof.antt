@@ -16,7 +16,7 @@ returns-2 : tie.Need-returns-2
 returns-2 c =
     let a = c .before .before .before .before .before .args in
     let long : a .start + a .letters - a .start ≡ a .letters = omega arith in
-    c .alike .ensures ∙ ap (λ (n : ℕ). alike (a .variant .now) (take n (drop (a .start) (a .stretch .now)))) long
+    c .alike-from-end .ensures ∙ ap (λ (n : ℕ). alike (a .variant .now) (take n (drop (a .start) (a .stretch .now)))) long
 
 pub stands-spec : {M : Type 1} → statement M
 stands-spec =

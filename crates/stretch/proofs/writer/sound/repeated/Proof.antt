@@ -51,8 +51,8 @@ shared-slice-read-stated c = number (c .before)
 add-end : tie.Need-add-end Inv-loop μ-loop
 add-end c = omega (arith, inside c)
 
-part-alike-end : tie.Need-part-alike-end Inv-loop μ-loop
-part-alike-end c = omega (arith, inside c)
+part-alike-from-end-end : tie.Need-part-alike-from-end-end Inv-loop μ-loop
+part-alike-from-end-end c = omega (arith, inside c)
 
 returns : tie.Need-returns Inv-loop μ-loop
 returns c =
@@ -60,7 +60,7 @@ returns c =
     let i = d .before .before in
     let a = entry (i .before) .args in
     let start = i .before .loop .start in
-    let equal = sym (alike-part (a .variant .now) (a .letters .now) start (start + d .stated .result - start)) ∙ sym (c .before .alike .ensures) ∙ c .if1 .taken in
+    let equal = sym (alike-part (a .variant .now) (a .letters .now) start (start + d .stated .result - start)) ∙ sym (c .before .alike-from-end .ensures) ∙ c .if1 .taken in
     sym (compared-same (i .before .loop .inv) (i .loop-test .taken) (d .stated .ensures) equal)
 
 loop-again : tie.Need-loop-again Inv-loop μ-loop
@@ -69,7 +69,7 @@ loop-again c =
     let i = d .before .before in
     let a = entry (i .before) .args in
     let start = i .before .loop .start in
-    let other = sym (alike-part (a .variant .now) (a .letters .now) start (start + d .stated .result - start)) ∙ sym (c .before .alike .ensures) ∙ c .if1 .left in
+    let other = sym (alike-part (a .variant .now) (a .letters .now) start (start + d .stated .result - start)) ∙ sym (c .before .alike-from-end .ensures) ∙ c .if1 .left in
     compared-more (i .before .loop .inv) (i .loop-test .taken) (d .stated .ensures) other
 
 returns-2 : tie.Need-returns-2 Inv-loop μ-loop
@@ -89,7 +89,7 @@ repeated-spec =
     add-end
     (λ c. search needs)
     (λ c. search needs)
-    part-alike-end
+    part-alike-from-end-end
     (λ c κs. search needs)
     returns
     (λ c. search needs)
