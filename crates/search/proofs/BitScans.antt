@@ -1,19 +1,19 @@
 -- The search by bit-vectors, letter by letter: the tables as they are filled, and the word as it is shifted.
 use Prim.Native.Nat.{ℕ, zero, suc, _+_, _-_, _*_, _/_, _%_, _^_, _≤_, _<_}
-use native.Mathlib.Nat.{pow-suc, one-mul, mod-eq-of-lt}
+use native.Mathlib.Nat.{pow-suc, one-mul, mod-lt, mod-eq-of-lt}
 use native.Mathlib.Numerals.{add-one, one-add}
 use native.Mathlib.Decide.{decLt, ℕ-discrete}
 use native.Mathlib.Omega.{arith}
-use mathlib.Core.Path.{_≡_, refl, sym, ap, ap₂, subst, _∙_}
+use mathlib.Core.Path.{_≡_, refl, sym, ap, ap₂, subst, subst₂, _∙_}
 use mathlib.Core.Logic.{by-cases}
 use mathlib.Core.Bool.{Bool, true, false, not, cond, _||_, _&&_, true≢false}
 use mathlib.Core.List.{List, [], _∷_}
 use borrow.Author.Tests.{lt-ltb, le-ltb, eq-eqb, ne-eqb}
 use lib.Arith.{digits-div}
-use lib.Bits.{bitAnd, bitOr, and-le-r, or-lt, or-zero-r}
+use lib.Bits.{bitAnd, bitOr, bitXor, and-le-r, and-comm, and-mask, or-lt, or-zero-r, xor-zero-l, xor-zero-r}
 use lib.Dec.{eqb, ltb, lit<}
 use lib.ListN.{length, getD, take, set, replicate, length-set, length-take, length-replicate, getD-replicate}
-use lib.Pow.{pow-pos, pow-lt, ones-split, ones-lt}
+use lib.Pow.{pow-pos, pow-lt, pow-mono, ones-sub-lt}
 use lib.Seq.{take-suc, take-all, getD-take, getD-set-same, getD-set-other}
 use Rattle.text.specs.Letter.{raised, letter, meant, every}
 use Rattle.text.specs.Text.{Variant}
@@ -26,9 +26,10 @@ use Rattle.text.proofs.Bits.{bit-ext, bit-above, bit-zero, bit-or, bit-and, bit
 use Rattle.text.proofs.Snoc.{_▸_}
 use Rattle.text.proofs.Steps.{next-open}
 use Rattle.text.proofs.Scan.{one-ends, empty-state, empty-ends, scan-state, scan-ends}
-use Rattle.search.specs.Masks.{maskOf, bases, Masks, Ready}
-use Rattle.search.specs.Words.{Words}
+use Rattle.search.specs.Masks.{maskOf, bases, Masks, others, Others, Filled, Ready}
+use Rattle.search.specs.Words.{Words, Turned}
 use Rattle.search.proofs.Copies.{Listed}
+use Rattle.search.proofs.Turns.{others-twice, others-or, others-shift, missed-all, and-and, xor-more, xor-full}
 
 -- one bit more
 bits-more : (f : ℕ → Bool) (k : ℕ) → fromBits f (suc k) ≡ bitOr (fromBits f k) (cond (f k) (2 ^ k) 0)
@@ -63,24 +64,26 @@ bits-more f k =
         (bit-fromBits f (suc k) k (let z : k < suc k = omega arith in z)
         ∙ sym (bit-or (fromBits f k) (cond (f k) (2 ^ k) 0) k ∙ rw (bit-above (fromBits f k) k k (fromBits-lt f k) (let z : k ≤ k = omega arith in z), at-top (f k)))))
 
--- k bases are entered into the table
-pub record Filling (P table : List ℕ) (k : ℕ) : Type 0 where
+-- k bases are entered into the table of blank words
+pub record Filling (blank : ℕ) (P table : List ℕ) (k : ℕ) : Type 0 where
   pub most : k ≤ length P
   pub full : length table ≡ 256
-  pub each : (c : ℕ) → c < 256 → getD table c 0 ≡ fromBits (λ j. eqb (getD P j 0) c) k
+  pub each : (c : ℕ) → c < 256 → getD table c 0 ≡ bitXor blank (fromBits (λ j. eqb (getD P j 0) c) k)
 
--- none in a table of zeros
-pub filling-zeros : (P table : List ℕ) → length table ≡ 256 → ((c : ℕ) → c < 256 → getD table c 0 ≡ 0) → Filling P table 0
+pub filling-none : (blank : ℕ) (P : List ℕ) → Filling blank P (replicate 256 blank) 0
 unfolding fromBits
-filling-zeros P table full zeros = record { most = omega arith; full = full; each = zeros }
-
-pub filling-none : (P : List ℕ) → Filling P (replicate 256 0) 0
-filling-none P = filling-zeros P _ (length-replicate {A = ℕ} 256 0) (λ c l. getD-replicate {A = ℕ} 256 c 0 0 l)
+filling-none blank P =
+    record {
+      most = omega arith;
+      full = length-replicate {A = ℕ} 256 blank;
+      each = λ c l. getD-replicate {A = ℕ} 256 c blank 0 l ∙ sym (xor-zero-r blank);
+    }
 
 -- base k is entered at its byte b
-pub filling-more : (P table : List ℕ) (k b : ℕ) → Filling P table k → k < length P → k < 64 → b ≡ getD P k 0 → b < 256
-    → Filling P (set table b (bitOr (getD table b 0) (1 * 2 ^ k % 2 ^ 64))) (k + 1)
-filling-more P table k b f l short e small =
+pub filling-more : (blank : ℕ) (P table : List ℕ) (k b : ℕ) → Filling blank P table k → k < length P → k < 64
+    → b ≡ getD P k 0 → b < 256
+    → Filling blank P (set table b (bitXor (getD table b 0) (1 * 2 ^ k % 2 ^ 64))) (k + 1)
+filling-more blank P table k b f l short e small =
     record { most = omega arith; full = length-set table b _ ∙ f .full; each = each }
   where
     one : 1 * 2 ^ k % 2 ^ 64 ≡ 2 ^ k
@@ -91,27 +94,51 @@ filling-more P table k b f l short e small =
     test : ℕ → ℕ → Bool
     test c j = eqb (getD P j 0) c
 
-    each : (c : ℕ) → c < 256 → getD (set table b (bitOr (getD table b 0) (1 * 2 ^ k % 2 ^ 64))) c 0 ≡ fromBits (λ j. eqb (getD P j 0) c) (k + 1)
+    each : (c : ℕ) → c < 256
+        → getD (set table b (bitXor (getD table b 0) (1 * 2 ^ k % 2 ^ 64))) c 0 ≡ bitXor blank (fromBits (λ j. eqb (getD P j 0) c) (k + 1))
     each c h =
         by-cases (ℕ-discrete c b)
         (λ (same : c ≡ b).
         let inside : b < length table = omega (arith, f .full) in
         rw (same, add-one)
-        (getD-set-same table b _ 0 inside ∙ ap₂ bitOr (f .each b small) one
-        ∙ sym (bits-more (test b) k ∙ ap (λ (t : Bool). bitOr (fromBits (test b) k) (cond t (2 ^ k) 0)) (eq-eqb (getD P k 0) b (sym e)))))
+        (getD-set-same table b _ 0 inside ∙ ap₂ bitXor (f .each b small) one
+        ∙ xor-more blank (fromBits (test b) k) k (fromBits-lt (test b) k)
+        ∙ sym
+        (ap (bitXor blank)
+        (bits-more (test b) k ∙ ap (λ (t : Bool). bitOr (fromBits (test b) k) (cond t (2 ^ k) 0)) (eq-eqb (getD P k 0) b (sym e))))))
         (λ (other : ¬ (c ≡ b)).
         rw add-one
         (getD-set-other table b c _ 0 other ∙ f .each c h
         ∙ sym
+        (ap (bitXor blank)
         (bits-more (test c) k
         ∙ ap (λ (t : Bool). bitOr (fromBits (test c) k) (cond t (2 ^ k) 0)) (ne-eqb (getD P k 0) c (λ z. other (sym z ∙ sym e)))
-        ∙ or-zero-r (fromBits (test c) k))))
+        ∙ or-zero-r (fromBits (test c) k)))))
 
-pub filling-all : (P table : List ℕ) (k : ℕ) → Filling P table k → length P ≤ k → Listed (λ c. c) P table
+pub filling-all : (blank : ℕ) (P table : List ℕ) (k : ℕ) → Filling blank P table k → length P ≤ k → Listed (λ c. c) blank P table
 unfolding maskOf
-filling-all P table k f l =
+filling-all blank P table k f l =
     let e : k ≡ length P = omega (arith, f .most) in
-    record { full = f .full; each = λ c h. f .each c h ∙ ap (fromBits (λ j. eqb (getD P j 0) c)) e }
+    record { full = f .full; each = λ c h. f .each c h ∙ ap (λ (n : ℕ). bitXor blank (fromBits (λ j. eqb (getD P j 0) c) n)) e }
+
+-- a letter vector has bits below m alone
+mask-lt : (P : List ℕ) (c : ℕ) → maskOf P c < 2 ^ length P
+unfolding maskOf
+mask-lt P c = fromBits-lt (λ k. eqb (getD P k 0) c) (length P)
+
+mask-near : (P : List ℕ) (c : ℕ) → length P ≤ 64 → maskOf P c < 2 ^ 64
+mask-near P c short = omega (arith, mask-lt P c, pow-mono short)
+
+-- what is turned in a word of zeros, and in one of ones
+pub filled-masks : (P table : List ℕ) → Filled 0 P table → Masks P table
+filled-masks P table f = record { full = f .full; each = λ c l. f .each c l ∙ xor-zero-l (maskOf P (raised c)) }
+
+pub filled-others : (P table : List ℕ) → length P ≤ 64 → Filled 0xffff_ffff_ffff_ffff P table → Others P table
+filled-others P table short f =
+    record { full = f .full; each = λ c l. f .each c l ∙ turned (maskOf P (raised c)) (mask-near P (raised c) short) }
+  where
+    turned : (x : ℕ) → x < 2 ^ 64 → bitXor 0xffff_ffff_ffff_ffff x ≡ others x
+    turned x l = xor-full 0xffff_ffff_ffff_ffff x (and-comm 0xffff_ffff_ffff_ffff x ∙ and-mask x 64 ∙ mod-eq-of-lt l)
 
 -- of a pattern over 64 bytes the first 64 are entered
 module _ (P : List ℕ) where
@@ -122,6 +149,10 @@ module _ (P : List ℕ) where
   pub bases-all : length P ≤ 64 → bases P ≡ P
   unfolding bases
   bases-all l = take-all 64 P l
+
+  pub bases-most : length (bases P) ≤ 64
+  unfolding bases
+  bases-most = omega (arith, length-take 64 P)
 
   -- a base that is entered stands where it stands in the pattern
   module _ (k : ℕ) (l : k < length (bases P)) where
@@ -137,22 +168,30 @@ module _ (P : List ℕ) where
     unfolding bases
     bases-at = sym (getD-take 64 P k 0 bases-near)
 
--- the letter vectors of a pattern of at most 64 bytes
-pub masks-short : (P table : List ℕ) → length P ≤ 64 → Masks (bases P) table → Masks P table
+-- the tables of a pattern of at most 64 bytes
+pub masks-short : (P table : List ℕ) → length P ≤ 64 → Others (bases P) table → Others P table
 masks-short P table l m = rw (bases-all P l) at m
 
+pub told-short : (P table : List ℕ) → length P ≤ 64 → Masks (bases P) table → Masks P table
+told-short P table l m = rw (bases-all P l) at m
+
 -- a letter keeps those bits of a word whose base it means
+module _ (P : List ℕ) (d c w : ℕ) (is : w ≡ maskOf P (raised c)) where
+  vector-bit : (r : ℕ) → r < length P → bit (bitAnd d w) r ≡ (bit d r && eqb (getD P r 0) (raised c))
+  unfolding maskOf
+  vector-bit r h =
+      bit-and d w r
+      ∙ ap (λ (b : Bool). bit d r && b) (ap (λ (n : ℕ). bit n r) is ∙ bit-fromBits (λ k. eqb (getD P k 0) (raised c)) (length P) r h)
+
+  vector-lt : bitAnd d w < 2 ^ length P
+  vector-lt = omega (arith, and-le-r d w, is, mask-lt P (raised c))
+
 module _ (P masks : List ℕ) (vectors : Masks P masks) (d c : ℕ) (small : c < 256) where
   pub kept-bit : (r : ℕ) → r < length P → bit (bitAnd d (getD masks c 0)) r ≡ (bit d r && eqb (getD P r 0) (raised c))
-  unfolding maskOf
-  kept-bit r h =
-      bit-and d (getD masks c 0) r
-      ∙ ap (λ (b : Bool). bit d r && b)
-      (ap (λ (n : ℕ). bit n r) (vectors .each c small) ∙ bit-fromBits (λ k. eqb (getD P k 0) (raised c)) (length P) r h)
+  kept-bit = vector-bit P d c (getD masks c 0) (vectors .each c small)
 
   pub kept-lt : bitAnd d (getD masks c 0) < 2 ^ length P
-  unfolding maskOf
-  kept-lt = omega (arith, and-le-r d (getD masks c 0), vectors .each c small, fromBits-lt (λ k. eqb (getD P k 0) (raised c)) (length P))
+  kept-lt = vector-lt P d c (getD masks c 0) (vectors .each c small)
 
 -- a byte more is bad where it is no letter
 classed : (bad : ℕ) (b : Bool) → eqb (bitOr bad (cond b 0 1)) 0 ≡ (eqb bad 0 && b)
@@ -182,7 +221,8 @@ scanning-none P masks classes st v y =
     }
 
 module _ (P masks classes : List ℕ) (st : ℕ) (v : Variant) (i d hits bad : ℕ) (y : Ready P masks classes st)
-    (s : Scanning P st v i d hits bad) (l : i < length v) (c : ℕ) (e : c ≡ getD v i 0) (small : c < 256) where
+    (s : Scanning P st v i d hits bad) (l : i < length v) (c : ℕ) (e : c ≡ getD v i 0) (small : c < 256)
+    (w : ℕ) (is : w ≡ maskOf P (raised c)) where
   longer : take (i + 1) v ≡ take i v ▸ c
   longer = rw add-one (take-suc v i 0 l ∙ ap (λ (x : ℕ). take i v ▸ x) (sym e))
 
@@ -193,26 +233,26 @@ module _ (P masks classes : List ℕ) (st : ℕ) (v : Variant) (i d hits bad : �
       rw add-one (take-suc (meant v) i 0 inside ∙ ap (λ (x : ℕ). take i (meant v) ▸ x) (meant-at v i ∙ ap raised (sym e)))
 
   kept : (r : ℕ) → r < length P
-      → bit (bitAnd d (getD masks c 0)) r ≡ (bit (next P st (take i (meant v) ∷ [])) r && eqb (getD P r 0) (raised c))
-  kept r h = kept-bit P masks (y .vectors) d c small r h ∙ ap (λ (b : Bool). b && eqb (getD P r 0) (raised c)) (s .state r h)
+      → bit (bitAnd d w) r ≡ (bit (next P st (take i (meant v) ∷ [])) r && eqb (getD P r 0) (raised c))
+  kept r h = vector-bit P d c w is r h ∙ ap (λ (b : Bool). b && eqb (getD P r 0) (raised c)) (s .state r h)
 
   shifted : (r : ℕ) → r < length P
-      → bit (bitOr (bitAnd d (getD masks c 0) * 2 ^ 1 % 2 ^ 64) (st % 2)) r ≡ bit (next P st (take (i + 1) (meant v) ∷ [])) r
+      → bit (bitOr (bitAnd d w * 2 ^ 1 % 2 ^ 64) (st % 2)) r ≡ bit (next P st (take (i + 1) (meant v) ∷ [])) r
   shifted zero h =
       bit-or _ (st % 2) 0
-      ∙ ap₂ _||_ (bit-mod (bitAnd d (getD masks c 0) * 2 ^ 1) 64 0 (lit< tt) ∙ bit-shl-below (bitAnd d (getD masks c 0)) 1 0 (lit< tt)) (bit-mod st 1 0 (lit< tt))
+      ∙ ap₂ _||_ (bit-mod (bitAnd d w * 2 ^ 1) 64 0 (lit< tt) ∙ bit-shl-below (bitAnd d w) 1 0 (lit< tt)) (bit-mod st 1 0 (lit< tt))
       ∙ sym (next-open P st (take (i + 1) (meant v) ∷ []) (y .some))
   shifted (suc r) h =
       let near : suc r < 64 = omega (arith, y .short) in
       let before : r < length P = omega arith in
       bit-or _ (st % 2) (suc r)
       ∙ ap₂ _||_
-      (bit-mod (bitAnd d (getD masks c 0) * 2 ^ 1) 64 (suc r) near ∙ rw (← one-add r) (bit-shl (bitAnd d (getD masks c 0)) 1 r) ∙ kept r before)
+      (bit-mod (bitAnd d w * 2 ^ 1) 64 (suc r) near ∙ rw (← one-add r) (bit-shl (bitAnd d w) 1 r) ∙ kept r before)
       (bit-mod-above st 1 (suc r) (omega arith))
       ∙ or-false _
       ∙ sym (ap (λ (t : List ℕ). bit (next P st (t ∷ [])) (suc r)) spelt ∙ scan-state P st (take i (meant v)) (raised c) r h)
 
-  ends-more : bit (bitOr hits (bitAnd d (getD masks c 0))) (length P - 1) ≡ endsAt P st (take (i + 1) (meant v))
+  ends-more : bit (bitOr hits (bitAnd d w)) (length P - 1) ≡ endsAt P st (take (i + 1) (meant v))
   ends-more =
       let long : length P ≡ suc (length P - 1) = omega (arith, y .some) in
       let last : length P - 1 < length P = omega (arith, y .some) in
@@ -227,22 +267,15 @@ module _ (P masks classes : List ℕ) (st : ℕ) (v : Variant) (i d hits bad : �
       ∙ ap (λ (t : Bool). t && letter c) (s .clean)
       ∙ sym (ap (every letter) longer ∙ every-snoc letter (take i v) c)
 
-  pub scanning-more : Scanning P st v (i + 1) (bitOr (bitAnd d (getD masks c 0) * 2 ^ 1 % 2 ^ 64) 1) (bitOr hits (bitAnd d (getD masks c 0))) (bitOr bad (getD classes c 0))
+  scanning-more : Scanning P st v (i + 1) (bitOr (bitAnd d w * 2 ^ 1 % 2 ^ 64) 1) (bitOr hits (bitAnd d w)) (bitOr bad (getD classes c 0))
   scanning-more =
       record {
         inside = omega arith;
-        state = λ r h. ap (λ (n : ℕ). bit (bitOr (bitAnd d (getD masks c 0) * 2 ^ 1 % 2 ^ 64) n) r) (sym (y .state .odd)) ∙ shifted r h;
-        fits = or-lt (length P) hits (bitAnd d (getD masks c 0)) (s .fits) (kept-lt P masks (y .vectors) d c small);
+        state = λ r h. ap (λ (n : ℕ). bit (bitOr (bitAnd d w * 2 ^ 1 % 2 ^ 64) n) r) (sym (y .state .odd)) ∙ shifted r h;
+        fits = or-lt (length P) hits (bitAnd d w) (s .fits) (vector-lt P d c w is);
         ended = ends-more;
         clean = clean-more;
       }
-
--- the m lowest bits, as they are made from a word of ones
-pub low-ones : (m : ℕ) → m ≤ 64 → 0xffff_ffff_ffff_ffff / 2 ^ (64 - m) ≡ 2 ^ m - 1
-low-ones m l =
-    let whole : m + (64 - m) ≡ 64 = omega arith in
-    ap (λ (n : ℕ). n / 2 ^ (64 - m)) (subst (λ (n : ℕ). 2 ^ n - 1 ≡ (2 ^ m - 1) * 2 ^ (64 - m) + (2 ^ (64 - m) - 1)) whole (ones-split m (64 - m)))
-    ∙ digits-div (2 ^ m - 1) (ones-lt (64 - m))
 
 -- a number below 2 ^ (n + 1) has bit n exactly when it is above 2 ^ n - 1
 pub top-bit : (n x : ℕ) → x < 2 ^ suc n → ltb (2 ^ n - 1) x ≡ bit x n
@@ -260,7 +293,7 @@ module _ (P : List ℕ) (st : ℕ) (v : Variant) (i d hits bad : ℕ) (s : Scann
   all : take i (meant v) ≡ meant v
   all = take-all i (meant v) (rw (meant-length v) l)
 
-  pub scanning-all : Words P st (meant v ∷ []) d hits
+  scanning-all : Words P st (meant v ∷ []) d hits
   scanning-all =
       record {
         state = λ r h. s .state r h ∙ ap (λ (t : List ℕ). bit (next P st (t ∷ [])) r) all;
@@ -270,3 +303,69 @@ module _ (P : List ℕ) (st : ℕ) (v : Variant) (i d hits bad : ℕ) (s : Scann
 
   pub scanning-wrong : not (eqb bad 0) ≡ not (every letter v)
   scanning-wrong = ap not (s .clean ∙ ap (every letter) (take-all i v l))
+
+-- the same with the other bits kept, as the code has it
+pub record Turning (P : List ℕ) (st : ℕ) (v : Variant) (i before out missed bad : ℕ) : Type 0 where
+  pub fits : before < 2 ^ 64
+  pub word : out < 2 ^ 64
+  pub hits : ℕ
+  pub near : hits < 2 ^ 64
+  pub rest : missed ≡ bitAnd before (others hits)
+  pub scanning : Scanning P st v i (others out) hits bad
+
+pub turning-none : (P masks classes : List ℕ) (st : ℕ) (v : Variant) (before : ℕ) → before < 2 ^ 64 → Ready P masks classes st
+    → Turning P st v 0 before (others st) before 0
+turning-none P masks classes st v before fits y =
+    let small : st < 2 ^ 64 = omega (arith, y .state .small, pow-mono (y .short)) in
+    record {
+      fits = fits;
+      word = ones-sub-lt 64 st;
+      hits = 0;
+      near = lit< tt;
+      rest = missed-all before fits;
+      scanning = subst (λ (n : ℕ). Scanning P st v 0 n 0 0) (sym (others-twice st small)) (scanning-none P masks classes st v y);
+    }
+
+pub turning-start : (P masks classes : List ℕ) (st : ℕ) (v : Variant) (before : ℕ) → before < 2 ^ 64 → Ready P masks classes st
+    → (out : ℕ) → out ≡ others st → Turning P st v 0 before out before 0
+turning-start P masks classes st v before fits y out is = rw is (turning-none P masks classes st v before fits y)
+
+-- a letter more, with the entry t of its byte
+pub turning-more : (P masks classes : List ℕ) (st : ℕ) (v : Variant) (i before out missed bad : ℕ) → Ready P masks classes st
+    → Turning P st v i before out missed bad → i < length v → (c : ℕ) → c ≡ getD v i 0 → c < 256 → (t : ℕ) → getD masks c 0 ≡ t
+    → Turning P st v (i + 1) before (bitOr out t * 2 ^ 1 % 2 ^ 64) (bitAnd missed (bitOr out t)) (bitOr bad (getD classes c 0))
+turning-more P masks classes st v i before out missed bad y s l c e small t at =
+    let vector : t ≡ others (maskOf P (raised c)) = sym at ∙ y .vectors .each c small in
+    let lt : t < 2 ^ 64 = omega (arith, vector) in
+    let on = bitOr out t in
+    let lo : on < 2 ^ 64 = or-lt 64 out t (s .word) lt in
+    let is : others t ≡ maskOf P (raised c) =
+    ap others vector ∙ others-twice (maskOf P (raised c)) (mask-near P (raised c) (y .short)) in
+    let kept : bitAnd (others out) (others t) ≡ others on = others-or out (s .word) t lt in
+    let more = scanning-more P masks classes st v i (others out) (s .hits) bad y (s .scanning) l c e small (others t) is in
+    let shifted : bitOr (bitAnd (others out) (others t) * 2 ^ 1 % 2 ^ 64) 1 ≡ others (on * 2 ^ 1 % 2 ^ 64) =
+    ap (λ (n : ℕ). bitOr (n * 2 ^ 1 % 2 ^ 64) 1) kept ∙ sym (others-shift on lo) in
+    let left : bitAnd (others (s .hits)) on ≡ others (bitOr (s .hits) (others on)) =
+    ap (bitAnd (others (s .hits))) (sym (others-twice on lo)) ∙ others-or (s .hits) (s .near) (others on) (ones-sub-lt 64 on) in
+    record {
+      fits = s .fits;
+      word = mod-lt (on * 2 ^ 1) (pow-pos 64);
+      hits = bitOr (s .hits) (others on);
+      near = or-lt 64 (s .hits) (others on) (s .near) (ones-sub-lt 64 on);
+      rest =
+          ap (λ (n : ℕ). bitAnd n on) (s .rest) ∙ and-and before (others (s .hits)) on (s .fits) (ones-sub-lt 64 (s .hits)) lo
+          ∙ ap (bitAnd before) left;
+      scanning =
+          subst₂ (λ (a b : ℕ). Scanning P st v (i + 1) a (bitOr (s .hits) b) (bitOr bad (getD classes c 0))) shifted kept more;
+    }
+
+pub turning-all : (P : List ℕ) (st : ℕ) (v : Variant) (i before out missed bad : ℕ) → Turning P st v i before out missed bad → length v ≤ i
+    → Turned P st (meant v ∷ []) before out missed
+turning-all P st v i before out missed bad s l =
+    record {
+      word = s .word;
+      hits = s .hits;
+      near = s .near;
+      rest = s .rest;
+      words = scanning-all P st v i (others out) (s .hits) bad (s .scanning) l;
+    }

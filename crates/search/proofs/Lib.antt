@@ -28,4 +28,5 @@ pub mod BorderSteps
 pub mod Chains
 pub mod FirstHits
 pub mod Told
+pub mod Turns
 pub mod Theorems

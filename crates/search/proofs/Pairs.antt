@@ -1,21 +1,19 @@
--- A word for each strand: the letter vectors of both in one table, and the scan and the sweep that read it.
-use Prim.Native.Nat.{ℕ, zero, suc, _+_, _*_, _/_, _%_, _^_, _≤_, _<_}
+-- A word for each strand: the letter vectors of both in one table, and the sweep that reads it.
+use Prim.Native.Nat.{ℕ, zero, suc, _+_, _*_, _/_, _≤_, _<_}
 use native.Mathlib.Decide.{ℕ-discrete}
 use native.Mathlib.Omega.{arith}
 use mathlib.Core.Path.{_≡_, refl, ap, _∙_}
 use mathlib.Core.Logic.{by-cases}
 use mathlib.Core.List.{List, [], _∷_}
-use lib.Bits.{bitAnd, bitOr}
+use lib.Bits.{bitAnd}
 use lib.ListN.{length, getD, drop, set, replicate, length-drop, length-set, length-replicate}
 use lib.Seq.{getD-drop, getD-set-same, getD-set-other}
-use Rattle.text.specs.Text.{Variant}
-use Rattle.search.specs.Masks.{Masks, StateOf, Ready}
+use Rattle.search.specs.Masks.{Others, StateOf, Ready}
 use Rattle.search.specs.Words.{SweptAt}
 use Rattle.search.specs.Either.{evens, odds, Vectors}
 use Rattle.search.specs.declared.method.Method.the-variants.{Bits}
 use Rattle.search.specs.declared.segment.Swept.{Swept}
 use Rattle.search.specs.declared.segment.Swept.the-variants.{To}
-use Rattle.search.proofs.BitScans.{Scanning, scanning-more}
 use Rattle.search.proofs.Methods.{ready-bits}
 use Rattle.search.proofs.Words.{Sweeping, sweeping-more}
 
@@ -99,8 +97,8 @@ laid-more one other table c x y t l is are = record {
         getD-set-other first (2 * c + 1) (2 * k + 1) y 0 apart ∙ getD-set-other table (2 * c) (2 * k + 1) x 0 away ∙ t .odds k before
 
 -- all of them
-pub laid-all : (P Q one other table : List ℕ) (c : ℕ) → Laid one other table c → 256 ≤ c → Masks P one → Masks Q other
-    → Masks P (evens table) × Masks Q (odds table)
+pub laid-all : (P Q one other table : List ℕ) (c : ℕ) → Laid one other table c → 256 ≤ c → Others P one → Others Q other
+    → Others P (evens table) × Others Q (odds table)
 unfolding odds
 laid-all P Q one other table c t l p q = (
   record {
@@ -113,19 +111,13 @@ laid-all P Q one other table c t l p q = (
   },
 )
 
--- a letter more, with its vector as it stands in the table of both strands
-pub scanning-entry : (P masks classes : List ℕ) (st : ℕ) (v : Variant) (i d hits bad : ℕ) → Ready P masks classes st → Scanning P st v i d hits bad
-    → i < length v → (c : ℕ) → c ≡ getD v i 0 → c < 256 → (x : ℕ) → getD masks c 0 ≡ x
-    → Scanning P st v (i + 1) (bitOr (bitAnd d x * 2 ^ 1 % 2 ^ 64) 1) (bitOr hits (bitAnd d x)) (bitOr bad (getD classes c 0))
-scanning-entry P masks classes st v i d hits bad y s l c e small x is = rw (← is) (scanning-more P masks classes st v i d hits bad y s l c e small)
-
 -- what a sweep on one strand rests on
 pub ready : (P masks classes : List ℕ) (st : ℕ) → Vectors P masks classes × StateOf P st → Ready P masks classes st
 ready P masks classes st (t, y) = ready-bits Bits P masks classes st refl t y
 
 -- a variant more, with the words as they were united
-pub sweeping-on : (P : List ℕ) (st : ℕ) (s : List ℕ) (first k at size state hits : ℕ) → Sweeping P st s first k at size state hits → (r : Swept)
-    → SweptAt P st s first k at r → (behind more bits met : ℕ) → r ≡ To behind more bits met → (words marks : ℕ) → words ≡ bitOr state bits
-    → marks ≡ bitOr hits met → Sweeping P st s first (k + 1) behind (size + more) words marks
-sweeping-on P st s first k at size state hits t r w behind more bits met e words marks is are =
-    rw (is, are) (sweeping-more P st s first k at size state hits t r w behind more bits met e)
+pub sweeping-on : (P : List ℕ) (st : ℕ) (s : List ℕ) (first k at size out missed : ℕ) → Sweeping P st s first k at size out missed → (r : Swept)
+    → SweptAt P st s first k at missed r → (behind more reached met : ℕ) → r ≡ To behind more reached met → (words : ℕ)
+    → words ≡ bitAnd out reached → Sweeping P st s first (k + 1) behind (size + more) words met
+sweeping-on P st s first k at size out missed t r w behind more reached met e words is =
+    rw is (sweeping-more P st s first k at size out missed t r w behind more reached met e)

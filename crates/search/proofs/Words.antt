@@ -1,16 +1,16 @@
 -- Laws of words: how they go on, and what is left of them where the bits from m up are cleared; and the sweep over the variants of a
 -- segment.
 use Prim.Native.Nat.{ℕ, suc, _+_, _-_, _*_, _/_, _%_, _^_, _≤_, _<_}
-use native.Mathlib.Nat.{pow-suc, mod-lt, one-mul, mod-eq-of-lt}
+use native.Mathlib.Nat.{mod-lt, one-mul, mod-eq-of-lt}
 use native.Mathlib.Omega.{arith}
-use mathlib.Core.Path.{_≡_, refl, sym, ap, ap₂, subst, _∙_}
+use mathlib.Core.Path.{_≡_, refl, sym, ap, ap₂, subst, subst₂, _∙_}
 use mathlib.Core.Bool.{Bool, true, false, not, _||_, true≢false}
 use mathlib.Core.List.{List, [], _∷_, _++_}
 use borrow.Author.Tests.{eq-eqb}
-use lib.Bits.{bitAnd, bitOr, and-mask, or-lt}
-use lib.Dec.{ltb}
+use lib.Bits.{bitAnd, bitOr, and-mask, and-lt, or-lt}
+use lib.Dec.{ltb, lit<}
 use lib.ListN.{length, take, drop}
-use lib.Pow.{pow-pos, pow-lt}
+use lib.Pow.{pow-pos, pow-lt, pow-mono, ones-sub-lt}
 use Rattle.text.specs.Letter.{letter, meant, every, firstNot}
 use Rattle.text.specs.Text.{Variant, Segment, counted, weight}
 use Rattle.text.specs.Bits.{bit}
@@ -23,15 +23,19 @@ use Rattle.text.proofs.Scan.{one-ends}
 use Rattle.text.proofs.Folds.{next-none, next-snoc, ends-none, ends-snoc}
 use Rattle.stretch.specs.Pieces.{lettersAt}
 use Rattle.stretch.specs.Reading.{valueOf, variantAt, valuesFrom, many}
+use Rattle.stretch.specs.Prints.{printAt, Noted}
 use Rattle.stretch.proofs.Heads.{Whole, whole-part, value-part, value-length}
 use Rattle.stretch.proofs.Units.{variant-read}
-use Rattle.stretch.proofs.Segments.{InSegment, in-none, in-next, in-not}
+use Rattle.stretch.proofs.Prints.{noted-more}
+use Rattle.stretch.proofs.Segments.{InSegment, in-none, in-values, in-next, in-not}
+use Rattle.search.specs.Masks.{others}
 use Rattle.search.specs.Step.{Steps}
-use Rattle.search.specs.Words.{Words, LettersBy, SweptAt}
+use Rattle.search.specs.Words.{Words, Turned, LettersBy, SweptAt}
 use Rattle.search.specs.declared.segment.Swept.{Swept}
 use Rattle.search.specs.declared.segment.Swept.the-variants.{To, Refused}
-use Rattle.search.proofs.BitScans.{low-ones, top-bit}
+use Rattle.search.proofs.BitScans.{top-bit}
 use Rattle.search.proofs.Passes.{Taking}
+use Rattle.search.proofs.Turns.{others-twice, others-or, others-and, missed-all, high-ones, low-others, high-others}
 
 words-none : (P : List ℕ) (st : ℕ) → 0 < length P → st % 2 ≡ 1 → Words P st [] 1 0
 words-none P st some odd =
@@ -56,33 +60,21 @@ words-more P st g v a h b j w u =
     }
 
 -- bits from m up are cleared
-module _ (P : List ℕ) (st : ℕ) (g : Segment) (d hits : ℕ) (w : Words P st g d hits) (some : 0 < length P) (short : length P ≤ 64)
-    (low : ℕ) (e : low ≡ 0xffff_ffff_ffff_ffff / 2 ^ (64 - length P)) where
-  ones : low ≡ 2 ^ length P - 1
-  ones = e ∙ low-ones (length P) short
-
-  pub words-state : bitAnd d low ≡ next P st g
+module _ (P : List ℕ) (st : ℕ) (g : Segment) (d hits : ℕ) (w : Words P st g d hits) where
+  words-state : bitAnd d (2 ^ length P - 1) ≡ next P st g
   words-state =
-      ap (bitAnd d) ones
-      ∙ and-mask d (length P)
+      and-mask d (length P)
       ∙ bit-ext (length P) (d % 2 ^ length P) (next P st g) (mod-lt d (pow-pos (length P))) (next-lt P st g)
       (λ r h. bit-mod d (length P) r h ∙ w .state r h)
 
-  half : low / 2 ≡ 2 ^ (length P - 1) - 1
-  half =
+  words-end : 0 < length P → ltb (2 ^ (length P - 1) - 1) hits ≡ ends P st g
+  words-end some =
       let long : length P ≡ suc (length P - 1) = omega (arith, some) in
-      omega (arith, ones, ap (λ (n : ℕ). 2 ^ n) long ∙ pow-suc 2 (length P - 1), pow-pos (length P - 1))
-
-  pub words-end : ltb (low / 2) hits ≡ ends P st g
-  words-end =
-      let long : length P ≡ suc (length P - 1) = omega (arith, some) in
-      ap (λ (n : ℕ). ltb n hits) half
-      ∙ top-bit (length P - 1) hits (subst (λ (n : ℕ). hits < 2 ^ n) long (w .fits))
-      ∙ w .end
+      top-bit (length P - 1) hits (subst (λ (n : ℕ). hits < 2 ^ n) long (w .fits)) ∙ w .end
 
 -- a step that is told as words: the last bit says whether an occurrence ends
 module _ (P : List ℕ) (st : ℕ) (v : Variant) (bits : ℕ) where
-  pub words-miss : {end : Bool} → Steps P st v bits end → end ≡ false → Words P st (v ∷ []) bits 0
+  words-miss : {end : Bool} → Steps P st v bits end → end ≡ false → Words P st (v ∷ []) bits 0
   words-miss t miss =
       record {
         state = λ r l. ap (λ (n : ℕ). bit n r) (t .state);
@@ -90,7 +82,7 @@ module _ (P : List ℕ) (st : ℕ) (v : Variant) (bits : ℕ) where
         end = bit-zero (length P - 1) ∙ sym miss ∙ t .end ∙ sym (one-ends P st v);
       }
 
-  pub words-hit : 0 < length P → length P ≤ 64 → {end : Bool} → Steps P st v bits end → end ≡ true → Words P st (v ∷ []) bits (1 * 2 ^ (length P - 1) % 2 ^ 64)
+  words-hit : 0 < length P → length P ≤ 64 → {end : Bool} → Steps P st v bits end → end ≡ true → Words P st (v ∷ []) bits (1 * 2 ^ (length P - 1) % 2 ^ 64)
   words-hit some short t hit =
       let last : length P - 1 < 64 = omega (arith, some, short) in
       let near : length P - 1 < length P = omega (arith, some) in
@@ -103,6 +95,34 @@ module _ (P : List ℕ) (st : ℕ) (v : Variant) (bits : ℕ) where
         end = bit-single (length P - 1) (length P - 1) ∙ eq-eqb (length P - 1) (length P - 1) refl ∙ sym hit ∙ t .end ∙ sym (one-ends P st v);
       })
 
+-- the same with the other bits kept
+module _ (P : List ℕ) (st : ℕ) (v : Variant) (bits : ℕ) (some : 0 < length P) (short : length P ≤ 64) (before : ℕ) {end : Bool}
+    (t : Steps P st v bits end) where
+  small : bits < 2 ^ 64
+  small = omega (arith, t .state, next-lt P st (v ∷ []), pow-mono short)
+
+  pub turned-miss : before < 2 ^ 64 → end ≡ false → Turned P st (v ∷ []) before (others bits) before
+  turned-miss fits miss =
+      record {
+        word = ones-sub-lt 64 bits;
+        hits = 0;
+        near = lit< tt;
+        rest = missed-all before fits;
+        words = subst (λ (n : ℕ). Words P st (v ∷ []) n 0) (sym (others-twice bits small)) (words-miss P st v bits t miss);
+      }
+
+  pub turned-hit : end ≡ true → Turned P st (v ∷ []) before (others bits) (bitAnd before (others (1 * 2 ^ (length P - 1) % 2 ^ 64)))
+  turned-hit hit =
+      record {
+        word = ones-sub-lt 64 bits;
+        hits = 1 * 2 ^ (length P - 1) % 2 ^ 64;
+        near = mod-lt (1 * 2 ^ (length P - 1)) (pow-pos 64);
+        rest = refl;
+        words =
+            subst (λ (n : ℕ). Words P st (v ∷ []) n (1 * 2 ^ (length P - 1) % 2 ^ 64)) (sym (others-twice bits small))
+            (words-hit P st v bits some short t hit);
+      }
+
 -- bytes among which none was found that is no letter
 pub letters-all : (v : Variant) (x : ℕ) → x ≡ firstNot letter v → length v ≤ x → every letter v ≡ true
 letters-all v x e l =
@@ -110,28 +130,28 @@ letters-all v x e l =
     first-every letter v all
 
 -- bytes that were looked at before their step
-module _ (P : List ℕ) (st : ℕ) (v : Variant) (x : ℕ) (e : x ≡ firstNot letter v) where
-  pub letters-bad : x < length v → LettersBy P st v 0 0 true
+module _ (P : List ℕ) (st before : ℕ) (v : Variant) (x : ℕ) (e : x ≡ firstNot letter v) where
+  pub letters-bad : x < length v → LettersBy P st before v 0 0 true
   letters-bad l =
       let bad : every letter v ≡ false = first-not-every letter v (subst (λ (n : ℕ). n < length v) e l) in
       (sym (ap not bad), λ good. absurd (true≢false (sym good ∙ bad)))
 
-  pub letters-good : length v ≤ x → (bits hits : ℕ) → Words P st (meant v ∷ []) bits hits → LettersBy P st v bits hits false
-  letters-good l bits hits w = (sym (ap not (letters-all v x e l)), λ _. w)
+  pub letters-good : length v ≤ x → (out missed : ℕ) → Turned P st (meant v ∷ []) before out missed → LettersBy P st before v out missed false
+  letters-good l out missed w = (sym (ap not (letters-all v x e l)), λ _. w)
 
 -- the answers of a sweep over a variant
-module _ (P : List ℕ) (st : ℕ) (s : List ℕ) (first k at : ℕ) where
-  pub swept-not : (j p : ℕ) → variantAt s (valuesFrom s k first) at ≡ refused j p → SweptAt P st s first k at (Refused (record { number = j; place = p }))
+module _ (P : List ℕ) (st : ℕ) (s : List ℕ) (first k at before : ℕ) where
+  pub swept-not : (j p : ℕ) → variantAt s (valuesFrom s k first) at ≡ refused j p → SweptAt P st s first k at before (Refused (record { number = j; place = p }))
   unfolding SweptAt
   swept-not j p e = e
 
   pub swept-to : (start next : ℕ) → Whole s at start next
       → variantAt s (valuesFrom s k first) at ≡ ok (record { value = valueOf s at; next = next })
-      → (size bits hits : ℕ) → size ≡ counted (next - start)
-      → (every letter (take (next - start) (drop start s)) ≡ true → Words P st (meant (take (next - start) (drop start s)) ∷ []) bits hits)
-      → SweptAt P st s first k at (To next size bits hits)
+      → (size out missed : ℕ) → size ≡ counted (next - start)
+      → (every letter (take (next - start) (drop start s)) ≡ true → Turned P st (meant (take (next - start) (drop start s)) ∷ []) before out missed)
+      → SweptAt P st s first k at before (To next size out missed)
   unfolding SweptAt weight
-  swept-to start next w read size bits hits e t =
+  swept-to start next w read size out missed e t =
       let own : meant (take (next - start) (drop start s)) ≡ valueOf s at =
       ap meant (whole-part s at start next w) ∙ sym (value-part s at) in
       let good : every letter (lettersAt s at) ≡ true = variant-read s (valuesFrom s k first) at _ read .letters in
@@ -139,38 +159,68 @@ module _ (P : List ℕ) (st : ℕ) (s : List ℕ) (first k at : ℕ) where
       (read, e ∙ ap counted long, rw own at (t (rw (whole-part s at start next w) good)))
 
 -- the variants of a segment, swept one after another
-pub record Sweeping (P : List ℕ) (st : ℕ) (s : List ℕ) (first k at size state hits : ℕ) : Type 0 where
+pub record Sweeping (P : List ℕ) (st : ℕ) (s : List ℕ) (first k at size out missed : ℕ) : Type 0 where
   pub seen : Segment
   pub sum : InSegment s first k seen at size
-  pub words : Words P st seen state hits
+  pub word : out < 2 ^ 64
+  pub missing : missed < 2 ^ 64
+  pub words : Words P st seen (others out) (others missed)
 
-pub sweeping-none : (P : List ℕ) (st : ℕ) (s : List ℕ) (first : ℕ) → 0 < length P → st % 2 ≡ 1 → first ≤ length s → Sweeping P st s first 0 first 0 1 0
-sweeping-none P st s first some odd l = record { seen = []; sum = in-none s first l; words = words-none P st some odd }
+pub sweeping-none : (P : List ℕ) (st : ℕ) (s : List ℕ) (first : ℕ) → 0 < length P → st % 2 ≡ 1 → first ≤ length s
+    → Sweeping P st s first 0 first 0 0xffff_ffff_ffff_fffe 0xffff_ffff_ffff_ffff
+sweeping-none P st s first some odd l =
+    record { seen = []; sum = in-none s first l; word = lit< tt; missing = lit< tt; words = words-none P st some odd }
 
-module _ (P : List ℕ) (st : ℕ) (s : List ℕ) (first k at size state hits : ℕ) (t : Sweeping P st s first k at size state hits) where
-  module _ (r : Swept) (w : SweptAt P st s first k at r) where
-    pub sweeping-more : (behind more bits met : ℕ) → r ≡ To behind more bits met
-        → Sweeping P st s first (k + 1) behind (size + more) (bitOr state bits) (bitOr hits met)
+module _ (P : List ℕ) (st : ℕ) (s : List ℕ) (first k at size out missed : ℕ) (t : Sweeping P st s first k at size out missed) where
+  module _ (r : Swept) (w : SweptAt P st s first k at missed r) where
+    pub sweeping-more : (behind more reached met : ℕ) → r ≡ To behind more reached met
+        → Sweeping P st s first (k + 1) behind (size + more) (bitAnd out reached) met
     unfolding SweptAt
-    sweeping-more behind more bits met e =
-        let (read, count, words) = subst (SweptAt P st s first k at) e w in
+    sweeping-more behind more reached met e =
+        let (read, count, turned) = subst (SweptAt P st s first k at missed) e w in
+        let far = ones-sub-lt 64 (turned .hits) in
+        let hits : bitOr (others missed) (turned .hits) ≡ others met =
+        ap (bitOr (others missed)) (sym (others-twice (turned .hits) (turned .near)))
+        ∙ others-and missed (t .missing) (others (turned .hits)) far ∙ ap others (sym (turned .rest)) in
         record {
           seen = t .seen ++ (valueOf s at ∷ []);
           sum = in-next s first k (t .seen) at size (t .sum) _ more read count;
-          words = words-more P st (t .seen) (valueOf s at) state hits bits met (t .words) words;
+          word = and-lt 64 out reached (t .word) (turned .word);
+          missing = subst (λ (n : ℕ). n < 2 ^ 64) (sym (turned .rest)) (and-lt 64 missed (others (turned .hits)) (t .missing) far);
+          words =
+              subst₂ (λ (a b : ℕ). Words P st (t .seen ++ (valueOf s at ∷ [])) a b) (others-and out (t .word) reached (turned .word)) hits
+              (words-more P st (t .seen) (valueOf s at) (others out) (others missed) (others reached) (turned .hits) (t .words) (turned .words));
         }
+
+    -- the print of that variant is in the set
+    pub sweeping-noted : (behind more reached met : ℕ) → r ≡ To behind more reached met → (n set : ℕ) → Noted s n first k set
+        → Noted s n first (k + 1) (bitOr set (printAt s n at))
+    unfolding SweptAt sweeping-more
+    sweeping-noted behind more reached met e n set noted =
+        let (read, count, turned) = subst (SweptAt P st s first k at missed) e w in
+        noted-more s n first k set at (t .seen) noted (variant-read s _ at _ read .inside) (in-values s first k (t .seen) at size (t .sum))
+        (in-values s first (k + 1) _ behind (size + more) (sweeping-more behind more reached met e .sum))
 
     pub sweeping-refused : (n : ℕ) → k < n → (j p : ℕ) → r ≡ Refused (record { number = j; place = p }) → many (variantAt s) n [] first ≡ refused j p
     unfolding SweptAt
-    sweeping-refused n l j p e = in-not s first k (t .seen) at size (t .sum) n l j p (subst (SweptAt P st s first k at) e w)
+    sweeping-refused n l j p e = in-not s first k (t .seen) at size (t .sum) n l j p (subst (SweptAt P st s first k at missed) e w)
 
   -- the bits from m up are cleared behind the last one
-  pub sweeping-taken : 0 < length P → length P ≤ 64 → (low : ℕ) → low ≡ 0xffff_ffff_ffff_ffff / 2 ^ (64 - length P)
-      → Taking P st s first k at size (bitAnd state low) (ltb (low / 2) hits)
-  sweeping-taken some short low e =
+  pub sweeping-taken : 0 < length P → length P ≤ 64 → (high : ℕ) → high ≡ 0xffff_ffff_ffff_ffff * 2 ^ (length P - 1) % 2 ^ 64
+      → Taking P st s first k at size (others (bitOr out (high * 2 ^ 1 % 2 ^ 64))) (ltb missed high)
+  sweeping-taken some short high e =
+      let near : length P - 1 < 64 = omega (arith, some, short) in
+      let long : suc (length P - 1) ≡ length P = omega (arith, some) in
+      let low : others (high * 2 ^ 1 % 2 ^ 64) ≡ 2 ^ length P - 1 = low-others (length P - 1) high near e ∙ ap (λ (n : ℕ). 2 ^ n - 1) long in
       record {
         seen = t .seen;
         sum = t .sum;
-        reached = words-state P st (t .seen) state hits (t .words) some short low e;
-        ended = words-end P st (t .seen) state hits (t .words) some short low e;
+        reached =
+            sym (others-or out (t .word) (high * 2 ^ 1 % 2 ^ 64) (mod-lt (high * 2 ^ 1) (pow-pos 64)))
+            ∙ ap (bitAnd (others out)) low
+            ∙ words-state P st (t .seen) (others out) (others missed) (t .words);
+        ended =
+            ap (ltb missed) (e ∙ high-ones (length P - 1) near)
+            ∙ high-others (length P - 1) missed near (t .missing)
+            ∙ words-end P st (t .seen) (others out) (others missed) (t .words) some;
       }

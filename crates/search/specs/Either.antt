@@ -52,16 +52,16 @@ abbrev pub Vectors : List ℕ → List ℕ → List ℕ → Type 0
 Vectors P masks classes = Tools Bits P masks classes
 
 -- what a sweep over a variant comes to, for every pattern whose tables these are
-abbrev pub SweptBy : List ℕ → List ℕ → ℕ → List ℕ → ℕ → ℕ → ℕ → Swept → Type 0
-SweptBy masks classes st s first k at r = (P : List ℕ) → Ready P masks classes st → SweptAt P st s first k at r
+abbrev pub SweptBy : List ℕ → List ℕ → ℕ → List ℕ → ℕ → ℕ → ℕ → ℕ → Swept → Type 0
+SweptBy masks classes st s first k at before r = (P : List ℕ) → Ready P masks classes st → SweptAt P st s first k at before r
 
 -- what a sweep over a variant on both strands says of the strand as given, and of the opposite one
 abbrev pub sweptGiven : SweptBoth → Swept
-sweptGiven (SweptBoth.To next size bits hits) = Swept.To next size (bits .given) (hits .given)
+sweptGiven (SweptBoth.To next size out missed) = Swept.To next size (out .given) (missed .given)
 sweptGiven (SweptBoth.Refused r) = Swept.Refused r
 
 abbrev pub sweptOpposite : SweptBoth → Swept
-sweptOpposite (SweptBoth.To next size bits hits) = Swept.To next size (bits .opposite) (hits .opposite)
+sweptOpposite (SweptBoth.To next size out missed) = Swept.To next size (out .opposite) (missed .opposite)
 sweptOpposite (SweptBoth.Refused r) = Swept.Refused r
 
 -- what a step over a segment on both strands says of the strand as given, and of the opposite one

@@ -1,8 +1,9 @@
 -- The tables of the search by bit-vectors: a letter vector for each byte, and which bytes are no letters.
-use Prim.Native.Nat.{ℕ, _%_, _^_, _<_, _≤_}
+use Prim.Native.Nat.{ℕ, _-_, _%_, _^_, _<_, _≤_}
 use mathlib.Core.Path.{_≡_}
 use mathlib.Core.Bool.{cond}
 use mathlib.Core.List.{List}
+use lib.Bits.{bitXor}
 use lib.Dec.{eqb}
 use lib.ListN.{length, getD, take}
 use Rattle.text.specs.Letter.{raised, letter}
@@ -22,6 +23,20 @@ pub record Masks (P table : List ℕ) : Type 0 where
   pub full : length table ≡ 256
   pub each : (c : ℕ) → c < 256 → getD table c 0 ≡ maskOf P (raised c)
 
+-- the other bits of a word
+abbrev pub others : ℕ → ℕ
+others a = (2 ^ 64 - 1) - a
+
+-- a table with the other bits of these letter vectors
+pub record Others (P table : List ℕ) : Type 0 where
+  pub full : length table ≡ 256
+  pub each : (c : ℕ) → c < 256 → getD table c 0 ≡ others (maskOf P (raised c))
+
+-- either table, as it is filled: the bits of the letter vectors are turned in blank words
+pub record Filled (blank : ℕ) (P table : List ℕ) : Type 0 where
+  pub full : length table ≡ 256
+  pub each : (c : ℕ) → c < 256 → getD table c 0 ≡ bitXor blank (maskOf P (raised c))
+
 -- a table with 0 for each letter and 1 for every other byte
 pub record Classes (table : List ℕ) : Type 0 where
   pub full : length table ≡ 256
@@ -36,6 +51,6 @@ pub record StateOf (P : List ℕ) (st : ℕ) : Type 0 where
 pub record Ready (P masks classes : List ℕ) (st : ℕ) : Type 0 where
   pub some : 0 < length P
   pub short : length P ≤ 64
-  pub vectors : Masks P masks
+  pub vectors : Others P masks
   pub letters : Classes classes
   pub state : StateOf P st

@@ -5,14 +5,14 @@ use mathlib.Core.Bool.{true}
 use mathlib.Core.List.{List}
 use lib.ListN.{length}
 use Rattle.text.specs.Letter.{base, every}
-use Rattle.search.specs.Masks.{Masks, Classes}
+use Rattle.search.specs.Masks.{Others, Classes}
 use Rattle.search.specs.Border.{Borders}
 use Rattle.search.specs.declared.method.Method.{Method}
 use Rattle.search.specs.declared.method.Method.the-variants.{Bits}
 
--- the table of a method: letter vectors, or borders
+-- the table of a method: the other bits of letter vectors, or borders
 abbrev pub TableOf : Method → List ℕ → List ℕ → Type 0
-TableOf Bits P table = Masks P table
+TableOf Bits P table = Others P table
 TableOf Method.Borders P table = Borders P table
 
 -- a pattern of 1 to 64 bases with the method's table

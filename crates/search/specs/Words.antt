@@ -3,6 +3,7 @@ use Prim.Native.Nat.{ℕ, _-_, _^_, _<_}
 use mathlib.Core.Path.{_≡_}
 use mathlib.Core.Bool.{Bool, true, not}
 use mathlib.Core.List.{List, [], _∷_}
+use lib.Bits.{bitAnd}
 use lib.ListN.{length}
 use Rattle.text.specs.Letter.{letter, meant, every}
 use Rattle.text.specs.Text.{Variant, Segment, weight}
@@ -10,7 +11,7 @@ use Rattle.text.specs.Bits.{bit}
 use Rattle.text.specs.State.{next, ends}
 use Rattle.text.specs.Refusal.{ok, refused}
 use Rattle.stretch.specs.Reading.{valueOf, variantAt, valuesFrom}
-use Rattle.search.specs.Masks.{Ready}
+use Rattle.search.specs.Masks.{others, Ready}
 use Rattle.search.specs.declared.segment.Swept.{Swept}
 use Rattle.search.specs.declared.segment.Swept.the-variants.{To, Refused}
 
@@ -21,18 +22,27 @@ pub record Words (P : List ℕ) (st : ℕ) (g : Segment) (bits hits : ℕ) : Typ
   pub fits : hits < 2 ^ length P
   pub end : bit hits (length P - 1) ≡ ends P st g
 
+-- the same of words whose other bits are kept; what the words on the way have is taken out of what was missed before
+pub record Turned (P : List ℕ) (st : ℕ) (g : Segment) (before out missed : ℕ) : Type 0 where
+  pub word : out < 2 ^ 64
+  pub hits : ℕ
+  pub near : hits < 2 ^ 64
+  pub rest : missed ≡ bitAnd before (others hits)
+  pub words : Words P st g (others out) hits
+
 -- what a scan of the variant with the bytes v comes to, for every pattern whose tables these are
-abbrev pub ScannedBy : List ℕ → List ℕ → ℕ → Variant → ℕ → ℕ → Bool → Type 0
-ScannedBy masks classes st v bits hits wrong =
-    (P : List ℕ) → Ready P masks classes st → Words P st (meant v ∷ []) bits hits × (wrong ≡ not (every letter v))
+abbrev pub ScannedBy : List ℕ → List ℕ → ℕ → ℕ → Variant → ℕ → ℕ → Bool → Type 0
+ScannedBy masks classes st before v out missed wrong =
+    (P : List ℕ) → Ready P masks classes st → Turned P st (meant v ∷ []) before out missed × (wrong ≡ not (every letter v))
 
 -- what a method tells of the bytes v: whether one of them is no letter, and if none is, the words of what they mean
-abbrev pub LettersBy : List ℕ → ℕ → Variant → ℕ → ℕ → Bool → Type 0
-LettersBy P st v bits hits wrong = (wrong ≡ not (every letter v)) × (every letter v ≡ true → Words P st (meant v ∷ []) bits hits)
+abbrev pub LettersBy : List ℕ → ℕ → ℕ → Variant → ℕ → ℕ → Bool → Type 0
+LettersBy P st before v out missed wrong =
+    (wrong ≡ not (every letter v)) × (every letter v ≡ true → Turned P st (meant v ∷ []) before out missed)
 
--- what a sweep over the variant at `at` comes to, behind the k of its segment that stand from `first` on
-unfoldable pub SweptAt : List ℕ → ℕ → List ℕ → ℕ → ℕ → ℕ → Swept → Type 0
-SweptAt P st s first k at (To next size bits hits) =
+-- what a sweep over the variant at `at` comes to, behind the k of its segment that stand from `first` on, with what they missed
+unfoldable pub SweptAt : List ℕ → ℕ → List ℕ → ℕ → ℕ → ℕ → ℕ → Swept → Type 0
+SweptAt P st s first k at before (To next size out missed) =
     (variantAt s (valuesFrom s k first) at ≡ ok (record { value = valueOf s at; next = next }))
-    × (size ≡ weight (valueOf s at)) × Words P st (valueOf s at ∷ []) bits hits
-SweptAt P st s first k at (Refused r) = variantAt s (valuesFrom s k first) at ≡ refused (r .number) (r .place)
+    × (size ≡ weight (valueOf s at)) × Turned P st (valueOf s at ∷ []) before out missed
+SweptAt P st s first k at before (Refused r) = variantAt s (valuesFrom s k first) at ≡ refused (r .number) (r .place)

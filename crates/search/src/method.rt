@@ -13,30 +13,36 @@ pub enum Method {
     Borders,
 }
 
-// A variant's letters by border tables, told as a scan tells it: the last bit of the union says whether an occurrence ends.
-fn scan_borders(pattern: &[u8], table: &[u64; 256], bits: u64, letters: &[u8]) -> Scanned
+// A variant's letters by border tables, told as a scan tells it: an occurrence that ends takes the last bit out of what was missed.
+fn scan_borders(
+    pattern: &[u8],
+    table: &[u64; 256],
+    bits: u64,
+    before: u64,
+    letters: &[u8],
+) -> Scanned
     requires { ⌜ Bordered (now pattern) (now table) bits ⌝ }
-    ensures { λ r. ⌜ LettersBy (now (pattern .entry)) bits (now (letters .entry)) (r .bits) (r .hits) (r .wrong) ⌝ }
+    ensures { λ r. ⌜ LettersBy (now (pattern .entry)) bits before (now (letters .entry)) (r .out) (r .missed) (r .wrong) ⌝ }
 {
     if first_wrong(letters) < letters.len() {
         return Scanned {
-            bits: 0,
-            hits: 0,
+            out: 0,
+            missed: 0,
             wrong: true,
         };
     }
     let stepped = step_borders(pattern, table, bits, letters);
     if stepped.ends {
-        let hits = 1 << (pattern.len() - 1);
+        let missed = before & !(1 << (pattern.len() - 1));
         return Scanned {
-            bits: stepped.bits,
-            hits,
+            out: !stepped.bits,
+            missed,
             wrong: false,
         };
     }
     Scanned {
-        bits: stepped.bits,
-        hits: 0,
+        out: !stepped.bits,
+        missed: before,
         wrong: false,
     }
 }
@@ -48,13 +54,14 @@ pub fn scan_by(
     table: &[u64; 256],
     classes: &[u8; 256],
     bits: u64,
+    before: u64,
     letters: &[u8],
 ) -> Scanned
     requires { ⌜ Tools method (now pattern) (now table) (now classes) × StateOf (now pattern) bits ⌝ }
-    ensures { λ r. ⌜ LettersBy (now (pattern .entry)) bits (now (letters .entry)) (r .bits) (r .hits) (r .wrong) ⌝ }
+    ensures { λ r. ⌜ LettersBy (now (pattern .entry)) bits before (now (letters .entry)) (r .out) (r .missed) (r .wrong) ⌝ }
 {
     match method {
-        Method::Bits => scan(table, classes, bits, letters),
-        Method::Borders => scan_borders(pattern, table, bits, letters),
+        Method::Bits => scan(table, classes, bits, before, letters),
+        Method::Borders => scan_borders(pattern, table, bits, before, letters),
     }
 }

@@ -4,13 +4,18 @@ use crate::method::scan_by;
 use crate::state::State;
 use stretch::pieces::Counted;
 use stretch::pieces::Part;
-use stretch::pieces::Verdict;
 use stretch::pieces::head;
-use stretch::pieces::judged;
+use stretch::pieces::misspelt;
 use stretch::pieces::variants;
+use stretch::repetition::again;
+use stretch::repetition::print;
+use stretch::repetition::repeated_at;
+use stretch::repetition::suspected;
 use text::Refusal;
 use text::size::counted;
+ghost use Prim.Native.Nat.{_-_, _<_};
 ghost use mathlib.Core.Path.{_≡_};
+ghost use Rattle.stretch.specs.Prints.{Noted};
 ghost use Rattle.stretch.specs.Skips.{UpTo};
 ghost use Rattle.search.specs.Step.{toldPassed, segmentPass};
 ghost use Rattle.search.specs.Masks.{StateOf};
@@ -29,48 +34,57 @@ pub enum Passed {
     Refused(Refusal),
 }
 
-// How far a sweep over a variant has come in the bytes: the place behind it, its size, the word there, and the union of the words on
-// the way.
+// How far a sweep over a variant has come in the bytes: the place behind it, its size, the other bits of the word there, and those that
+// no word has had so far.
 pub enum Swept {
     To {
         next: usize,
         size: usize,
-        bits: u64,
-        hits: u64,
+        out: u64,
+        missed: u64,
     },
     Refused(Refusal),
 }
 
-// The variant at `at`, behind the k of its segment that stand from `first` on: refusals 5, 7 and 8. Its letters are tested and
-// stepped over in one pass.
+// The variant at `at`, the first of the `left` that are left of so many; those before it stand from `first` on, and the set has their
+// prints. Refusals 5, 7 and 8. Its letters are tested and stepped over in one pass.
 fn variant_by(
     method: Method,
     pattern: &[u8],
     table: &[u64; 256],
     classes: &[u8; 256],
     bits: u64,
+    before: u64,
     stretch: &[u8],
+    count: usize,
+    prints: u64,
     first: usize,
-    k: usize,
+    left: usize,
     at: usize,
 ) -> Swept
     requires { ⌜ Tools method (now pattern) (now table) (now classes) × StateOf (now pattern) bits ⌝ }
-    requires { ⌜ UpTo (now stretch) first k at ⌝ }
-    ensures { λ r. ⌜ SweptAt (now (pattern .entry)) bits (now (stretch .entry)) first k at r ⌝ }
+    requires { ⌜ UpTo (now stretch) first (count - left) at × Noted (now stretch) count first (count - left) prints × (count - left < count) ⌝ }
+    ensures { λ r. ⌜ SweptAt (now (pattern .entry)) bits (now (stretch .entry)) first (count - left) at before r ⌝ }
 {
     match head(stretch, at) {
         Part::Refused(wrong) => Swept::Refused(wrong),
         Part::At { start, next } => {
             let letters = &stretch[start..next];
-            let scanned = scan_by(method, pattern, table, classes, bits, letters);
-            match judged(stretch, first, at, letters, scanned.wrong) {
-                Verdict::Refused(wrong) => Swept::Refused(wrong),
-                Verdict::Sound => Swept::To {
-                    next,
-                    size: counted(next - start),
-                    bits: scanned.bits,
-                    hits: scanned.hits,
-                },
+            let scanned = scan_by(method, pattern, table, classes, bits, before, letters);
+            let size = counted(next - start);
+            if scanned.wrong {
+                return Swept::Refused(misspelt(stretch, at));
+            }
+            if suspected(stretch, count, prints, at) {
+                if repeated_at(stretch, first, at) {
+                    return Swept::Refused(again(at));
+                }
+            }
+            Swept::To {
+                next,
+                size,
+                out: scanned.out,
+                missed: scanned.missed,
             }
         }
     }
@@ -100,19 +114,23 @@ impl State {
         let first = at + 1;
         let mut next = first;
         let mut size = 0;
-        let mut word = 1;
-        let mut hits = 0;
-        let mut k = 0;
-        while k < count {
+        let mut out = 0xffff_ffff_ffff_fffe;
+        let mut missed = 0xffff_ffff_ffff_ffff;
+        let mut prints = 0;
+        let mut left = count;
+        while 0 < left {
             match variant_by(
                 method,
                 pattern,
                 table,
                 classes,
                 bits,
+                missed,
                 stretch,
+                count,
+                prints,
                 first,
-                k,
+                left,
                 next,
             ) {
                 Swept::Refused(wrong) => {
@@ -121,24 +139,27 @@ impl State {
                 Swept::To {
                     next: behind,
                     size: more,
-                    bits: reached,
-                    hits: met,
+                    out: reached,
+                    missed: met,
                 } => {
                     size += more;
-                    word = word | reached;
-                    hits = hits | met;
+                    out = out & reached;
+                    missed = met;
+                    prints = prints | print(stretch, count, next);
                     next = behind;
-                    k += 1;
+                    left -= 1;
                 }
             }
         }
-        let low = 0xffff_ffff_ffff_ffff >> (64 - pattern.len());
-        let state = State { bits: word & low };
+        let high = 0xffff_ffff_ffff_ffff << (pattern.len() - 1);
+        let state = State {
+            bits: !(out | (high << 1)),
+        };
         Passed::To {
             next,
             size,
             state,
-            ends: low / 2 < hits,
+            ends: missed < high,
         }
     }
 }

@@ -1,11 +1,12 @@
-// The tables of the search by bit-vectors, filled once for each call and lent to the loops.
+// The tables of the search by bit-vectors, filled once for each call and lent to the loops. The loops keep words with all bits turned,
+// so the letter vectors that they are lent are turned too; the public letter vectors stand in letter_vectors.rt.
 use text::refusal;
-ghost use Rattle.search.specs.Masks.{bases, Masks, Classes};
+ghost use Rattle.search.specs.Masks.{bases, Filled, Others, Classes};
 
-// The letter vector of what each byte means: bit k is set where base k of the pattern is that letter. Of a pattern over 64 bytes the
-// first 64 count, since a word has no more bits. Lower case has the vectors of upper case, so that the loops look at a letter once.
-pub fn masks(pattern: &[u8]) -> [u64; 256]
-    ensures { λ r. ⌜ Masks (bases (now (pattern .entry))) r ⌝ }
+// A table of blank words, in which bit k of what base k of the pattern is has been turned. Of a pattern over 64 bytes the first 64
+// count, since a word has no more bits. Lower case has the entries of upper case, so that the loops look at a letter once.
+pub fn filled(pattern: &[u8], blank: u64) -> [u64; 256]
+    ensures { λ r. ⌜ Filled blank (bases (now (pattern .entry))) r ⌝ }
 {
     let all = pattern.len();
     let m = if refusal::GREATEST_PATTERN < all {
@@ -13,11 +14,11 @@ pub fn masks(pattern: &[u8]) -> [u64; 256]
     } else {
         all
     };
-    let mut table = [0u64; 256];
+    let mut table = [blank; 256];
     let mut k = 0;
     while k < m {
         let c = pattern[k] as usize;
-        table[c] = table[c] | (1 << k);
+        table[c] = table[c] ^ (1 << k);
         k += 1;
     }
     table[0x6E] = table[0x4E];
@@ -26,6 +27,13 @@ pub fn masks(pattern: &[u8]) -> [u64; 256]
     table[0x63] = table[0x43];
     table[0x61] = table[0x41];
     table
+}
+
+// The other bits of the letter vector of what each byte means: bit k is clear where base k of the pattern is that letter.
+pub fn masks(pattern: &[u8]) -> [u64; 256]
+    ensures { λ r. ⌜ Others (bases (now (pattern .entry))) r ⌝ }
+{
+    filled(pattern, 0xffff_ffff_ffff_ffff)
 }
 
 // 0 for each letter, 1 for every other byte.

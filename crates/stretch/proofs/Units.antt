@@ -11,15 +11,13 @@ use Rattle.text.specs.Refusal.{ok, refused, demand, after}
 use Rattle.text.specs.declared.refusal.Refusal.{Refusal}
 use Rattle.text.proofs.Outcomes.{ok-inj, demand-met, after-met, after-demand, told-met, told-refused}
 use Rattle.stretch.specs.Skips.{UpTo}
-use Rattle.stretch.specs.Pieces.{lettersAt, nextOf, Span, headAt, misspeltAt, judgedAt, toldPart, toldVerdict}
+use Rattle.stretch.specs.Pieces.{lettersAt, nextOf, Span, headAt, misspeltAt, toldPart}
 use Rattle.stretch.specs.Reading.{Taken, among, valueOf, formed, variantAt, valuesFrom}
 use Rattle.stretch.specs.Answers.{spanAt}
 use Rattle.stretch.specs.Prints.{suspectedAt, repeatsAt, Noted}
 use Rattle.stretch.specs.declared.pieces.Part.{Part}
-use Rattle.stretch.specs.declared.pieces.Verdict.{Verdict}
-use Rattle.stretch.specs.declared.pieces.Verdict.the-variants.{Sound}
 use Rattle.stretch.proofs.Heads.{Whole, head-found, head-is, whole-part, value-part}
-use Rattle.stretch.proofs.RepeatsInBytes.{repeats-walk, repeats-at-walk}
+use Rattle.stretch.proofs.RepeatsInBytes.{repeats-at-walk}
 use Rattle.stretch.proofs.Prints.{unsuspected}
 
 -- a variant that was read: its letters, whole, and where the next one begins
@@ -79,33 +77,6 @@ module _ {s : List ℕ} {first k at start next : ℕ} (up : UpTo s first k at) (
   pub unsuspected-new : {n set : ℕ} → Noted s n first k set → k < n → suspectedAt s n set at ≡ false → repeatsAt s first at ≡ false
   unsuspected-new {n} {set} noted l none =
       repeats-at-walk s first k at start next up w ∙ unsuspected s n first k set at noted l (w .inside) none
-
-  -- it was judged
-  letters : Variant
-  letters = take (next - start) (drop start s)
-
-  spells : meant letters ≡ valueOf s at
-  unfolding letters
-  spells = ap meant (whole-part s at start next w) ∙ sym (value-part s at)
-
-  -- what the verdict on its letters is
-  judged-is : (b : Bool) → every letter letters ≡ b
-      → after (judgedAt s first at letters (not b)) (λ _. ok (record { value = valueOf s at; next = nextOf s at }))
-      ≡ variantAt s (valuesFrom s k first) at
-  unfolding letters judgedAt misspeltAt variantAt formed
-  judged-is true good =
-      rw (here, ← whole-part s at start next w, good, repeats-walk s first k at start next up w, ← spells) (simp after-demand)
-  judged-is false bad = rw (here, ← whole-part s at start next w, bad)
-
-  module _ {wrong : Bool} (spelt : wrong ≡ not (every letter (take (next - start) (drop start s))))
-      {v : Verdict} (told : toldVerdict v ≡ judgedAt s first at (take (next - start) (drop start s)) wrong) where
-    pub judged-refused : {f : Refusal} → v ≡ Verdict.Refused f → variantAt s (valuesFrom s k first) at ≡ refused (f .number) (f .place)
-    unfolding letters
-    judged-refused is = sym (judged-is _ refl) ∙ rw (← spelt, ← told, is)
-
-    pub judged-sound : v ≡ Sound → variantAt s (valuesFrom s k first) at ≡ ok (record { value = valueOf s at; next = next })
-    unfolding letters
-    judged-sound is = sym (judged-is _ refl) ∙ rw (← spelt, ← told, is, w .ends)
 
 -- the same told by where its letters stand
 module _ (s : List ℕ) (seen : Segment) (at : ℕ) where

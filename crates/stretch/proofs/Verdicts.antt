@@ -1,4 +1,4 @@
--- Laws of the verdict on a variant: where its first wrong letter stands, and whether it was there before.
+-- Laws of the letters of a variant: where the first wrong one stands.
 use Prim.Native.Nat.{ℕ, _+_, _-_, _≤_, _<_}
 use native.Mathlib.Omega.{arith}
 use mathlib.Core.Path.{_≡_, refl, sym, ap, ap₂, _∙_}
@@ -11,10 +11,10 @@ use lib.Dec.{ltb}
 use lib.ListN.{length, take, drop}
 use Rattle.text.specs.Letter.{letter, every, firstNot}
 use Rattle.text.specs.Text.{Variant}
-use Rattle.text.specs.Refusal.{ok, refused}
+use Rattle.text.specs.Refusal.{refused}
 use Rattle.text.specs.declared.refusal.Refusal.{Refusal}
 use Rattle.text.proofs.Letters.{first-le, every-first, first-every}
-use Rattle.stretch.specs.Pieces.{headAt, repeats, misspeltAt, judgedAt, toldPart}
+use Rattle.stretch.specs.Pieces.{headAt, misspeltAt, toldPart}
 use Rattle.stretch.specs.declared.pieces.Part.{Part}
 use Rattle.stretch.proofs.Heads.{Whole, head-found, whole-part, whole-length}
 
@@ -55,16 +55,3 @@ module _
       let v : Variant = take (next - start) (drop start s) in
       let long : length v ≡ next - start = ap length (whole-part s at start next w) ∙ whole-length s at start next w in
       ap₂ ltb e (sym long) ∙ first-before letter v
-
-module _ (s : List ℕ) (first at : ℕ) (v : Variant) (wrong : Bool) where
-  pub judged-wrong : wrong ≡ true → judgedAt s first at v wrong ≡ misspeltAt s at
-  unfolding judgedAt
-  judged-wrong e = rw e
-
-  pub judged-again : wrong ≡ false → repeats s v first at ≡ true → judgedAt s first at v wrong ≡ refused 8 at
-  unfolding judgedAt
-  judged-again e again = rw (e, again)
-
-  pub judged-new : wrong ≡ false → repeats s v first at ≡ false → judgedAt s first at v wrong ≡ ok tt
-  unfolding judgedAt
-  judged-new e new = rw (e, new)

@@ -66,10 +66,6 @@ repeats s v first at = leb (at + 2 + length v) (length s) && repeatedBefore s v 
 unfoldable pub misspeltAt : List ℕ → ℕ → Outcome (Unit {0})
 misspeltAt s at = after (headAt s at) λ _. refused 7 (wrongPlace s at)
 
--- the variant v at `at`, behind those of its segment that stand from `first` on: 7 if one of its letters was found wrong, then 8
-unfoldable pub judgedAt : List ℕ → ℕ → ℕ → Variant → Bool → Outcome (Unit {0})
-judgedAt s first at v wrong = cond wrong (misspeltAt s at) (demand (not (repeats s v first at)) 8 at (ok tt))
-
 -- the most segments of a stretch
 abbrev pub mostInStretch : ℕ
 mostInStretch = 10922

@@ -3,14 +3,12 @@
 // behind the last segment. Any bytes and any places are fine.
 use crate::number::pair;
 use crate::number::wide;
-use crate::repetition::again;
-use crate::repetition::repeated;
 use text::Refusal;
 use text::letter::first_wrong;
 use text::refusal;
 ghost use mathlib.Core.Path.{_≡_};
 ghost use Rattle.text.specs.Refusal.{refused};
-ghost use Rattle.stretch.specs.Pieces.{fitsAt, openAt, variantsAt, headAt, misspeltAt, judgedAt, closedAt};
+ghost use Rattle.stretch.specs.Pieces.{fitsAt, openAt, variantsAt, headAt, misspeltAt, closedAt};
 ghost use Rattle.stretch.specs.Pieces.{toldOpened, toldCounted, toldPart, toldVerdict};
 
 // How many segments a stretch states.
@@ -125,20 +123,6 @@ pub fn misspelt(stretch: &[u8], at: usize) -> Refusal
             }
         }
     }
-}
-
-// The variant at `at`, whose letters were just looked through, behind those of its segment that stand from `first` on: refusal 7
-// if one of them was found wrong, then 8.
-pub fn judged(stretch: &[u8], first: usize, at: usize, letters: &[u8], wrong: bool) -> Verdict
-    ensures { λ r. ⌜ toldVerdict r ≡ judgedAt (now (stretch .entry)) first at (now (letters .entry)) wrong ⌝ }
-{
-    if wrong {
-        return Verdict::Refused(misspelt(stretch, at));
-    }
-    if repeated(stretch, first, at, letters) {
-        return Verdict::Refused(again(at));
-    }
-    Verdict::Sound
 }
 
 // What is asked behind the last of so many segments, at `at`: refusal 9, then 16. A lone segment is the last of one.

@@ -28,7 +28,7 @@ fn stands(stretch: &[u8], start: usize, letters: usize, variant: &[u8]) -> bool
 
 // Whether a variant that has room at `at` is equal to one that stands before it, of those from `first` on. Whatever stands before it
 // and is as long lies within the bytes too, so that the loop tests nothing.
-pub(crate) fn repeated(stretch: &[u8], first: usize, at: usize, variant: &[u8]) -> bool
+fn repeated(stretch: &[u8], first: usize, at: usize, variant: &[u8]) -> bool
     ensures { λ r. ⌜ r ≡ repeats (now (stretch .entry)) (now (variant .entry)) first at ⌝ }
 {
     let end = stretch.len();

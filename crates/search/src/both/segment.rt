@@ -3,27 +3,32 @@ use crate::both::words::Pair;
 use crate::both::words::scan_both;
 use stretch::pieces::Counted;
 use stretch::pieces::Part;
-use stretch::pieces::Verdict;
 use stretch::pieces::head;
-use stretch::pieces::judged;
+use stretch::pieces::misspelt;
 use stretch::pieces::variants;
+use stretch::repetition::again;
+use stretch::repetition::print;
+use stretch::repetition::repeated_at;
+use stretch::repetition::suspected;
 use text::Refusal;
 use text::size::counted;
+ghost use Prim.Native.Nat.{_-_, _<_};
 ghost use mathlib.Core.Path.{_≡_};
 ghost use Rattle.text.specs.Strand.{opposite};
+ghost use Rattle.stretch.specs.Prints.{Noted};
 ghost use Rattle.stretch.specs.Skips.{UpTo};
 ghost use Rattle.search.specs.Masks.{StateOf};
 ghost use Rattle.search.specs.Step.{toldPassed, segmentPass};
 ghost use Rattle.search.specs.Either.{evens, odds, Vectors, SweptBy, sweptGiven, sweptOpposite, passedGiven, passedOpposite};
 
-// How far a sweep over a variant has come in the bytes: the place behind it, its size, the words there, and the unions of the words on
-// the way.
+// How far a sweep over a variant has come in the bytes: the place behind it, its size, the other bits of the words there, and those that
+// no word has had so far.
 pub enum SweptBoth {
     To {
         next: usize,
         size: usize,
-        bits: Pair,
-        hits: Pair,
+        out: Pair,
+        missed: Pair,
     },
     Refused(Refusal),
 }
@@ -41,35 +46,47 @@ pub enum PassedBoth {
     Refused(Refusal),
 }
 
-// The variant at `at`, behind the k of its segment that stand from `first` on: refusals 5, 7 and 8.
+// The variant at `at`, the first of the `left` that are left of so many; those before it stand from `first` on, and the set has their
+// prints. Refusals 5, 7 and 8.
 fn variant_both(
     table: &[u64; 512],
     classes: &[u8; 256],
     bits: Pair,
+    before: Pair,
     stretch: &[u8],
+    count: usize,
+    prints: u64,
     first: usize,
-    k: usize,
+    left: usize,
     at: usize,
 ) -> SweptBoth
-    requires { ⌜ UpTo (now stretch) first k at ⌝ }
-    ensures { λ r. ⌜ SweptBy (evens (now (table .entry))) (now (classes .entry)) (bits .given) (now (stretch .entry)) first k at (sweptGiven r) ⌝ }
-    ensures { λ r. ⌜ SweptBy (odds (now (table .entry))) (now (classes .entry)) (bits .opposite) (now (stretch .entry)) first k at (sweptOpposite r) ⌝ }
+    requires { ⌜ UpTo (now stretch) first (count - left) at × Noted (now stretch) count first (count - left) prints × (count - left < count) ⌝ }
+    ensures { λ r. ⌜ SweptBy (evens (now (table .entry))) (now (classes .entry)) (bits .given) (now (stretch .entry)) first
+        (count - left) at (before .given) (sweptGiven r) ⌝ }
+    ensures { λ r. ⌜ SweptBy (odds (now (table .entry))) (now (classes .entry)) (bits .opposite) (now (stretch .entry)) first
+        (count - left) at (before .opposite) (sweptOpposite r) ⌝ }
 {
     match head(stretch, at) {
         Part::Refused(wrong) => SweptBoth::Refused(wrong),
         Part::At { start, next } => {
             let letters = &stretch[start..next];
-            let scanned = scan_both(table, classes, bits, letters);
-            let reached = scanned.bits;
-            let met = scanned.hits;
-            match judged(stretch, first, at, letters, scanned.wrong) {
-                Verdict::Refused(wrong) => SweptBoth::Refused(wrong),
-                Verdict::Sound => SweptBoth::To {
-                    next,
-                    size: counted(next - start),
-                    bits: reached,
-                    hits: met,
-                },
+            let scanned = scan_both(table, classes, bits, before, letters);
+            let reached = scanned.out;
+            let met = scanned.missed;
+            let size = counted(next - start);
+            if scanned.wrong {
+                return SweptBoth::Refused(misspelt(stretch, at));
+            }
+            if suspected(stretch, count, prints, at) {
+                if repeated_at(stretch, first, at) {
+                    return SweptBoth::Refused(again(at));
+                }
+            }
+            SweptBoth::To {
+                next,
+                size,
+                out: reached,
+                missed: met,
             }
         }
     }
@@ -99,42 +116,58 @@ impl Pair {
         let first = at + 1;
         let mut next = first;
         let mut size = 0;
-        let mut words = Pair::FRESH;
-        let mut hits = Pair {
-            given: 0,
-            opposite: 0,
+        let mut words = Pair {
+            given: 0xffff_ffff_ffff_fffe,
+            opposite: 0xffff_ffff_ffff_fffe,
         };
-        let mut k = 0;
-        while k < count {
-            match variant_both(table, classes, self, stretch, first, k, next) {
+        let mut missed = Pair {
+            given: 0xffff_ffff_ffff_ffff,
+            opposite: 0xffff_ffff_ffff_ffff,
+        };
+        let mut prints = 0;
+        let mut left = count;
+        while 0 < left {
+            match variant_both(
+                table,
+                classes,
+                self,
+                missed,
+                stretch,
+                count,
+                prints,
+                first,
+                left,
+                next,
+            ) {
                 SweptBoth::Refused(wrong) => {
                     return PassedBoth::Refused(wrong);
                 }
                 SweptBoth::To {
                     next: behind,
                     size: more,
-                    bits: reached,
-                    hits: met,
+                    out: reached,
+                    missed: met,
                 } => {
                     size += more;
-                    words = words.or(reached);
-                    hits = hits.or(met);
+                    words = words.and(reached);
+                    missed = met;
+                    prints = prints | print(stretch, count, next);
                     next = behind;
-                    k += 1;
+                    left -= 1;
                 }
             }
         }
-        let low = 0xffff_ffff_ffff_ffff >> (64 - pattern.len());
+        let high = 0xffff_ffff_ffff_ffff << (pattern.len() - 1);
         let state = Pair {
-            given: words.given & low,
-            opposite: words.opposite & low,
+            given: !(words.given | (high << 1)),
+            opposite: !(words.opposite | (high << 1)),
         };
         PassedBoth::To {
             next,
             size,
             state,
-            given: low / 2 < hits.given,
-            opposite: low / 2 < hits.opposite,
+            given: missed.given < high,
+            opposite: missed.opposite < high,
         }
     }
 }

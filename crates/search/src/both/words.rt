@@ -2,8 +2,8 @@
 // table, side by side, so that a machine with words of 128 bits takes both at once.
 use crate::vectors::masks;
 ghost use mathlib.Core.Path.{_≡_};
-ghost use lib.Bits.{bitOr};
-ghost use Rattle.search.specs.Masks.{bases, Masks};
+ghost use lib.Bits.{bitAnd};
+ghost use Rattle.search.specs.Masks.{bases, Others};
 ghost use Rattle.search.specs.Words.{ScannedBy};
 ghost use Rattle.search.specs.Either.{evens, odds};
 
@@ -20,29 +20,30 @@ impl Pair {
         opposite: 1,
     };
 
-    // Both words united with those of another pair.
-    pub fn or(self, more: Pair) -> Pair
-        ensures { λ r. ⌜ (r .given ≡ bitOr (self .given) (more .given)) × (r .opposite ≡ bitOr (self .opposite) (more .opposite)) ⌝ }
+    // The bits that both words have with those of another pair.
+    pub fn and(self, more: Pair) -> Pair
+        ensures { λ r. ⌜ (r .given ≡ bitAnd (self .given) (more .given)) × (r .opposite ≡ bitAnd (self .opposite) (more .opposite)) ⌝ }
     {
         Pair {
-            given: self.given | more.given,
-            opposite: self.opposite | more.opposite,
+            given: self.given & more.given,
+            opposite: self.opposite & more.opposite,
         }
     }
 }
 
-// What one pass over a variant's letters finds on each strand: the words behind them, the unions of the words on the way, and whether
-// a byte is no letter.
+// What one pass over a variant's letters finds on each strand: the other bits of the words behind them, those that no word has had so
+// far, and whether a byte is no letter.
 pub struct ScannedBoth {
-    pub bits: Pair,
-    pub hits: Pair,
+    pub out: Pair,
+    pub missed: Pair,
     pub wrong: bool,
 }
 
-// The letter vectors of both strands: those of the strand as given in the even entries, those of the opposite one in the odd entries.
+// The other bits of the letter vectors of both strands: those of the strand as given in the even entries, those of the opposite one in
+// the odd entries.
 pub fn masks_both(given: &[u8], opposite: &[u8]) -> [u64; 512]
-    ensures { λ r. ⌜ Masks (bases (now (given .entry))) (evens r) ⌝ }
-    ensures { λ r. ⌜ Masks (bases (now (opposite .entry))) (odds r) ⌝ }
+    ensures { λ r. ⌜ Others (bases (now (given .entry))) (evens r) ⌝ }
+    ensures { λ r. ⌜ Others (bases (now (opposite .entry))) (odds r) ⌝ }
 {
     let evens = masks(given);
     let odds = masks(opposite);
@@ -58,37 +59,43 @@ pub fn masks_both(given: &[u8], opposite: &[u8]) -> [u64; 512]
 }
 
 // The words that the variant leads to, as the scan of one strand has them.
-pub fn scan_both(table: &[u64; 512], classes: &[u8; 256], bits: Pair, variant: &[u8]) -> ScannedBoth
-    ensures { λ r. ⌜ ScannedBy (evens (now (table .entry))) (now (classes .entry)) (bits .given) (now (variant .entry))
-        (r .bits .given) (r .hits .given) (r .wrong) ⌝ }
-    ensures { λ r. ⌜ ScannedBy (odds (now (table .entry))) (now (classes .entry)) (bits .opposite) (now (variant .entry))
-        (r .bits .opposite) (r .hits .opposite) (r .wrong) ⌝ }
+pub fn scan_both(
+    table: &[u64; 512],
+    classes: &[u8; 256],
+    bits: Pair,
+    before: Pair,
+    variant: &[u8],
+) -> ScannedBoth
+    ensures { λ r. ⌜ ScannedBy (evens (now (table .entry))) (now (classes .entry)) (bits .given) (before .given) (now (variant .entry))
+        (r .out .given) (r .missed .given) (r .wrong) ⌝ }
+    ensures { λ r. ⌜ ScannedBy (odds (now (table .entry))) (now (classes .entry)) (bits .opposite) (before .opposite) (now (variant .entry))
+        (r .out .opposite) (r .missed .opposite) (r .wrong) ⌝ }
 {
-    let mut d = bits.given;
-    let mut e = bits.opposite;
-    let mut hits = 0;
-    let mut met = 0;
+    let mut d = !bits.given;
+    let mut e = !bits.opposite;
+    let mut missed = before.given;
+    let mut met = before.opposite;
     let mut bad = 0u8;
     let mut i = 0;
     while i < variant.len() {
         let c = variant[i] as usize;
         bad = bad | classes[c];
         let even = 2 * c;
-        let f = d & table[even];
-        let g = e & table[even + 1];
-        hits = hits | f;
-        met = met | g;
-        d = (f << 1) | 1;
-        e = (g << 1) | 1;
+        let f = d | table[even];
+        let g = e | table[even + 1];
+        missed = missed & f;
+        met = met & g;
+        d = f << 1;
+        e = g << 1;
         i += 1;
     }
     ScannedBoth {
-        bits: Pair {
+        out: Pair {
             given: d,
             opposite: e,
         },
-        hits: Pair {
-            given: hits,
+        missed: Pair {
+            given: missed,
             opposite: met,
         },
         wrong: bad != 0,

@@ -1,7 +1,7 @@
 -- `card::over::card_of` meets its contract: row 0 as it is told, and the other rows as `rows_over` leaves them.
 use borrow.Author.Needs.{needs}
 use native.Mathlib.Omega.{arith}
-use Rattle.search.proofs.BitScans.{masks-short}
+use Rattle.search.proofs.BitScans.{told-short}
 use Rattle.card.proofs.RowWalks.{sound-few}
 use Rattle.card.proofs.OfStretches.{rowed-none, card-of}
 use Rattle.card.proofs.over.card_of.Statement.{statement}
@@ -15,7 +15,7 @@ rows-over-requires c κs =
     let m = c .before .before .before in
     let n = m .before .before .before .before in
     let z = n .before .before .before .pre in
-    (z .bases, masks-short _ _ (z .bases .short) (m .masks .ensures), z .sound, rowed-none _ (z .bases) _ (n .nothing .ensures))
+    (z .bases, told-short _ _ (z .bases .short) (m .masks .ensures), z .sound, rowed-none _ (z .bases) _ (n .nothing .ensures))
 
 cast-t22 : tie.Need-cast-t22
 cast-t22 c =

@@ -1,4 +1,4 @@
--- `search::bits::scan` meets its contract. The loop's invariant, `Scanning`: the word has the bits of the state that the letters read so
+-- `search::bits::scan` meets its contract. The loop's invariant, `Turning`: the word has the bits of the state that the letters read so
 -- far lead to. The measure is the number of letters left.
 use Prim.Native.Nat.{ℕ, _-_, _<_}
 use borrow.Author.Needs.{needs}
@@ -7,19 +7,19 @@ use mathlib.Core.Path.{refl}
 use mathlib.Core.List.{List}
 use lib.ListN.{length, getD}
 use Rattle.search.specs.Masks.{Ready}
-use Rattle.search.proofs.BitScans.{Scanning, scanning-none, scanning-more, scanning-all, scanning-wrong}
+use Rattle.search.proofs.BitScans.{Turning, turning-none, turning-more, turning-all, scanning-wrong}
 use Rattle.search.proofs.bits.scan.Statement.{statement}
 use Rattle.search.proofs.bits.scan.Tie as tie
 
 abbrev Inv-loop : tie.InvT-loop
-Inv-loop masks classes bits variant d₀ hits₀ bad₀ i₀ d hits bad i =
-    (P : List ℕ) → Ready P masks classes bits → Scanning P bits variant i d hits bad
+Inv-loop others classes bits before variant out₀ missed₀ bad₀ i₀ out missed bad i =
+    (P : List ℕ) → Ready P others classes bits → Turning P bits variant i before out missed bad
 
 abbrev μ-loop : tie.MeasureT-loop
-μ-loop masks classes bits variant d₀ hits₀ bad₀ i₀ d hits bad i = length variant - i
+μ-loop others classes bits before variant out₀ missed₀ bad₀ i₀ out missed bad i = length variant - i
 
 loop-holds : tie.Need-loop-holds Inv-loop μ-loop
-loop-holds c P y = scanning-none P _ _ _ _ y
+loop-holds c P y = turning-none P _ _ _ _ _ (omega arith) y
 
 -- the letter that is read is a byte
 byte : (c : tie.After-shared-slice-known Inv-loop μ-loop) → getD (c .before .before .before .args .variant .now) (c .before .before .loop .i) 0 < 256
@@ -40,12 +40,12 @@ element-copy-out-e c = byte (c .before)
 loop-again : tie.Need-loop-again Inv-loop μ-loop
 loop-again c P y =
     let d = c .before .before .before in
-    scanning-more P _ _ _ _ _ _ _ _ y (d .before .loop .inv P y) (d .loop-test .taken) _ refl (byte (c .before .before))
+    turning-more P _ _ _ _ _ _ _ _ _ y (d .before .loop .inv P y) (d .loop-test .taken) _ refl (byte (c .before .before)) _ refl
 
 returns : tie.Need-returns Inv-loop μ-loop
 returns c P y =
     let d = c .before .loop .inv P y in
-    (scanning-all P _ _ _ _ _ _ d (c .loop-test .left), scanning-wrong P _ _ _ _ _ _ d (c .loop-test .left))
+    (turning-all P _ _ _ _ _ _ _ d (c .loop-test .left), scanning-wrong P _ _ _ _ _ _ (d .scanning) (c .loop-test .left))
 
 pub scan-spec : {M : Type 1} → statement M
 scan-spec =

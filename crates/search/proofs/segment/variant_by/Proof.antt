@@ -1,12 +1,13 @@
--- `search::segment::variant_by` meets its contract, from what `head` tells of the place, `scan_by` of the letters there, and `judged` of
--- the variant.
+-- `search::segment::variant_by` meets its contract, from what `head` tells of the place, `scan_by` of the letters there, and the set or
+-- the look back of those before it.
+use Prim.Native.Nat.{_-_}
 use borrow.Author.Needs.{needs}
 use native.Mathlib.Omega.{arith}
 use mathlib.Core.Path.{sym, ap, _∙_}
 use Rattle.stretch.specs.Pieces.{toldPart}
 use Rattle.stretch.specs.Skips.{UpTo}
 use Rattle.stretch.proofs.Heads.{Whole, head-is}
-use Rattle.stretch.proofs.Units.{head-refused, judged-refused, judged-sound}
+use Rattle.stretch.proofs.Units.{head-refused, misspelt-refused, again-refused, new-read, unsuspected-new}
 use Rattle.search.proofs.Words.{swept-not, swept-to}
 use Rattle.search.proofs.segment.variant_by.Statement.{statement}
 use Rattle.search.proofs.segment.variant_by.Tie as tie
@@ -21,8 +22,8 @@ found : (c : tie.After-start)
 found c = head-is _ _ _ _ (sym (c .before .before .head .ensures) ∙ ap toldPart (c .start .given .1))
 
 -- the variants before it, which the walk has passed
-passed : (c : tie.After-start) → let a = c .before .before .before .before .before .args in UpTo (a .stretch .now) (a .first) (a .k) (a .at)
-passed c = c .before .before .before .before .before .pre .1
+passed : (c : tie.After-start) → let a = c .before .before .before .before .before .args in UpTo (a .stretch .now) (a .first) (a .count - a .left) (a .at)
+passed c = c .before .before .before .before .before .pre .1 .0
 
 sub-letters : tie.Need-sub-letters
 sub-letters c = let w = found (c .before) in omega (arith, w .starts, w .ends)
@@ -34,26 +35,45 @@ part-letters-end : tie.Need-part-letters-end
 part-letters-end c = let w = found (c .before) in omega (arith, w .ends, w .inside)
 
 sub-counted : tie.Need-sub-counted
-sub-counted c = let w = found (c .before .before .before .before .before .before) in omega (arith, w .starts, w .ends)
+sub-counted c = let w = found (c .before .before .before) in omega (arith, w .starts, w .ends)
 
 returns : tie.Need-returns
-returns c = swept-not _ _ _ _ _ _ _ _ (head-refused _ _ (c .before .before .before .head .ensures) (c .before .wrong .given .1) _)
+returns c =
+    let d = c .before .before .before in
+    let s = d .before .before .before in
+    swept-not _ _ _ _ _ _ _ _ _ (misspelt-refused (passed s) (found s) (d .scan-by .ensures .0) (c .before .if1 .taken) (c .misspelt .ensures))
 
 returns-2 : tie.Need-returns-2
 returns-2 c =
-    let j = c .before .before .before in
-    let d = j .before in
+    let r = c .before .before in
+    let e = r .before .before .before in
+    let d = e .before .before in
     let s = d .before .before .before in
-    swept-not _ _ _ _ _ _ _ _ (judged-refused (passed s) (found s) (d .scan-by .ensures .0) (j .judged .ensures) (c .before .wrong2 .given .1))
+    let again = sym (r .repeated-at .ensures) ∙ c .before .if3 .taken in
+    swept-not _ _ _ _ _ _ _ _ _ (again-refused (passed s) (found s) (d .scan-by .ensures .0) (e .if1 .left) again (c .again .ensures))
 
 returns-3 : tie.Need-returns-3
-returns-3 c =
-    let e = c .before in
-    let j = e .before .before in
-    let d = j .before in
+returns-3 c = swept-not _ _ _ _ _ _ _ _ _ (head-refused _ _ (c .before .before .before .head .ensures) (c .before .wrong .given .1) _)
+
+returns-4 : tie.Need-returns-4
+returns-4 c =
+    let r = c .before in
+    let e = r .before .before .before in
+    let d = e .before .before in
     let s = d .before .before .before in
-    let read = judged-sound (passed s) (found s) (d .scan-by .ensures .0) (j .judged .ensures) (e .enum-told .given .1) in
-    swept-to _ _ _ _ _ _ _ _ (found s) read _ _ _ (c .counted .ensures) (d .scan-by .ensures .1)
+    let new = sym (r .repeated-at .ensures) ∙ c .if3 .left in
+    let read = new-read (passed s) (found s) (d .scan-by .ensures .0) (e .if1 .left) new in
+    swept-to _ _ _ _ _ _ _ _ _ (found s) read _ _ _ (e .before .counted .ensures) (d .scan-by .ensures .1)
+
+returns-5 : tie.Need-returns-5
+returns-5 c =
+    let e = c .before .before in
+    let d = e .before .before in
+    let s = d .before .before .before in
+    let pre = s .before .before .before .before .before .pre .1 in
+    let new = unsuspected-new (passed s) (found s) (pre .1) (pre .2) (sym (c .before .suspected .ensures) ∙ c .if2 .left) in
+    let read = new-read (passed s) (found s) (d .scan-by .ensures .0) (e .if1 .left) new in
+    swept-to _ _ _ _ _ _ _ _ _ (found s) read _ _ _ (e .before .counted .ensures) (d .scan-by .ensures .1)
 
 pub variant-by-spec : {M : Type 1} → statement M
 variant-by-spec =
@@ -66,11 +86,14 @@ variant-by-spec =
     part-letters-start
     part-letters-end
     (λ c κs. search needs)
-    (λ c κs. search needs)
-    (λ c. search needs)
-    (λ c. search needs)
     sub-counted
     (λ c κs. search needs)
+    (λ c κs. search needs)
     returns
+    (λ c κs. search needs)
+    (λ c κs. search needs)
+    (λ c κs. search needs)
     returns-2
-    returns-3)
+    returns-3
+    returns-4
+    returns-5)

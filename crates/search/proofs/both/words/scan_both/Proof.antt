@@ -1,31 +1,34 @@
--- `search::both::words::scan_both` meets its contract. The loop's invariant, `Scanning` on each strand: its word has the bits of the state
+-- `search::both::words::scan_both` meets its contract. The loop's invariant, `Turning` on each strand: its word has the bits of the state
 -- that the letters read so far lead to. The measure is the number of letters left.
 use Prim.Native.Nat.{ℕ, _-_, _<_, _≤_}
 use borrow.Author.Needs.{needs}
 use native.Mathlib.Omega.{arith}
-use mathlib.Core.Path.{refl}
+use mathlib.Core.Path.{_≡_, refl}
 use mathlib.Core.List.{List}
 use lib.ListN.{length, getD}
-use Rattle.search.specs.Masks.{Ready}
+use Rattle.search.specs.Masks.{others, Ready}
 use Rattle.search.specs.Either.{evens, odds}
-use Rattle.search.proofs.BitScans.{Scanning, scanning-none, scanning-all, scanning-wrong}
-use Rattle.search.proofs.Pairs.{evens-at, odds-at, scanning-entry}
+use Rattle.search.proofs.BitScans.{Turning, turning-start, turning-more, turning-all, scanning-wrong}
+use Rattle.search.proofs.Pairs.{evens-at, odds-at}
 use Rattle.search.proofs.both.words.scan_both.Statement.{statement}
 use Rattle.search.proofs.both.words.scan_both.Tie as tie
 
 abbrev Inv-loop : tie.InvT-loop
-Inv-loop table classes variant d₀ e₀ hits₀ met₀ bad₀ i₀ d e hits met bad i =
-    ((P : List ℕ) → Ready P (evens table) classes d₀ → Scanning P d₀ variant i d hits bad)
-    × ((P : List ℕ) → Ready P (odds table) classes e₀ → Scanning P e₀ variant i e met bad)
+Inv-loop table classes variant d₀ e₀ missed₀ met₀ bad₀ i₀ d e missed met bad i =
+    ((st : ℕ) → d₀ ≡ others st → (P : List ℕ) → Ready P (evens table) classes st → Turning P st variant i missed₀ d missed bad)
+    × ((st : ℕ) → e₀ ≡ others st → (P : List ℕ) → Ready P (odds table) classes st → Turning P st variant i met₀ e met bad)
 
 abbrev μ-loop : tie.MeasureT-loop
-μ-loop table classes variant d₀ e₀ hits₀ met₀ bad₀ i₀ d e hits met bad i = length variant - i
+μ-loop table classes variant d₀ e₀ missed₀ met₀ bad₀ i₀ d e missed met bad i = length variant - i
 
 loop-holds : tie.Need-loop-holds Inv-loop μ-loop
-loop-holds c = (λ P y. scanning-none P _ _ _ _ y, λ P y. scanning-none P _ _ _ _ y)
+loop-holds c = (
+  λ st is P y. turning-start P _ _ _ _ _ (omega arith) y _ is,
+  λ st is P y. turning-start P _ _ _ _ _ (omega arith) y _ is,
+)
 
 -- the letter that is read is a byte
-byte : (c : tie.After-shared-slice-known Inv-loop μ-loop) → getD (c .before .before .before .args .variant .now) (c .before .before .loop .i) 0 < 256
+byte : (c : tie.After-shared-slice-known Inv-loop μ-loop) → getD (c .before .before .before .before .before .args .variant .now) (c .before .before .loop .i) 0 < 256
 byte c = omega (arith, c .shared-slice-known .given (c .before .before .loop .i))
 
 cast-c : tie.Need-cast-c Inv-loop μ-loop
@@ -57,16 +60,22 @@ loop-again c =
     let b = c .before .before .before in
     let d = b .before in
     let a = d .before in (
-      λ P y. scanning-entry P _ _ _ _ _ _ _ _ y (a .loop .inv .0 P y) (d .loop-test .taken) _ refl (byte b) _ (evens-at _ _),
-      λ P y. scanning-entry P _ _ _ _ _ _ _ _ y (a .loop .inv .1 P y) (d .loop-test .taken) _ refl (byte b) _ (odds-at _ _),
+      λ st is P y.
+          turning-more P _ _ _ _ _ _ _ _ _ y (a .loop .inv .0 st is P y) (d .loop-test .taken) _ refl (byte b) _ (evens-at _ _),
+      λ st is P y.
+          turning-more P _ _ _ _ _ _ _ _ _ y (a .loop .inv .1 st is P y) (d .loop-test .taken) _ refl (byte b) _ (odds-at _ _),
     )
 
 returns : tie.Need-returns Inv-loop μ-loop
 returns c =
     let end = c .loop-test .left in
     let i = c .before .loop .inv in (
-      λ P y. (scanning-all P _ _ _ _ _ _ (i .0 P y) end, scanning-wrong P _ _ _ _ _ _ (i .0 P y) end),
-      λ P y. (scanning-all P _ _ _ _ _ _ (i .1 P y) end, scanning-wrong P _ _ _ _ _ _ (i .1 P y) end),
+      λ P y.
+          let t = i .0 _ refl P y in
+          (turning-all P _ _ _ _ _ _ _ t end, scanning-wrong P _ _ _ _ _ _ (t .scanning) end),
+      λ P y.
+          let t = i .1 _ refl P y in
+          (turning-all P _ _ _ _ _ _ _ t end, scanning-wrong P _ _ _ _ _ _ (t .scanning) end),
     )
 
 pub scan-both-spec : {M : Type 1} → statement M
