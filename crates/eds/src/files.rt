@@ -1,20 +1,6 @@
 // The files of a text: the name itself for one stretch, and the name, a point and five digits for one of many.
-use lines::put_bytes;
-use lines::put_number;
-
-// The most stretches of a text: five digits count them.
-const MOST: u64 = 99999;
-
-// Puts a point and the five digits of a number below 100,000 into a name from a place on. The place behind them.
-fn put_digits(number: u64, name: &mut [u8], at: usize) -> usize {
-    let mut digits = [0u8; 6];
-    if MOST < number {
-        return at;
-    }
-    put_number(MOST + 1 + number, &mut digits, 0);
-    let from = put_bytes(b".", &mut *name, at);
-    put_bytes(&digits[1..], &mut *name, from)
-}
+use lines::MOST_NUMBERED;
+use lines::put_numbered;
 
 // Makes a new file of the first n of these bytes. Whether all went well.
 fn make(path: &[u8], bytes: &[u8], n: usize) -> bool {
@@ -39,12 +25,11 @@ pub fn make_stretch(name: &[u8], number: u64, bytes: &[u8], n: usize) -> bool {
     if number == 0 {
         return make(name, bytes, n);
     }
-    if MOST < number {
+    if MOST_NUMBERED < number {
         return false;
     }
     let mut path = io::buffer();
-    let digits = put_bytes(name, &mut path, 0);
-    let end = put_digits(number, &mut path, digits);
+    let end = put_numbered(name, number, &mut path, 0);
     make_front(&path, end, bytes, n)
 }
 

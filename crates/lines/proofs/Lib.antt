@@ -1,5 +1,6 @@
 -- Laws of the definitions in specs/.
 pub mod Putting
+pub mod FileNames
 pub mod Digits
 pub mod Marked
 pub mod Screens

@@ -20,3 +20,9 @@ digits n = digitsIn (suc n) n
 -- a line: a word, a number, the line's end
 unfoldable pub line : List ℕ → ℕ → List ℕ
 line word n = word ++ digits n ++ (10 ∷ [])
+
+-- the name of a file of several: a name, a point and the last five digits of a number
+unfoldable pub numbered : List ℕ → ℕ → List ℕ
+numbered name n =
+    name
+    ++ (46 ∷ digit (n / 10000 % 10) ∷ digit (n / 1000 % 10) ∷ digit (n / 100 % 10) ∷ digit (n / 10 % 10) ∷ digit (n % 10) ∷ [])

@@ -4,6 +4,7 @@ use card::Asked;
 use card::Card;
 use search::State;
 use stretch::Checked;
+use stretch::Written;
 use text::strand::Strand;
 
 // The check of a stretch: its size, or the number of its refusal.
@@ -43,4 +44,20 @@ pub extern "C" fn paced_join(pattern: &[u8], stretch: &[u8]) -> u64 {
     let made = Card::of(pattern, Strand::Given, stretch);
     let both = made.card.join(made.card);
     asked(both.card)
+}
+
+// The stretch of a window from a variant file: above the lowest byte the bytes that it has, or in it the number of the refusal and
+// above it its place.
+#[no_mangle]
+pub extern "C" fn paced_build(
+    file: &[u8],
+    window: &[u8],
+    first: usize,
+    name: &[u8],
+    out: &mut [u8],
+) -> u64 {
+    match vcf::build(file, window, first, name, &mut *out) {
+        Written::Bytes(bytes) => (bytes as u64) << 8,
+        Written::Refused(wrong) => ((wrong.place as u64) << 8) | wrong.number,
+    }
 }

@@ -1,12 +1,16 @@
 -- Laws of writing over a list, as it goes on: one more piece behind what was written.
-use Prim.Native.Nat.{ℕ, suc, _+_, _<_, _≤_}
+use Prim.Native.Nat.{ℕ, suc, _+_, _-_, _<_, _≤_}
 use native.Mathlib.Numerals.{add-one}
 use native.Mathlib.Omega.{arith}
 use mathlib.Core.Path.{_≡_, refl, sym, ap, _∙_}
+use mathlib.Core.Bool.{true, false}
 use mathlib.Core.List.{List, [], _∷_, _++_, append-assoc, append-nil}
+use borrow.Author.Tests.{le-leb, lt-leb, leb-true}
+use lib.Dec.{leb}
 use lib.ListN.{length, take, drop, set, getD, length-append, length-take, length-drop, take-append-drop, drop-of-length-le}
 use lib.Seq.{take-at, drop-append-add, drop-drop, drop-cons, set-split}
-use Rattle.stretch.specs.Bytes.{over}
+use Rattle.text.proofs.Truth.{same-truth}
+use Rattle.stretch.specs.Bytes.{over, put}
 
 drop-behind : (p q : List ℕ) (n m : ℕ) → length p ≡ n → drop (n + m) (p ++ q) ≡ drop m q
 drop-behind p q n m e = rw (← e) (drop-append-add p q m)
@@ -44,6 +48,25 @@ module _ (d : List ℕ) (at : ℕ) where
 pub over-front : (d xs : List ℕ) (n : ℕ) → length xs ≡ n → take n (over d 0 xs) ≡ xs
 unfolding over
 over-front d xs n e = take-at xs (drop (0 + length xs) d) n e
+
+-- whether bytes have room is asked without a sum
+pub room-none : (size at more : ℕ) → size < at → false ≡ leb (at + more) size
+room-none size at more l = let far : size < at + more = omega arith in sym (lt-leb (at + more) size far)
+
+pub room-left : (size at more : ℕ) → at ≤ size → leb more (size - at) ≡ leb (at + more) size
+room-left size at more l =
+    same-truth (leb more (size - at)) (leb (at + more) size)
+    (λ e. le-leb (at + more) size (omega (arith, leb-true more (size - at) e)))
+    (λ e. le-leb more (size - at) (omega (arith, leb-true (at + more) size e)))
+
+-- what is put where it has room, and where it has none
+pub put-over : (d : List ℕ) (at : ℕ) (xs : List ℕ) → at + length xs ≤ length d → put d at xs ≡ over d at xs
+unfolding put
+put-over d at xs l = rw (le-leb (at + length xs) (length d) l)
+
+pub put-short : (d : List ℕ) (at : ℕ) (xs : List ℕ) → leb (at + length xs) (length d) ≡ false → d ≡ put d at xs
+unfolding put
+put-short d at xs e = rw e
 
 -- two numbers set one after the other
 pub over-two : (d : List ℕ) (at a b : ℕ) → at + 2 ≤ length d → set (set d at a) (at + 1) b ≡ over d at (a ∷ b ∷ [])

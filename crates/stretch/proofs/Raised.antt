@@ -23,6 +23,9 @@ drop-map f zero l = refl
 drop-map f (suc n) [] = refl
 drop-map f (suc n) (a ∷ l) = drop-map f n l
 
+pub drop-meant : (at : ℕ) (l : List ℕ) → drop at (meant l) ≡ meant (drop at l)
+drop-meant at l = drop-map _ at l
+
 pub part-meant : (l : List ℕ) (at n : ℕ) → meant (take n (drop at l)) ≡ take n (drop at (meant l))
 part-meant l at n = sym (ap (take n) (drop-map _ at l) ∙ take-map _ n (drop at l))
 

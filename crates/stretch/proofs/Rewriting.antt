@@ -91,7 +91,7 @@ module _ (t : Text) (w : writable t ≡ true) where
 
   small-lengths : (k : ℕ) → getD (lengthsOf t) k 0 < 65536
   unfolding needed
-  small-lengths k = let a = apart t good in omega (arith, member-le (lengthsOf t) k, a .matching .spelt, a .size, short)
+  small-lengths k = let a = apart t in omega (arith, member-le (lengthsOf t) k, a .matching .spelt, a .size, short)
 
   small-counts : (k : ℕ) → getD (countsOf t) k 0 < 256
   unfolding countsOf

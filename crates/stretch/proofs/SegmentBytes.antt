@@ -5,13 +5,13 @@ use mathlib.Core.Path.{_≡_, ap, _∙_}
 use mathlib.Core.List.{List, [], _∷_, _++_}
 use lib.ListN.{length, set, getD, take, drop, length-append, length-set}
 use Rattle.text.specs.Text.{Variant}
-use Rattle.stretch.specs.Bytes.{wordBytes, part, over}
+use Rattle.stretch.specs.Bytes.{wordBytes, part, over, put}
 use Rattle.stretch.specs.Encoding.{bytesOf, encodeVariant, encodeSegment}
 use Rattle.stretch.specs.Cuts.{sumFrom, pieces, Within}
 use Rattle.stretch.proofs.Cuts.{Passing, passing-none, passing-number, passing-inside, passing-more}
 use Rattle.stretch.proofs.Cuts.{part-slice, length-part, pieces-rest, pieces-over, length-pieces}
 use Rattle.stretch.proofs.Lengths.{length-variant}
-use Rattle.stretch.proofs.Overs.{over-set, over-over, Emitted, emitted-none, emitted-room, emitted-more, emitted-end}
+use Rattle.stretch.proofs.Overs.{over-set, over-over, put-over, Emitted, emitted-none, emitted-room, emitted-more, emitted-end}
 
 -- a variant is its length and then its letters
 pub variant-over :
@@ -61,10 +61,11 @@ module _
     variants-room = omega (arith, size, emitted-room (v .emitted), ap length splits, length-append own behind)
 
     pub variants-more :
-        {after : List ℕ} → after ≡ over out next (encodeVariant (take (start + m - start) (drop start letters))) →
+        {after : List ℕ} → after ≡ put out next (encodeVariant (take (start + m - start) (drop start letters))) →
         VariantsPut letters lengths first from n d to after (next + (2 + m)) (start + m) (k + 1)
     variants-more {after} w =
-        let written : after ≡ over out next own = w ∙ rw (part-slice letters start m) in
+        let room : next + length own ≤ length out = omega (arith, size, variants-room) in
+        let written : after ≡ over out next own = w ∙ rw (part-slice letters start m) (put-over out next own room) in
         let place : next + (2 + m) ≡ next + length own = omega (arith, size) in
         record { passing = passing-more (v .passing) l e; emitted = emitted-more (v .emitted) own behind splits written place }
 

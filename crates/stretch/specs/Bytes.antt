@@ -1,6 +1,8 @@
 -- Numbers and parts in a list of bytes.
 use Prim.Native.Nat.{ℕ, _+_, _*_, _/_, _%_}
+use mathlib.Core.Bool.{cond}
 use mathlib.Core.List.{List, [], _∷_, _++_}
+use lib.Dec.{leb}
 use lib.ListN.{length, take, drop, getD}
 
 -- the greatest stretch or lone segment, in bytes
@@ -22,3 +24,7 @@ part s at n = take n (drop at s)
 -- d with xs written over it from place `at` on
 unfoldable pub over : List ℕ → ℕ → List ℕ → List ℕ
 over d at xs = take at d ++ (xs ++ drop (at + length xs) d)
+
+-- the same where xs has room there; else d as it is
+unfoldable pub put : List ℕ → ℕ → List ℕ → List ℕ
+put d at xs = cond (leb (at + length xs) (length d)) (over d at xs) d

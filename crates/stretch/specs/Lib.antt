@@ -6,6 +6,7 @@ pub mod Prints
 pub mod Encoding
 pub mod Cuts
 pub mod Writing
+pub mod Putting
 pub mod Places
 pub mod Skips
 pub mod Standing

@@ -17,4 +17,5 @@ pub use reading::Got;
 pub use reading::letters;
 pub use reading::read;
 pub use writer::Written;
+pub use writer::put_variant;
 pub use writer::write;

@@ -2,7 +2,8 @@
 ghost use mathlib.Core.Path.{_≡_};
 ghost use Prim.Native.Nat.{_+_, _<_, _≤_};
 ghost use lib.ListN.{length};
-ghost use Rattle.stretch.specs.Bytes.{word, wordBytes, over};
+ghost use lib.Dec.{leb};
+ghost use Rattle.stretch.specs.Bytes.{word, wordBytes, put};
 
 // A byte as a number.
 pub fn wide(byte: u8) -> usize
@@ -21,11 +22,23 @@ pub(crate) fn pair(bytes: &[u8], at: usize) -> usize
     low + high * 256
 }
 
-// The two bytes of a number, put at place `at`.
-pub(crate) fn put_word(n: usize, out: &mut [u8], at: usize)
-    requires { ⌜ at + 2 ≤ length (now out) ⌝ }
-    ensures { λ r. ⌜ now (out .exit) ≡ over (now (out .entry)) at (wordBytes n) ⌝ }
+// Whether so many more bytes from place `at` on have room in `size`.
+pub(crate) fn has_room(size: usize, at: usize, more: usize) -> bool
+    ensures { λ r. ⌜ r ≡ leb (at + more) size ⌝ }
 {
+    if size < at {
+        return false;
+    }
+    more <= size - at
+}
+
+// The two bytes of a number, put at place `at`; nothing is put where they have no room.
+pub fn put_word(n: usize, out: &mut [u8], at: usize)
+    ensures { λ r. ⌜ now (out .exit) ≡ put (now (out .entry)) at (wordBytes n) ⌝ }
+{
+    if !has_room(out.len(), at, 2) {
+        return;
+    }
     out[at] = (n % 256) as u8;
     out[at + 1] = (n / 256 % 256) as u8;
 }

@@ -18,6 +18,8 @@ mod bytes;
 mod sound;
 mod sums;
 
+pub use bytes::put_variant;
+
 // The number of bytes written.
 pub enum Written {
     Bytes(usize),

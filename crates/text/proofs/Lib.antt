@@ -19,6 +19,7 @@ pub mod Scan
 pub mod Runs
 pub mod Marks
 pub mod Occurrences
+pub mod Spellings
 pub mod Ends
 pub mod Rows
 pub mod Linear

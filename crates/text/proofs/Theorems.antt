@@ -7,7 +7,7 @@ use mathlib.Core.Bool.{true}
 use mathlib.Core.List.{List, [], _++_}
 use lib.ListN.{length, take, getD}
 use Rattle.text.specs.Text.{Text}
-use Rattle.text.specs.Occurrence.{EndsIn, Occurs, BeginsIn, CarriedOut, Passes, Finishes}
+use Rattle.text.specs.Occurrence.{Inside, Spells, EndsIn, Occurs, BeginsIn, CarriedOut, Passes, Finishes}
 use Rattle.text.specs.Bits.{bit}
 use Rattle.text.specs.State.{isState, fresh, run, marksFrom, marks}
 use Rattle.text.specs.Refusal.{Outcome, ok, after, greatestPattern, pattern}
@@ -19,6 +19,8 @@ use Rattle.text.proofs.Patterns.{SoundPattern}
 use Rattle.text.proofs.Runs.{Begun}
 use Rattle.text.proofs.Marks
 use Rattle.text.proofs.Occurrences
+use Rattle.text.proofs.Spellings
+use Rattle.text.proofs.Spellings.{Filled}
 use Rattle.text.proofs.Cards
 use Rattle.text.proofs.Cards.{WellFormed}
 use Rattle.text.proofs.Strands
@@ -33,6 +35,11 @@ marks-ends = Occurrences.marks-ends
 -- an occurrence that ends in segment j is one from some segment up to j
 pub ends-occurs : (P : List ℕ) (T : Text) (j : ℕ) → EndsIn P T j ↔ ((i : ℕ) × (i ≤ j) × Occurs P T i j)
 ends-occurs = Opposites.ends-occurs
+
+-- a string lies in some spelling of a text exactly when an occurrence of it ends in some segment
+pub read-ends : (T : Text) (P : List ℕ) → 0 < length P → Filled T
+    → ((h : List ℕ) × Spells T h × Inside P h) ↔ ((j : ℕ) × EndsIn P T j)
+read-ends = Spellings.read-ends
 
 -- bit r of the state after segment j is set exactly when length r is carried out of it
 pub state-carried : (P : List ℕ) (T : Text) (j r : ℕ) → 0 < r → r < length P → j < length T

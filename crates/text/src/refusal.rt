@@ -39,6 +39,12 @@ pub const OUTPUT_SHORT: u64 = 15;
 pub const SEGMENTS_MANY: u64 = 16;
 // A state has bit 0 clear or a bit from m up.
 pub const STATE_WRONG: u64 = 17;
+// A variant file does not begin as one does.
+pub const FILE_HEADING: u64 = 18;
+// A record of a variant file is wrong.
+pub const RECORD_WRONG: u64 = 19;
+// A window begins at position 0, or has a base beyond the last position.
+pub const WINDOW_PLACE: u64 = 28;
 
 // The most bases of a pattern.
 pub const GREATEST_PATTERN: usize = 64;

@@ -1,4 +1,5 @@
-// The bytes of a text, put into a buffer that has room for them.
+// The bytes of a text, put into a buffer: a variant, which may have no room there, and the whole text, which has.
+use crate::number::has_room;
 use crate::number::put_word;
 use crate::number::wide;
 use crate::writer::sums::stated;
@@ -7,16 +8,19 @@ ghost use mathlib.Core.Path.{_≡_};
 ghost use Prim.Native.Nat.{_+_, _≤_};
 ghost use Rattle.text.specs.Letter.{meant};
 ghost use lib.ListN.{length};
-ghost use Rattle.stretch.specs.Bytes.{over};
+ghost use Rattle.stretch.specs.Bytes.{over, put};
 ghost use Rattle.stretch.specs.Encoding.{encodeVariant, encodeSegment, encode};
 ghost use Rattle.stretch.specs.Cuts.{Within, sumFrom, pieces};
 ghost use Rattle.stretch.specs.Writing.{Matching, given, needed};
 
-// A variant: its length, then its letters, raised to upper case.
-fn put_variant(variant: &[u8], out: &mut [u8], at: usize)
-    requires { ⌜ at + 2 + length (now variant) ≤ length (now out) ⌝ }
-    ensures { λ r. ⌜ now (out .exit) ≡ over (now (out .entry)) at (encodeVariant (meant (now (variant .entry)))) ⌝ }
+// A variant: its length, then its letters, raised to upper case; nothing is put where they have no room.
+pub fn put_variant(variant: &[u8], out: &mut [u8], at: usize)
+    ensures { λ r. ⌜ now (out .exit) ≡ put (now (out .entry)) at (encodeVariant (meant (now (variant .entry)))) ⌝ }
 {
+    let needed = 2 + variant.len();
+    if !has_room(out.len(), at, needed) {
+        return;
+    }
     put_word(variant.len(), &mut *out, at);
     let start = at + 2;
     let mut i = 0;

@@ -1,20 +1,48 @@
--- `stretch::number::put_word` meets its contract: two numbers set one after the other are written over the buffer.
+-- `stretch::number::put_word` meets its contract: two numbers set one after the other are written over the buffer, where they have room.
+use Prim.Native.Nat.{_+_, _≤_}
 use native.Mathlib.Omega.{arith}
+use mathlib.Core.Path.{sym, _∙_}
 use borrow.Author.Needs.{needs}
-use lib.ListN.{length-set}
+use borrow.Author.Tests.{not-true, not-false, leb-true}
+use lib.ListN.{length, length-set}
 use Rattle.stretch.specs.Bytes.{wordBytes}
-use Rattle.stretch.proofs.Overs.{over-two}
+use Rattle.stretch.proofs.Overs.{over-two, put-over, put-short}
 use Rattle.stretch.proofs.number.put_word.Statement.{statement}
 use Rattle.stretch.proofs.number.put_word.Tie as tie
 
-slice-write-out-2 : tie.Need-slice-write-out-2
-slice-write-out-2 c = simp length-set (omega arith)
+room : (c : tie.Else1) → c .before .before .before .args .at + 2 ≤ length (c .before .before .before .args .out .now)
+room c = leb-true _ _ (sym (c .before .has-room .ensures) ∙ not-false _ (c .if1 .left))
 
 returns : tie.Need-returns
 unfolding wordBytes
-returns c = over-two _ _ _ _ (c .pre)
+returns c = let s = c .before .before .before in put-short (s .args .out .now) _ _
+    (sym (c .before .has-room .ensures) ∙ not-true _ (c .if1 .taken))
+
+slice-write-out : tie.Need-slice-write-out
+slice-write-out c = omega (arith, room c)
+
+add-out : tie.Need-add-out
+add-out c = omega (arith, room c)
+
+slice-write-out-2 : tie.Need-slice-write-out-2
+slice-write-out-2 c = simp length-set (omega (arith, room c))
+
+returns-2 : tie.Need-returns-2
+unfolding wordBytes
+returns-2 c =
+    let a = c .before .before .before .args in
+    over-two _ _ _ _ (room c) ∙ sym (put-over (a .out .now) (a .at) (wordBytes (a .n)) (room c))
 
 pub put-word-spec : {M : Type 1} → statement M
 put-word-spec =
     tie.close
-    (tie.spec (λ c. search needs) (λ c. search needs) (λ c. search needs) (λ c. search needs) slice-write-out-2 (λ c. search needs) returns)
+    (tie.spec
+    (λ c κs. search needs)
+    returns
+    (λ c. search needs)
+    slice-write-out
+    (λ c. search needs)
+    add-out
+    slice-write-out-2
+    (λ c. search needs)
+    returns-2)

@@ -8,7 +8,7 @@ use lib.ListN.{length, length-set, length-take, length-drop}
 use Rattle.text.specs.Letter.{meant}
 use Rattle.text.specs.Text.{Variant}
 use Rattle.text.proofs.Likes.{meant-length}
-use Rattle.stretch.specs.Bytes.{over}
+use Rattle.stretch.specs.Bytes.{put}
 use Rattle.stretch.specs.Encoding.{encodeVariant}
 use Rattle.stretch.proofs.Raised.{part-meant}
 use Rattle.stretch.proofs.Cuts.{passing-number, passing-inside}
@@ -75,9 +75,6 @@ add-end c = omega (arith, inside c)
 part-put-variant-end : tie.Need-part-put-variant-end Inv-loop μ-loop
 part-put-variant-end c = omega (arith, inside c)
 
-put-variant-requires : tie.Need-put-variant-requires Inv-loop μ-loop
-put-variant-requires c κs = let d = c .before .before in simp (length-take, length-drop) (omega (arith, room d))
-
 add-next-2 : tie.Need-add-next-2 Inv-loop μ-loop
 add-next-2 c = let d = c .before .before .before .before .before in omega (arith, room d, same (d .before .before .before))
 
@@ -93,7 +90,8 @@ loop-again c =
     let next = i .before .loop .next in
     let out = i .before .loop .out in
     variants-more (i .before .loop .inv) (i .loop-test .taken) (d .stated .ensures)
-    (c .before .before .put-variant .ensures ∙ ap (λ (v : Variant). over out next (encodeVariant v)) (part-meant letters start (start + d .stated .result - start)))
+    (c .before .before .put-variant .ensures ∙ ap (λ (v : Variant). put out next (encodeVariant v))
+    (part-meant letters start (start + d .stated .result - start)))
 
 same-length : tie.Need-same-length Inv-loop μ-loop
 same-length c = same (c .before)
@@ -122,7 +120,7 @@ put-segment-spec =
     (λ c. search needs)
     (λ c. search needs)
     part-put-variant-end
-    put-variant-requires
+    (λ c κs. search needs)
     add-next-2
     add-next-3
     (λ c. search needs)

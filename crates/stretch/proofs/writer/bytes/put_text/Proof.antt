@@ -6,8 +6,9 @@ use mathlib.Core.Path.{_≡_, _∙_}
 use borrow.Author.Needs.{needs}
 use lib.ListN.{length}
 use Rattle.text.specs.Letter.{meant}
+use Rattle.stretch.specs.Bytes.{wordBytes}
 use Rattle.stretch.specs.Writing.{needed}
-use Rattle.stretch.proofs.Overs.{emitted-length}
+use Rattle.stretch.proofs.Overs.{emitted-length, put-over}
 use Rattle.stretch.proofs.Texts.{matched-within}
 use Rattle.stretch.proofs.TextBytes.{SegmentsPut, segments-none, segments-room, segments-more, segments-end, text-over}
 use Rattle.stretch.proofs.writer.bytes.put_text.Statement.{statement}
@@ -34,10 +35,6 @@ place :
 place c =
     let h = segments-room (c .before .loop .inv) (c .loop-test .taken) in
     omega (arith, same (c .before))
-
-put-word-requires : tie.Need-put-word-requires Inv-loop μ-loop
-unfolding needed
-put-word-requires c κs = omega arith
 
 loop-holds : tie.Need-loop-holds Inv-loop μ-loop
 loop-holds c =
@@ -77,11 +74,11 @@ same-length : tie.Need-same-length Inv-loop μ-loop
 same-length c = same (c .before)
 
 returns : tie.Need-returns Inv-loop μ-loop
-unfolding needed
+unfolding needed wordBytes
 returns c =
-    let w = c .before .before .before .before .put-word .ensures in
     let room : 2 ≤ length (entry (c .before) .args .out .now) = omega (arith, entry (c .before) .pre .1) in
-    text-over _ _ _ _ room w (segments-end (c .before .loop .inv) (c .loop-test .left))
+    text-over _ _ _ _ room (c .before .before .before .before .put-word .ensures ∙ put-over _ 0 _ room)
+    (segments-end (c .before .loop .inv) (c .loop-test .left))
 
 pub put-text-spec : {M : Type 1} → statement M
 put-text-spec =
@@ -89,7 +86,7 @@ put-text-spec =
     (tie.spec
     Inv-loop
     μ-loop
-    put-word-requires
+    (λ c κs. search needs)
     loop-holds
     (λ c. search needs)
     add-at

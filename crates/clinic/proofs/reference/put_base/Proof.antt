@@ -1,0 +1,22 @@
+-- `clinic::reference::put_base` meets its contract.
+use borrow.Author.Needs.{needs}
+use Rattle.clinic.proofs.reference.put_base.Statement.{statement}
+use Rattle.clinic.proofs.reference.put_base.Tie as tie
+
+returns : tie.Need-returns
+returns c = (rw (c .before .enum-told .given .1), rw (c .before .enum-told .given .1))
+
+pub put-base-spec : {M : Type 1} → statement M
+put-base-spec =
+    tie.close
+    (tie.spec
+    (λ c. search needs)
+    (λ c. search needs)
+    (λ c. search needs)
+    (λ c. search needs)
+    (λ c. search needs)
+    (λ c. search needs)
+    (λ c. search needs)
+    returns
+    (λ c. search needs)
+    (λ c. search needs))

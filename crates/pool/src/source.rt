@@ -1,0 +1,42 @@
+// A file that is read in pieces.
+
+// Where the reading of a file stands: its descriptor, the place in the piece that is held, and that piece's length.
+pub struct Source {
+    pub fd: i32,
+    pub at: usize,
+    pub end: usize,
+}
+
+// The next piece is there, the file has ended, or could not be read, which is said.
+pub enum Next {
+    Piece(Source),
+    End,
+    Stop,
+}
+
+// Opens the file that word `word` of the command line names, or says why not.
+pub fn open(word: usize) -> i32 {
+    let mut path = io::buffer();
+    let n = os::arg(word, &mut path);
+    let fd = os::open_read(&path[..n]);
+    if fd < 0 {
+        os::fail(&path[..n]);
+    }
+    fd
+}
+
+// Reads the next piece of the file that this word names.
+pub fn next_piece(fd: i32, word: usize, piece: &mut [u8]) -> Next {
+    let mut path = io::buffer();
+    let n = os::arg(word, &mut path);
+    let got = libc::read(fd, &mut *piece);
+    if got < 0 {
+        os::fail(&path[..n]);
+        return Next::Stop;
+    }
+    let end = io::count(got, piece);
+    if end == 0 {
+        return Next::End;
+    }
+    Next::Piece(Source { fd, at: 0, end })
+}

@@ -1,0 +1,12 @@
+// The stretch of a window, made from a reference and a file in Variant Call Format 4.
+mod building;
+mod emit;
+mod pieces;
+pub mod position;
+mod record;
+mod scan;
+mod tally;
+mod window;
+
+pub use building::build;
+pub use record::field;
