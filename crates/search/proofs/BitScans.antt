@@ -6,7 +6,7 @@ use native.Mathlib.Decide.{decLt, ℕ-discrete}
 use native.Mathlib.Omega.{arith}
 use mathlib.Core.Path.{_≡_, refl, sym, ap, ap₂, subst, subst₂, _∙_}
 use mathlib.Core.Logic.{by-cases}
-use mathlib.Core.Bool.{Bool, true, false, not, cond, _||_, _&&_, true≢false}
+use mathlib.Core.Bool.{Bool, true, false, not, cond, _||_, _&&_}
 use mathlib.Core.List.{List, [], _∷_}
 use borrow.Author.Tests.{lt-ltb, le-ltb, eq-eqb, ne-eqb}
 use lib.Arith.{digits-div}
@@ -19,8 +19,8 @@ use Rattle.text.specs.Letter.{raised, letter, meant, every}
 use Rattle.text.specs.Text.{Variant}
 use Rattle.text.specs.Bits.{bit, fromBits}
 use Rattle.text.specs.State.{next, endsAt}
-use Rattle.text.proofs.Truth.{or-false, or-right, and-true, and-false}
-use Rattle.text.proofs.Letters.{every-snoc}
+use Rattle.text.proofs.Truth.{or-false}
+use Rattle.text.proofs.Blocks.{Clean, clean-none, clean-more, clean-all}
 use Rattle.text.proofs.Likes.{meant-length, meant-at}
 use Rattle.text.proofs.Bits.{bit-ext, bit-above, bit-zero, bit-or, bit-and, bit-fromBits, fromBits-lt, bit-single, bit-shl, bit-shl-below, bit-mod, bit-mod-above, bit-shr-test}
 use Rattle.text.proofs.Snoc.{_▸_}
@@ -193,39 +193,27 @@ module _ (P masks : List ℕ) (vectors : Masks P masks) (d c : ℕ) (small : c <
   pub kept-lt : bitAnd d (getD masks c 0) < 2 ^ length P
   kept-lt = vector-lt P d c (getD masks c 0) (vectors .each c small)
 
--- a byte more is bad where it is no letter
-classed : (bad : ℕ) (b : Bool) → eqb (bitOr bad (cond b 0 1)) 0 ≡ (eqb bad 0 && b)
-classed bad true = ap (λ (n : ℕ). eqb n 0) (or-zero-r bad) ∙ sym (and-true (eqb bad 0))
-classed bad false = ne-eqb (bitOr bad 1) 0 (λ e. true≢false (sym odd ∙ ap (λ (n : ℕ). bit n 0) e ∙ bit-zero 0)) ∙ sym (and-false (eqb bad 0))
-  where
-    odd : bit (bitOr bad 1) 0 ≡ true
-    odd = bit-or bad 1 0 ∙ or-right (bit bad 0) (bit 1 0) (bit-single 0 0)
-
 -- i of the bytes v have been read, for what they mean
 pub record Scanning (P : List ℕ) (st : ℕ) (v : Variant) (i d hits bad : ℕ) : Type 0 where
   pub inside : i ≤ length v
   pub state : (r : ℕ) → r < length P → bit d r ≡ bit (next P st (take i (meant v) ∷ [])) r
   pub fits : hits < 2 ^ length P
   pub ended : bit hits (length P - 1) ≡ endsAt P st (take i (meant v))
-  pub clean : eqb bad 0 ≡ every letter (take i v)
+  pub clean : Clean v i bad
 
 pub scanning-none : (P masks classes : List ℕ) (st : ℕ) (v : Variant) → Ready P masks classes st → Scanning P st v 0 st 0 0
-unfolding every
 scanning-none P masks classes st v y =
     record {
       inside = omega arith;
       state = λ r l. ap (λ (n : ℕ). bit n r) (sym (empty-state P st (y .some) (y .state .small)));
       fits = pow-pos (length P);
       ended = bit-zero (length P - 1) ∙ sym (empty-ends P st (y .some));
-      clean = refl;
+      clean = clean-none v;
     }
 
 module _ (P masks classes : List ℕ) (st : ℕ) (v : Variant) (i d hits bad : ℕ) (y : Ready P masks classes st)
     (s : Scanning P st v i d hits bad) (l : i < length v) (c : ℕ) (e : c ≡ getD v i 0) (small : c < 256)
     (w : ℕ) (is : w ≡ maskOf P (raised c)) where
-  longer : take (i + 1) v ≡ take i v ▸ c
-  longer = rw add-one (take-suc v i 0 l ∙ ap (λ (x : ℕ). take i v ▸ x) (sym e))
-
   -- what they mean is longer by what c means
   spelt : take (i + 1) (meant v) ≡ take i (meant v) ▸ raised c
   spelt =
@@ -260,13 +248,6 @@ module _ (P masks classes : List ℕ) (st : ℕ) (v : Variant) (i d hits bad : �
       ∙ ap₂ _||_ (s .ended) (kept (length P - 1) last)
       ∙ sym (ap (endsAt P st) spelt ∙ scan-ends P st (take i (meant v)) (raised c) (length P - 1) long)
 
-  clean-more : eqb (bitOr bad (getD classes c 0)) 0 ≡ every letter (take (i + 1) v)
-  clean-more =
-      ap (λ (n : ℕ). eqb (bitOr bad n) 0) (y .letters .each c small)
-      ∙ classed bad (letter c)
-      ∙ ap (λ (t : Bool). t && letter c) (s .clean)
-      ∙ sym (ap (every letter) longer ∙ every-snoc letter (take i v) c)
-
   scanning-more : Scanning P st v (i + 1) (bitOr (bitAnd d w * 2 ^ 1 % 2 ^ 64) 1) (bitOr hits (bitAnd d w)) (bitOr bad (getD classes c 0))
   scanning-more =
       record {
@@ -274,7 +255,7 @@ module _ (P masks classes : List ℕ) (st : ℕ) (v : Variant) (i d hits bad : �
         state = λ r h. ap (λ (n : ℕ). bit (bitOr (bitAnd d w * 2 ^ 1 % 2 ^ 64) n) r) (sym (y .state .odd)) ∙ shifted r h;
         fits = or-lt (length P) hits (bitAnd d w) (s .fits) (vector-lt P d c w is);
         ended = ends-more;
-        clean = clean-more;
+        clean = clean-more v classes (y .letters) i bad (s .clean) l c e small;
       }
 
 -- a number below 2 ^ (n + 1) has bit n exactly when it is above 2 ^ n - 1
@@ -302,7 +283,7 @@ module _ (P : List ℕ) (st : ℕ) (v : Variant) (i d hits bad : ℕ) (s : Scann
       }
 
   pub scanning-wrong : not (eqb bad 0) ≡ not (every letter v)
-  scanning-wrong = ap not (s .clean ∙ ap (every letter) (take-all i v l))
+  scanning-wrong = clean-all v i bad (s .clean) l
 
 -- the same with the other bits kept, as the code has it
 pub record Turning (P : List ℕ) (st : ℕ) (v : Variant) (i before out missed bad : ℕ) : Type 0 where

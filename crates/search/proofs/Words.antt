@@ -1,23 +1,22 @@
 -- Laws of words: how they go on, and what is left of them where the bits from m up are cleared; and the sweep over the variants of a
 -- segment.
-use Prim.Native.Nat.{ℕ, suc, _+_, _-_, _*_, _/_, _%_, _^_, _≤_, _<_}
+use Prim.Native.Nat.{ℕ, suc, _+_, _-_, _*_, _%_, _^_, _≤_, _<_}
 use native.Mathlib.Nat.{mod-lt, one-mul, mod-eq-of-lt}
 use native.Mathlib.Omega.{arith}
 use mathlib.Core.Path.{_≡_, refl, sym, ap, ap₂, subst, subst₂, _∙_}
 use mathlib.Core.Bool.{Bool, true, false, not, _||_, true≢false}
 use mathlib.Core.List.{List, [], _∷_, _++_}
-use borrow.Author.Tests.{eq-eqb}
+use borrow.Author.Tests.{eq-eqb, not-true, not-false}
 use lib.Bits.{bitAnd, bitOr, and-mask, and-lt, or-lt}
 use lib.Dec.{ltb, lit<}
 use lib.ListN.{length, take, drop}
 use lib.Pow.{pow-pos, pow-lt, pow-mono, ones-sub-lt}
-use Rattle.text.specs.Letter.{letter, meant, every, firstNot}
+use Rattle.text.specs.Letter.{letter, meant, every}
 use Rattle.text.specs.Text.{Variant, Segment, counted, weight}
 use Rattle.text.specs.Bits.{bit}
 use Rattle.text.specs.State.{next, ends}
 use Rattle.text.specs.Refusal.{ok, refused}
 use Rattle.text.proofs.Bits.{bit-ext, bit-zero, bit-or, bit-mod, bit-single}
-use Rattle.text.proofs.Letters.{first-le, first-every, first-not-every}
 use Rattle.text.proofs.Steps.{next-lt}
 use Rattle.text.proofs.Scan.{one-ends}
 use Rattle.text.proofs.Folds.{next-none, next-snoc, ends-none, ends-snoc}
@@ -123,21 +122,19 @@ module _ (P : List ℕ) (st : ℕ) (v : Variant) (bits : ℕ) (some : 0 < length
             (words-hit P st v bits some short t hit);
       }
 
--- bytes among which none was found that is no letter
-pub letters-all : (v : Variant) (x : ℕ) → x ≡ firstNot letter v → length v ≤ x → every letter v ≡ true
-letters-all v x e l =
-    let all : firstNot letter v ≡ length v = omega (arith, e, first-le letter v) in
-    first-every letter v all
-
 -- bytes that were looked at before their step
-module _ (P : List ℕ) (st before : ℕ) (v : Variant) (x : ℕ) (e : x ≡ firstNot letter v) where
-  pub letters-bad : x < length v → LettersBy P st before v 0 0 true
-  letters-bad l =
-      let bad : every letter v ≡ false = first-not-every letter v (subst (λ (n : ℕ). n < length v) e l) in
-      (sym (ap not bad), λ good. absurd (true≢false (sym good ∙ bad)))
+module _ (v : Variant) (wrong : Bool) (e : wrong ≡ not (every letter v)) where
+  pub letters-all : wrong ≡ false → every letter v ≡ true
+  letters-all is = not-false _ (sym e ∙ is)
 
-  pub letters-good : length v ≤ x → (out missed : ℕ) → Turned P st (meant v ∷ []) before out missed → LettersBy P st before v out missed false
-  letters-good l out missed w = (sym (ap not (letters-all v x e l)), λ _. w)
+  module _ (P : List ℕ) (st before : ℕ) where
+    pub letters-bad : wrong ≡ true → LettersBy P st before v 0 0 true
+    letters-bad is =
+        let bad : every letter v ≡ false = not-true _ (sym e ∙ is) in
+        (sym (ap not bad), λ good. absurd (true≢false (sym good ∙ bad)))
+
+    pub letters-good : wrong ≡ false → (out missed : ℕ) → Turned P st (meant v ∷ []) before out missed → LettersBy P st before v out missed false
+    letters-good is out missed w = (sym (ap not (letters-all is)), λ _. w)
 
 -- the answers of a sweep over a variant
 module _ (P : List ℕ) (st : ℕ) (s : List ℕ) (first k at before : ℕ) where

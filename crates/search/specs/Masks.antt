@@ -1,12 +1,11 @@
--- The tables of the search by bit-vectors: a letter vector for each byte, and which bytes are no letters.
+-- The tables of the search by bit-vectors: a letter vector for each byte.
 use Prim.Native.Nat.{ℕ, _-_, _%_, _^_, _<_, _≤_}
 use mathlib.Core.Path.{_≡_}
-use mathlib.Core.Bool.{cond}
 use mathlib.Core.List.{List}
 use lib.Bits.{bitXor}
 use lib.Dec.{eqb}
 use lib.ListN.{length, getD, take}
-use Rattle.text.specs.Letter.{raised, letter}
+use Rattle.text.specs.Letter.{raised, Classes}
 use Rattle.text.specs.Bits.{fromBits}
 use Rattle.text.specs.Refusal.{greatestPattern}
 
@@ -36,11 +35,6 @@ pub record Others (P table : List ℕ) : Type 0 where
 pub record Filled (blank : ℕ) (P table : List ℕ) : Type 0 where
   pub full : length table ≡ 256
   pub each : (c : ℕ) → c < 256 → getD table c 0 ≡ bitXor blank (maskOf P (raised c))
-
--- a table with 0 for each letter and 1 for every other byte
-pub record Classes (table : List ℕ) : Type 0 where
-  pub full : length table ≡ 256
-  pub each : (c : ℕ) → c < 256 → getD table c 0 ≡ cond (letter c) 0 1
 
 -- a state of P: below 2 ^ m, and an occurrence may start afresh
 pub record StateOf (P : List ℕ) (st : ℕ) : Type 0 where

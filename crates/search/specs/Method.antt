@@ -4,8 +4,8 @@ use mathlib.Core.Path.{_≡_}
 use mathlib.Core.Bool.{true}
 use mathlib.Core.List.{List}
 use lib.ListN.{length}
-use Rattle.text.specs.Letter.{base, every}
-use Rattle.search.specs.Masks.{Others, Classes}
+use Rattle.text.specs.Letter.{base, every, Classes}
+use Rattle.search.specs.Masks.{Others}
 use Rattle.search.specs.Border.{Borders}
 use Rattle.search.specs.declared.method.Method.{Method}
 use Rattle.search.specs.declared.method.Method.the-variants.{Bits}

@@ -2,7 +2,7 @@
 use crate::bits::Scanned;
 use crate::bits::scan;
 use crate::borders::step_borders;
-use text::letter::first_wrong;
+use text::spelling::any_wrong;
 ghost use Rattle.search.specs.Border.{Bordered};
 ghost use Rattle.search.specs.Masks.{StateOf};
 ghost use Rattle.search.specs.Method.{Tools};
@@ -24,7 +24,7 @@ fn scan_borders(
     requires { ⌜ Bordered (now pattern) (now table) bits ⌝ }
     ensures { λ r. ⌜ LettersBy (now (pattern .entry)) bits before (now (letters .entry)) (r .out) (r .missed) (r .wrong) ⌝ }
 {
-    if first_wrong(letters) < letters.len() {
+    if any_wrong(letters) {
         return Scanned {
             out: 0,
             missed: 0,

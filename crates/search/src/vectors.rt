@@ -1,7 +1,7 @@
 // The tables of the search by bit-vectors, filled once for each call and lent to the loops. The loops keep words with all bits turned,
 // so the letter vectors that they are lent are turned too; the public letter vectors stand in letter_vectors.rt.
 use text::refusal;
-ghost use Rattle.search.specs.Masks.{bases, Filled, Others, Classes};
+ghost use Rattle.search.specs.Masks.{bases, Filled, Others};
 
 // A table of blank words, in which bit k of what base k of the pattern is has been turned. Of a pattern over 64 bytes the first 64
 // count, since a word has no more bits. Lower case has the entries of upper case, so that the loops look at a letter once.
@@ -34,22 +34,4 @@ pub fn masks(pattern: &[u8]) -> [u64; 256]
     ensures { λ r. ⌜ Others (bases (now (pattern .entry))) r ⌝ }
 {
     filled(pattern, 0xffff_ffff_ffff_ffff)
-}
-
-// 0 for each letter, 1 for every other byte.
-pub fn classes() -> [u8; 256]
-    ensures { λ r. ⌜ Classes r ⌝ }
-{
-    let mut table = [1u8; 256];
-    table[0x41] = 0;
-    table[0x43] = 0;
-    table[0x47] = 0;
-    table[0x54] = 0;
-    table[0x4E] = 0;
-    table[0x61] = 0;
-    table[0x63] = 0;
-    table[0x67] = 0;
-    table[0x74] = 0;
-    table[0x6E] = 0;
-    table
 }

@@ -1,15 +1,16 @@
 -- What was read from a stretch can be given to a write: letters and counts are bytes, lengths are below 65,536.
-use Prim.Native.Nat.{ℕ, zero, suc, _+_, _<_, _≤_}
+use Prim.Native.Nat.{ℕ, zero, suc, _<_, _≤_}
 use native.Mathlib.Omega.{arith}
 use native.Mathlib.Decide.{decLt}
 use mathlib.Core.Logic.{by-cases}
 use mathlib.Core.Path.{_≡_, refl, _∙_}
 use mathlib.Core.Bool.{Bool, true}
-use mathlib.Core.List.{List, [], _∷_, _++_, flatten}
+use mathlib.Core.List.{List, [], _∷_, flatten}
 use borrow.Author.Tests.{leb-true}
 use lib.Dec.{leb}
 use lib.ListN.{length, getD, List·getD-map, List·getD-eq-default}
 use Rattle.text.specs.Letter.{letter, capital, meant, every}
+use Rattle.text.proofs.Letters.{every-append}
 use Rattle.text.proofs.Meanings.{letter-byte}
 use Rattle.text.specs.Text.{Segment, Text, total}
 use Rattle.text.proofs.Truth.{and-both, and-left, and-right}
@@ -35,17 +36,12 @@ every-at f [] k e l = absurd (let z : ⊥ = omega arith in z)
 every-at f (c ∷ s) zero e l = and-left (f c) (every f s) e
 every-at f (c ∷ s) (suc k) e l = every-at f s k (and-right (f c) (every f s) e) (omega arith)
 
-every-append : (f : ℕ → Bool) (s r : List ℕ) → every f s ≡ true → every f r ≡ true → every f (s ++ r) ≡ true
-unfolding every
-every-append f [] r e h = h
-every-append f (c ∷ s) r e h =
-    and-both (f c) (every f (s ++ r)) (and-left (f c) (every f s) e) (every-append f s r (and-right (f c) (every f s) e) h)
-
 every-flatten : (f : ℕ → Bool) (g : Segment) → all (every f) g ≡ true → every f (flatten g) ≡ true
 unfolding every all flatten
 every-flatten f [] e = refl
 every-flatten f (v ∷ g) e =
-    every-append f v (flatten g) (and-left (every f v) (all (every f) g) e) (every-flatten f g (and-right (every f v) (all (every f) g) e))
+    every-append f v (flatten g)
+    ∙ and-both _ _ (and-left (every f v) (all (every f) g) e) (every-flatten f g (and-right (every f v) (all (every f) g) e))
 
 writable-letters : (t : Text) → all writableSegment t ≡ true → all (every capital) (flatten t) ≡ true
 unfolding all flatten

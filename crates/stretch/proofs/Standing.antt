@@ -1,9 +1,9 @@
 -- The text as it stands in the bytes, and the text that they mean: the one raised is the other, and both take as many bytes.
-use Prim.Native.Nat.{ℕ, zero, suc, _+_, _≤_, _<_}
+use Prim.Native.Nat.{ℕ, zero, suc, _<_}
 use native.Mathlib.Omega.{arith}
 use mathlib.Core.Path.{_≡_, refl, sym, ap, ap₂}
 use mathlib.Core.Bool.{_&&_}
-use mathlib.Core.List.{List, [], _∷_, _++_, map}
+use mathlib.Core.List.{List, [], _∷_, map}
 use lib.Dec.{ltb}
 use lib.ListN.{length, getD, length-append, length-map}
 use Rattle.text.specs.Letter.{meant}
@@ -78,6 +78,6 @@ segments-at s (suc n) at (suc j) l = segments-at s n (behindSegment s at) j (ome
 
 -- raised segments have variants where these have
 pub filled-raised : (u : Text) → all filled u ≡ all filled (map (map meant) u)
-unfolding all filled
+unfolding all
 filled-raised [] = refl
 filled-raised (g ∷ u) = ap₂ _&&_ (ap (ltb 0) (sym (length-map g meant))) (filled-raised u)

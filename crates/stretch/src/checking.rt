@@ -6,6 +6,7 @@ use crate::pieces::open;
 use crate::segment::Walked;
 use crate::segment::segment_at;
 use text::Refusal;
+use text::spelling::classes;
 ghost use mathlib.Core.Path.{_≡_};
 ghost use Rattle.text.specs.Refusal.{answer};
 ghost use Rattle.stretch.specs.Answers.{toldChecked, answerChecked, zeroSum, checking};
@@ -27,11 +28,12 @@ pub fn check(stretch: &[u8]) -> Checked
         }
         Opened::Segments(segments) => segments,
     };
+    let letters = classes();
     let mut at = 2;
     let mut size = 0;
     let mut k = 0;
     while k < segments {
-        match segment_at(stretch, at) {
+        match segment_at(&letters, stretch, at) {
             Walked::Refused(wrong) => {
                 return Checked::Refused(wrong);
             }

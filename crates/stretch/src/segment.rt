@@ -9,10 +9,11 @@ use crate::repetition::print;
 use crate::repetition::repeated_at;
 use crate::repetition::suspected;
 use text::Refusal;
-use text::letter::first_wrong;
 use text::size::counted;
+use text::spelling::any_wrong_by;
 ghost use Prim.Native.Nat.{_-_, _<_};
 ghost use mathlib.Core.Path.{_≡_};
+ghost use Rattle.text.specs.Letter.{Classes};
 ghost use Rattle.stretch.specs.Skips.{UpTo};
 ghost use Rattle.stretch.specs.Pieces.{toldPart};
 ghost use Rattle.stretch.specs.Prints.{Noted};
@@ -28,6 +29,7 @@ pub enum Walked {
 // The variant at `at`, the first of the `left` that are left of so many; those before it stand from `first` on, and the set has their
 // prints. Refusals 5, 7 and 8.
 fn variant_at(
+    classes: &[u8; 256],
     stretch: &[u8],
     count: usize,
     prints: u64,
@@ -35,6 +37,7 @@ fn variant_at(
     left: usize,
     at: usize,
 ) -> Part
+    requires { ⌜ Classes (now classes) ⌝ }
     requires { ⌜ UpTo (now stretch) first (count - left) at × Noted (now stretch) count first (count - left) prints × (count - left < count) ⌝ }
     ensures { λ r. ⌜ toldPart r ≡ spanAt (now (stretch .entry)) (valuesFrom (now (stretch .entry)) (count - left) first) at ⌝ }
 {
@@ -42,7 +45,7 @@ fn variant_at(
         Part::Refused(wrong) => Part::Refused(wrong),
         Part::At { start, next } => {
             let letters = &stretch[start..next];
-            if first_wrong(letters) < next - start {
+            if any_wrong_by(classes, letters) {
                 return Part::Refused(misspelt(stretch, at));
             }
             if suspected(stretch, count, prints, at) {
@@ -55,8 +58,9 @@ fn variant_at(
     }
 }
 
-// The segment at `at`: refusals 5 to 8.
-pub fn segment_at(stretch: &[u8], at: usize) -> Walked
+// The segment at `at`: refusals 5 to 8. Letters are told by the table.
+pub fn segment_at(classes: &[u8; 256], stretch: &[u8], at: usize) -> Walked
+    requires { ⌜ Classes (now classes) ⌝ }
     ensures { λ r. ⌜ toldWalked r ≡ walkedSegment (now (stretch .entry)) at ⌝ }
 {
     let count = match variants(stretch, at) {
@@ -71,7 +75,7 @@ pub fn segment_at(stretch: &[u8], at: usize) -> Walked
     let mut prints = 0;
     let mut left = count;
     while 0 < left {
-        match variant_at(stretch, count, prints, first, left, next) {
+        match variant_at(classes, stretch, count, prints, first, left, next) {
             Part::Refused(wrong) => {
                 return Walked::Refused(wrong);
             }

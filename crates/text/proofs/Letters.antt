@@ -1,14 +1,18 @@
 -- Laws of bytes that pass a test: the first that fails, and when every one passes.
-use Prim.Native.Nat.{ℕ, suc, _+_, _<_, _≤_}
+use Prim.Native.Nat.{ℕ, zero, suc, _+_, _<_, _≤_}
 use native.Mathlib.Numerals.{add-one}
+use native.Mathlib.Decide.{decLt}
 use native.Mathlib.Omega.{arith}
 use mathlib.Core.Path.{_≡_, refl, sym, ap, _∙_}
-use mathlib.Core.Bool.{Bool, true, false, _&&_, cond}
+use mathlib.Core.Bool.{Bool, true, false, not, _&&_, cond, true≢false}
 use mathlib.Core.List.{List, [], _∷_, _++_}
-use lib.ListN.{length, getD, drop, drop-of-length-le}
+use mathlib.Core.Logic.{by-cases}
+use borrow.Author.Tests.{lt-ltb, le-ltb}
+use lib.Dec.{ltb}
+use lib.ListN.{length, getD, take, drop, drop-of-length-le}
 use lib.Seq.{drop-cons}
 use Rattle.text.specs.Letter.{every, firstNot}
-use Rattle.text.proofs.Truth.{and-left, and-right, and-true, and-assoc, not-true-false}
+use Rattle.text.proofs.Truth.{and-left, and-right, and-both, and-true, and-assoc, not-true-false}
 
 module _ (f : ℕ → Bool) where
   -- the first that fails stands in the list, or there is none
@@ -41,6 +45,19 @@ module _ (f : ℕ → Bool) where
   -- one that fails
   pub first-not-every : (s : List ℕ) → firstNot f s < length s → every f s ≡ false
   first-not-every s l = not-true-false (every f s) (λ e. let h : firstNot f s ≡ length s = every-first s e in omega arith)
+
+  -- the first that fails stands before the end exactly where there is one
+  pub first-before : (s : List ℕ) → ltb (firstNot f s) (length s) ≡ not (every f s)
+  first-before s = go (every f s) refl
+    where
+      go : (b : Bool) → every f s ≡ b → ltb (firstNot f s) (length s) ≡ not b
+      go true e = let all : length s ≤ firstNot f s = omega (arith, every-first s e) in le-ltb (firstNot f s) (length s) all
+      go false e =
+          lt-ltb (firstNot f s) (length s)
+          (by-cases (decLt (firstNot f s) (length s)) (λ (l : firstNot f s < length s). l)
+          (λ (l : ¬ (firstNot f s < length s)).
+          let all : firstNot f s ≡ length s = omega (arith, first-le s) in
+          absurd (true≢false (sym (first-every s all) ∙ e))))
 
   -- looking from i on: one step
   pub first-at :
@@ -79,3 +96,21 @@ pub every-snoc : (f : ℕ → Bool) (s : List ℕ) (c : ℕ) → every f (s ++ (
 unfolding every
 every-snoc f [] c = and-true (f c)
 every-snoc f (d ∷ s) c = rw (every-snoc f s c) (sym (and-assoc (f d) (every f s) (f c)))
+
+pub every-append : (f : ℕ → Bool) (s r : List ℕ) → every f (s ++ r) ≡ (every f s && every f r)
+unfolding every
+every-append f [] r = refl
+every-append f (c ∷ s) r = rw (every-append f s r) (sym (and-assoc (f c) (every f s) (every f r)))
+
+pub every-drop : (f : ℕ → Bool) (n : ℕ) (s : List ℕ) → every f s ≡ true → every f (drop n s) ≡ true
+unfolding every
+every-drop f zero s e = e
+every-drop f (suc n) [] e = refl
+every-drop f (suc n) (c ∷ s) e = every-drop f n s (and-right (f c) (every f s) e)
+
+pub every-take : (f : ℕ → Bool) (n : ℕ) (s : List ℕ) → every f s ≡ true → every f (take n s) ≡ true
+unfolding every
+every-take f zero s e = refl
+every-take f (suc n) [] e = refl
+every-take f (suc n) (c ∷ s) e =
+    and-both (f c) (every f (take n s)) (and-left (f c) (every f s) e) (every-take f n s (and-right (f c) (every f s) e))

@@ -13,6 +13,7 @@ pub mod Bits
 pub mod Strings
 pub mod Likes
 pub mod FromEnd
+pub mod Blocks
 pub mod Snoc
 pub mod Steps
 pub mod Scan

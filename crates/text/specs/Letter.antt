@@ -1,8 +1,10 @@
 -- Bases and letters: which bytes a pattern and a variant are made of, and what they mean.
-use Prim.Native.Nat.{ℕ, suc}
-use mathlib.Core.Bool.{Bool, true, _||_, _&&_, cond}
+use Prim.Native.Nat.{ℕ, suc, _<_}
+use mathlib.Core.Path.{_≡_}
+use mathlib.Core.Bool.{Bool, true, not, _||_, _&&_, cond}
 use mathlib.Core.List.{List, [], _∷_, map}
 use lib.Dec.{eqb}
+use lib.ListN.{length, getD}
 use Rattle.text.specs.declared.letter.Letter.{Letter}
 use Rattle.text.specs.declared.letter.Letter.the-variants.{Base, Unknown, None}
 
@@ -45,3 +47,12 @@ every f (c ∷ s) = f c && every f s
 unfoldable pub firstNot : (ℕ → Bool) → List ℕ → ℕ
 firstNot f [] = 0
 firstNot f (c ∷ s) = cond (f c) (suc (firstNot f s)) 0
+
+-- a table with 0 for each letter and 1 for every other byte
+pub record Classes (table : List ℕ) : Type 0 where
+  pub full : length table ≡ 256
+  pub each : (c : ℕ) → c < 256 → getD table c 0 ≡ cond (letter c) 0 1
+
+-- whether one of the bytes is no letter, as such a table has them
+abbrev pub WrongBy : List ℕ → List ℕ → Bool → Type 0
+WrongBy table v wrong = Classes table → wrong ≡ not (every letter v)

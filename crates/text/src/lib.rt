@@ -5,6 +5,7 @@ pub mod letter;
 pub mod pattern;
 pub mod refusal;
 pub mod size;
+pub mod spelling;
 pub mod state;
 pub mod strand;
 

@@ -1,15 +1,16 @@
 -- The text of a window has 1 to 255 variants of letters in each segment, so that it can be written where 4 and 8 do not refuse it.
-use Prim.Native.Nat.{ℕ, zero, suc, _-_, _<_, _≤_}
+use Prim.Native.Nat.{ℕ, suc, _-_, _<_, _≤_}
 use native.Mathlib.Omega.{arith}
 use mathlib.Core.Path.{_≡_, refl, _∙_}
 use mathlib.Core.Bool.{Bool, true, false, _&&_, cond}
 use mathlib.Core.List.{List, [], _∷_, map}
 use lib.Dec.{leb, ltb}
-use lib.ListN.{length, take, drop, length-map}
+use lib.ListN.{length, drop, length-map}
 use borrow.Author.Tests.{lt-ltb, le-leb, leb-true, ltb-true}
 use Rattle.text.specs.Letter.{letter, capital, meant, every}
 use Rattle.text.specs.Text.{Variant, Segment, Text}
 use Rattle.text.specs.Compare.{same}
+use Rattle.text.proofs.Letters.{every-take, every-drop}
 use Rattle.text.proofs.Truth.{and-both, and-left, and-right}
 use Rattle.text.proofs.Meanings.{letters-capital}
 use Rattle.stretch.specs.Bytes.{part}
@@ -22,20 +23,6 @@ use Rattle.vcf.specs.Pieces.{pieces}
 use Rattle.vcf.specs.Records.{field, position, reference, alts, alternates, behind, allele, alternatesSound, isRecord}
 use Rattle.vcf.specs.Building.{gap, textFrom}
 use Rattle.vcf.proofs.Kept.{Kept}
-
--- letters of a part
-every-drop : (f : ℕ → Bool) (n : ℕ) (s : List ℕ) → every f s ≡ true → every f (drop n s) ≡ true
-unfolding every
-every-drop f zero s e = e
-every-drop f (suc n) [] e = refl
-every-drop f (suc n) (c ∷ s) e = every-drop f n s (and-right (f c) (every f s) e)
-
-every-take : (f : ℕ → Bool) (n : ℕ) (s : List ℕ) → every f s ≡ true → every f (take n s) ≡ true
-unfolding every
-every-take f zero s e = refl
-every-take f (suc n) [] e = refl
-every-take f (suc n) (c ∷ s) e =
-    and-both (f c) (every f (take n s)) (and-left (f c) (every f s) e) (every-take f n s (and-right (f c) (every f s) e))
 
 -- alleles are letters in upper case once they are raised
 allele-capitals : (v : Variant) → allele v ≡ true → every capital (meant v) ≡ true

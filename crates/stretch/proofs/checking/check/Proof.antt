@@ -16,10 +16,10 @@ use Rattle.stretch.proofs.checking.check.Statement.{statement}
 use Rattle.stretch.proofs.checking.check.Tie as tie
 
 abbrev Inv-loop : tie.InvT-loop
-Inv-loop stretch segments at₀ size₀ k₀ at size k = (seen : Text) × InStretch stretch 2 k seen at size × (k ≤ segments)
+Inv-loop stretch segments letters at₀ size₀ k₀ at size k = (seen : Text) × InStretch stretch 2 k seen at size × (k ≤ segments)
 
 abbrev μ-loop : tie.MeasureT-loop
-μ-loop stretch segments at₀ size₀ k₀ at size k = segments - k
+μ-loop stretch segments letters at₀ size₀ k₀ at size k = segments - k
 
 returns : tie.Need-returns Inv-loop μ-loop
 returns c =
@@ -28,23 +28,23 @@ returns c =
 
 loop-holds : tie.Need-loop-holds Inv-loop μ-loop
 loop-holds c =
-    let n = c .before in
+    let n = c .before .before in
     ([], through-none _ _ (frame-opens _ (n .before .before .«open» .ensures) (n .segments .given .1) .counted), omega arith)
 
 returns-2 : tie.Need-returns-2 Inv-loop μ-loop
 returns-2 c =
     let d = c .before .before .before in
-    let a = d .before .before in
-    let n = a .before .before in
+    let a = d .before .before .before in
+    let n = a .before .before .before in
     let wrong = walked-not _ _ _ _ (sym (d .segment-at .ensures) ∙ ap toldWalked (c .before .wrong2 .given .1)) in
-    let all = through-refused _ _ _ _ _ _ (a .loop .inv .1) _ (d .before .loop-test .taken) _ _ wrong in
+    let all = through-refused _ _ _ _ _ _ (a .loop .inv .1) _ (d .before .before .loop-test .taken) _ _ wrong in
     checked-both _ (sym (check-refused _ _ _ (frame-refused-inside _ (n .before .before .«open» .ensures) (n .segments .given .1) all)))
 
 loop-again : tie.Need-loop-again Inv-loop μ-loop
 loop-again c =
     let d = c .before .before .before in
     let g = walked-met _ _ _ _ (sym (d .segment-at .ensures) ∙ ap toldWalked (c .before .next .given .1)) in
-    (_, through-more _ _ _ _ _ _ (d .before .before .loop .inv .1) _ _ _ (g .1) (g .2), omega arith)
+    (_, through-more _ _ _ _ _ _ (d .before .before .before .loop .inv .1) _ _ _ (g .1) (g .2), omega arith)
 
 add-size : tie.Need-add-size Inv-loop μ-loop
 add-size c = let m = loop-again c .1 in omega (arith, m .small, m .inside)
@@ -53,7 +53,7 @@ returns-3 : tie.Need-returns-3 Inv-loop μ-loop
 returns-3 c =
     let d = c .before .before .before in
     let a = d .before .before in
-    let n = a .before .before in
+    let n = a .before .before .before in
     let told = n .before .before .«open» .ensures in
     let all = through-all _ _ _ _ _ _ (a .loop .inv .1) (n .segments .given .0 .0) (omega arith) in
     let wrong = frame-refused-closed _ told (n .segments .given .1) all (d .closed .ensures) (c .before .wrong3 .given .1) in
@@ -63,12 +63,15 @@ returns-4 : tie.Need-returns-4 Inv-loop μ-loop
 returns-4 c =
     let d = c .before .before in
     let a = d .before .before in
-    let n = a .before .before in
+    let n = a .before .before .before in
     let told = n .before .before .«open» .ensures in
     let m = a .loop .inv .1 in
     let all = through-all _ _ _ _ _ _ m (n .segments .given .0 .0) (omega arith) in
     let sound = frame-sound _ told (n .segments .given .1) all (d .closed .ensures) (c .enum-told .given .1) in
     checked-both _ (sym (check-sound _ _ _ _ sound (frame-count _ told (n .segments .given .1) all) (m .sum)))
+
+segment-at-requires : tie.Need-segment-at-requires Inv-loop μ-loop
+segment-at-requires c κs = c .before .before .before .classes .ensures
 
 pub check-spec : {M : Type 1} → statement M
 check-spec =
@@ -80,8 +83,9 @@ check-spec =
     (λ c. search needs)
     returns
     (λ c. search needs)
-    loop-holds
     (λ c κs. search needs)
+    loop-holds
+    segment-at-requires
     (λ c. search needs)
     returns-2
     (λ c. search needs)

@@ -16,11 +16,11 @@ use Rattle.stretch.proofs.segment.segment_at.Statement.{statement}
 use Rattle.stretch.proofs.segment.segment_at.Tie as tie
 
 abbrev Inv-loop : tie.InvT-loop
-Inv-loop stretch at count first next₀ size₀ prints₀ left₀ next size prints left =
+Inv-loop classes stretch at count first next₀ size₀ prints₀ left₀ next size prints left =
     (seen : Segment) × InSegment stretch first (count - left) seen next size × (left ≤ count) × Noted stretch count first (count - left) prints
 
 abbrev μ-loop : tie.MeasureT-loop
-μ-loop stretch at count first next₀ size₀ prints₀ left₀ next size prints left = left
+μ-loop classes stretch at count first next₀ size₀ prints₀ left₀ next size prints left = left
 
 returns : tie.Need-returns Inv-loop μ-loop
 returns c = sym (walked-refused _ _ _ _ (count-refused _ _ (c .before .before .before .variants .ensures) (c .before .wrong .given .1)))
@@ -40,7 +40,10 @@ loop-holds c =
     rw none ([], in-none _ _ (omega (arith, counts (c .before) .inside)), omega arith, noted-none _ _ _)
 
 variant-at-requires : tie.Need-variant-at-requires Inv-loop μ-loop
-variant-at-requires c κs = let q = c .before .loop .inv in (in-whole _ _ _ _ _ _ (q .1), q .3, omega (arith, c .loop-test .taken, q .2))
+variant-at-requires c κs =
+    let a = c .before in
+    let q = a .loop .inv in
+    (a .before .before .before .before .before .before .pre, (in-whole _ _ _ _ _ _ (q .1), q .3, omega (arith, c .loop-test .taken, q .2)))
 
 returns-2 : tie.Need-returns-2 Inv-loop μ-loop
 returns-2 c =

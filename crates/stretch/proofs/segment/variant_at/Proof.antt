@@ -1,13 +1,10 @@
--- `stretch::segment::variant_at` meets its contract, from what `head` tells of the place, `first_wrong` of the letters there, and the set
+-- `stretch::segment::variant_at` meets its contract, from what `head` tells of the place, `any_wrong_by` of the letters there, and the set
 -- or the look back of those before it.
-use Prim.Native.Nat.{_≤_, _<_}
 use borrow.Author.Needs.{needs}
-use borrow.Author.Tests.{lt-ltb, le-ltb}
 use native.Mathlib.Omega.{arith}
 use mathlib.Core.Path.{sym, ap, _∙_}
 use Rattle.stretch.specs.Pieces.{toldPart}
 use Rattle.stretch.proofs.Heads.{Whole, head-is}
-use Rattle.stretch.proofs.Verdicts.{spelt-wrong}
 use Rattle.stretch.proofs.Units.{head-refused, misspelt-refused, again-refused, new-read, unsuspected-new, span-not, span-is}
 use Rattle.stretch.proofs.segment.variant_at.Statement.{statement}
 use Rattle.stretch.proofs.segment.variant_at.Tie as tie
@@ -30,17 +27,14 @@ part-letters-start c = let w = found (c .before) in omega (arith, w .starts, w .
 part-letters-end : tie.Need-part-letters-end
 part-letters-end c = let w = found (c .before) in omega (arith, w .ends, w .inside)
 
-sub-if1 : tie.Need-sub-if1
-sub-if1 c = let w = found (c .before .before .before) in omega (arith, w .starts, w .ends)
-
 returns : tie.Need-returns
 returns c =
     let d = c .before .before in
     let s = d .before .before .before in
     let w = found s in
-    let up = s .before .before .before .before .pre .0 in
-    let spelt = spelt-wrong _ _ _ _ w _ (d .first-wrong .ensures) in
-    sym (span-not _ _ _ _ _ (misspelt-refused up w spelt (lt-ltb _ _ (c .before .if1 .taken)) (c .misspelt .ensures)))
+    let up = s .before .before .before .before .pre .1 .0 in
+    let spelt = d .any-wrong-by .ensures (s .before .before .before .before .pre .0) in
+    sym (span-not _ _ _ _ _ (misspelt-refused up w spelt (c .before .if1 .taken) (c .misspelt .ensures)))
 
 returns-2 : tie.Need-returns-2
 returns-2 c =
@@ -49,10 +43,10 @@ returns-2 c =
     let d = e .before in
     let s = d .before .before .before in
     let w = found s in
-    let up = s .before .before .before .before .pre .0 in
-    let spelt = spelt-wrong _ _ _ _ w _ (d .first-wrong .ensures) in
+    let up = s .before .before .before .before .pre .1 .0 in
+    let spelt = d .any-wrong-by .ensures (s .before .before .before .before .pre .0) in
     let again = sym (r .repeated-at .ensures) ∙ c .before .if3 .taken in
-    sym (span-not _ _ _ _ _ (again-refused up w spelt (le-ltb _ _ (e .if1 .left)) again (c .again .ensures)))
+    sym (span-not _ _ _ _ _ (again-refused up w spelt (e .if1 .left) again (c .again .ensures)))
 
 returns-3 : tie.Need-returns-3
 returns-3 c = sym (span-not _ _ _ _ _ (head-refused _ _ (c .before .before .before .head .ensures) (c .before .wrong .given .1) _))
@@ -64,10 +58,10 @@ returns-4 c =
     let d = e .before in
     let s = d .before .before .before in
     let w = found s in
-    let up = s .before .before .before .before .pre .0 in
-    let spelt = spelt-wrong _ _ _ _ w _ (d .first-wrong .ensures) in
+    let up = s .before .before .before .before .pre .1 .0 in
+    let spelt = d .any-wrong-by .ensures (s .before .before .before .before .pre .0) in
     let new = sym (r .repeated-at .ensures) ∙ c .if3 .left in
-    sym (span-is _ _ _ _ _ w (new-read up w spelt (le-ltb _ _ (e .if1 .left)) new))
+    sym (span-is _ _ _ _ _ w (new-read up w spelt (e .if1 .left) new))
 
 returns-5 : tie.Need-returns-5
 returns-5 c =
@@ -75,10 +69,10 @@ returns-5 c =
     let d = e .before in
     let s = d .before .before .before in
     let w = found s in
-    let pre = s .before .before .before .before .pre in
-    let spelt = spelt-wrong _ _ _ _ w _ (d .first-wrong .ensures) in
+    let pre = s .before .before .before .before .pre .1 in
+    let spelt = d .any-wrong-by .ensures (s .before .before .before .before .pre .0) in
     let new = unsuspected-new (pre .0) w (pre .1) (pre .2) (sym (c .before .suspected .ensures) ∙ c .if2 .left) in
-    sym (span-is _ _ _ _ _ w (new-read (pre .0) w spelt (le-ltb _ _ (e .if1 .left)) new))
+    sym (span-is _ _ _ _ _ w (new-read (pre .0) w spelt (e .if1 .left) new))
 
 pub variant-at-spec : {M : Type 1} → statement M
 variant-at-spec =
@@ -91,7 +85,6 @@ variant-at-spec =
     part-letters-start
     part-letters-end
     (λ c κs. search needs)
-    sub-if1
     (λ c κs. search needs)
     returns
     (λ c κs. search needs)

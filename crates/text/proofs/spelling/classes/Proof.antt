@@ -1,4 +1,4 @@
--- `search::vectors::classes` meets its contract: one computed test over the whole table, and its rule at each byte.
+-- `text::spelling::classes` meets its contract: one computed test over the whole table, and its rule at each byte.
 use Prim.Native.Nat.{ℕ, _<_}
 use borrow.Author.Needs.{needs}
 use borrow.Author.Tests.{eqb-true}
@@ -7,11 +7,11 @@ use mathlib.Core.Bool.{Bool, true, false, not, cond, true≢false}
 use mathlib.Core.List.{List}
 use lib.Dec.{eqb}
 use lib.ListN.{getD, set, replicate}
 use Rattle.text.specs.Letter.{base, raised, capital, letter}
 use Rattle.text.specs.Bits.{anyBelow}
 use Rattle.text.proofs.Truth.{some-anyBelow}
-use Rattle.search.proofs.vectors.classes.Statement.{statement}
-use Rattle.search.proofs.vectors.classes.Tie as tie
+use Rattle.text.proofs.spelling.classes.Statement.{statement}
+use Rattle.text.proofs.spelling.classes.Tie as tie
 
 -- with 0 for five letters more
 abbrev cleared : List ℕ → ℕ → ℕ → ℕ → ℕ → ℕ → List ℕ
