@@ -77,6 +77,7 @@ pub four-put :
 four-put d a b c e room =
     let first : 16 ≤ length d = omega arith in
     let three : List ℕ = lowFirst 8 a ++ lowFirst 8 b ++ lowFirst 8 c in
-    let two : length (lowFirst 8 a ++ lowFirst 8 b) ≡ 16 = length-append (lowFirst 8 a) (lowFirst 8 b) ∙ rw (length-low 8 a, length-low 8 b) in
+    let two : length (lowFirst 8 a ++ lowFirst 8 b) ≡ 16 = length-append (lowFirst 8 a) (lowFirst 8 b)
+    ∙ rw (length-low 8 a, length-low 8 b) in
     let long : length three ≡ 24 = length-append (lowFirst 8 a ++ lowFirst 8 b) (lowFirst 8 c) ∙ rw (two, length-low 8 c) in
     ap (λ (l : List ℕ). over l 24 (lowFirst 8 e)) (three-put d a b c first) ∙ put-behind d three (lowFirst 8 e) 24 long room

@@ -62,13 +62,15 @@ low-coded (refused n p) h = omega (arith, h n p refl)
 into-coded : (s : List ℕ) (room : ℕ) → Coded (stretchInto s room)
 unfolding into
 into-coded s room =
-    after-coded (stretchOf s) _ (low-coded (stretchOf s) (stretch-low s)) λ t. demand-coded (leb (length t) room) 10 0 (ok t) (omega arith) (λ _. tt)
+    after-coded (stretchOf s) _ (low-coded (stretchOf s) (stretch-low s)) λ t. demand-coded (leb (length t) room) 10 0 (ok t)
+    (omega arith) (λ _. tt)
 
 pub searching-coded : (P s : List ℕ) (room : ℕ) → Coded (searching P s room)
 unfolding searching
 searching-coded P s room = pattern-coded P _ (into-coded s room)
 
-entering-coded : (P : List ℕ) (st : ℕ) (s : List ℕ) {A : Type 0} (o : Outcome A) → (leb (length s) greatestStretch ≡ true → Coded o) → Coded (entering P st s o)
+entering-coded : (P : List ℕ) (st : ℕ) (s : List ℕ) {A : Type 0} (o : Outcome A) → (leb (length s) greatestStretch ≡ true → Coded o)
+    → Coded (entering P st s o)
 unfolding entering
 entering-coded P st s o k =
     pattern-coded P _

@@ -89,5 +89,6 @@ module _ (P : List ℕ) (strand : Strand) (st : ℕ) (s : List ℕ) where
           Told x r block block′ → Form r marks′ block′
       form-room r marks′ block′ l wrote (is, left) =
           rw (seek-room P st s (length marks) (length block) l)
-          (formed (marksFrom (onStrand strand P) st) seen seenBlock (seeking P st s (length marks)) marks block (toldSought x) told r marks′ block′
+          (formed (marksFrom (onStrand strand P) st) seen seenBlock (seeking P st s (length marks)) marks block
+          (toldSought x) told r marks′ block′
           wrote is left)

@@ -33,7 +33,8 @@ module _ (f : ℕ) (o : Outcome Text) (behind : Text → ℕ) where
       subst (λ (j : ℕ). j < none) same (ltb-true f none l)
   below false k l e = let x = told-met o (λ t. clear (behind t)) (endsIn k) e in absurd (false≢true (ap found (x .2)))
 
-  reached : (b : Bool) (next : ℕ) → cond b (ok (endsIn f)) (after o (λ t. ok (clear (behind t)))) ≡ ok (clear next) → (t : Text) × (behind t ≡ next)
+  reached : (b : Bool) (next : ℕ) → cond b (ok (endsIn f)) (after o (λ t. ok (clear (behind t)))) ≡ ok (clear next)
+      → (t : Text) × (behind t ≡ next)
   reached true next e = absurd (true≢false (ap found (ok-inj e)))
   reached false next e =
       let x = told-met o (λ t. clear (behind t)) (clear next) e in (x .0, ap (λ (h : Hit). stopOf h .state) (x .2))

@@ -58,18 +58,21 @@ last-10 (ok x) (refused n p) marks = refl
 last-10 (refused n p) y marks = refl
 
 -- nothing is written then
-none-left : (x : Outcome (Unit {0})) (y : Outcome Text) (f : Text → List ℕ) (d : List ℕ) → leftBy f (after x (λ _. after y (λ _. roomless))) d ≡ d
+none-left : (x : Outcome (Unit {0})) (y : Outcome Text) (f : Text → List ℕ) (d : List ℕ)
+    → leftBy f (after x (λ _. after y (λ _. roomless))) d ≡ d
 none-left (ok x) (ok t) f d = refl
 none-left (ok x) (refused n p) f d = refl
 none-left (refused n p) y f d = refl
 
 -- what a form of a search promises of its answer, of the mark buffer and of the block, where o is what it accepts or refuses
-abbrev pub Formed : {B : Type 0} → (Text → List ℕ) → (Text → B) → (B → List ℕ) → Outcome Text → List ℕ → List ℕ → ℕ → List ℕ → List ℕ → Type 0
+abbrev pub Formed : {B : Type 0} → (Text → List ℕ) → (Text → B) → (B → List ℕ) → Outcome Text → List ℕ → List ℕ → ℕ → List ℕ
+    → List ℕ → Type 0
 Formed f g bytes o marks block r marks′ block′ =
     (r ≡ coded o) × ((marks′ ≡ leftBy f o marks) × (block′ ≡ leftBy (λ t. bytes (g t)) o block))
 
 -- it holds where the search, its marks and what is told of them are as the search says
-pub formed : {B : Type 0} (f : Text → List ℕ) (g : Text → B) (bytes : B → List ℕ) (o : Outcome Text) (marks block : List ℕ) (told : Outcome B)
+pub formed : {B : Type 0} (f : Text → List ℕ) (g : Text → B) (bytes : B → List ℕ) (o : Outcome Text) (marks block : List ℕ)
+    (told : Outcome B)
     → told ≡ after o (λ t. ok (g t)) → (r : ℕ) (marks′ block′ : List ℕ) → marks′ ≡ leftBy f o marks → r ≡ coded told
     → block′ ≡ leftBy bytes told block → Formed f g bytes o marks block r marks′ block′
 formed {B} f g bytes o marks block told e r marks′ block′ wrote is left =
@@ -84,7 +87,8 @@ module _ (P s : List ℕ) (marks block : ℕ) where
   pub search-short : block < 24 → searchingInto P s marks block ≡ pattern P (after (stretchOf s) (λ _. roomless))
   unfolding searchingInto searching
   search-short l =
-      room-short 24 block (searching P s marks) l ∙ ap (λ (o : Outcome Text). after o (λ _. roomless)) (pattern-after P (into marks (stretchOf s)))
+      room-short 24 block (searching P s marks) l ∙ ap (λ (o : Outcome Text). after o (λ _. roomless))
+      (pattern-after P (into marks (stretchOf s)))
       ∙ last-10 (pattern P (ok (tt {0}))) (stretchOf s) marks
       ∙ sym (pattern-after P _)
 
@@ -118,13 +122,15 @@ module _ (P : List ℕ) (st : ℕ) (s : List ℕ) (marks block : ℕ) where
   pub seek-short : block < 32 → seekingInto P st s marks block ≡ entering P st s (after (stretchOf s) (λ _. roomless))
   unfolding seekingInto seeking
   seek-short l =
-      room-short 32 block (seeking P st s marks) l ∙ ap (λ (o : Outcome Text). after o (λ _. roomless)) (entering-after P st s (into marks (stretchOf s)))
+      room-short 32 block (seeking P st s marks) l ∙ ap (λ (o : Outcome Text). after o (λ _. roomless))
+      (entering-after P st s (into marks (stretchOf s)))
       ∙ last-10 (entering P st s (ok (tt {0}))) (stretchOf s) marks
       ∙ sym (entering-after P st s _)
 
   pub seek-left : (f : Text → List ℕ) (d : List ℕ) → block < 32 → leftBy f (seekingInto P st s marks block) d ≡ d
   seek-left f d l =
-      rw (seek-short l, entering-after P st s (after (stretchOf s) (λ _. roomless))) (none-left (entering P st s (ok (tt {0}))) (stretchOf s) f d)
+      rw (seek-short l, entering-after P st s (after (stretchOf s) (λ _. roomless)))
+      (none-left (entering P st s (ok (tt {0}))) (stretchOf s) f d)
 
 -- what a form without a mark buffer promises of its answer and of the block, where o is what it accepts or refuses
 abbrev pub Answered : {A : Type 0} → (A → List ℕ) → Outcome A → List ℕ → ℕ → List ℕ → Type 0

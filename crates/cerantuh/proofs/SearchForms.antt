@@ -52,7 +52,8 @@ module _ (f : Text → List ℕ) (g : Text → Sums) (P s marks block : List ℕ
   module _ (x : Searched) (told : toldSearched x ≡ after (searching P s (length marks)) (λ t. ok (g t))) where
     pub searched-fits : coded (toldSearched x) < 2 ^ 64
     searched-fits =
-        rw told (rw (told-code (searching P s (length marks)) g) (coded-fits (searching P s (length marks)) (searching-coded P s (length marks))))
+        rw told (rw (told-code (searching P s (length marks)) g)
+        (coded-fits (searching P s (length marks)) (searching-coded P s (length marks))))
 
     pub form-room :
         (r : ℕ) (marks′ block′ : List ℕ) → 24 ≤ length block → marks′ ≡ leftBy f (searching P s (length marks)) marks →

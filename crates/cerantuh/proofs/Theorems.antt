@@ -21,8 +21,10 @@ use Rattle.cerantuh.proofs.HitResults.{segment-below, state-handed}
 use Rattle.cerantuh.proofs.Codes.{coded-zero, coded-apart, search-form-coded, from-form-coded, feed-form-coded, first-form-coded}
 
 -- a search answers 0 exactly when it is accepted
-pub search-zero : (P s marks block : List ℕ) → (searchAnswer P s marks block ≡ 0) ↔ ((t : Text) × (searchingInto P s (length marks) (length block) ≡ ok t))
-search-zero P s marks block = coded-zero (searchingInto P s (length marks) (length block)) (search-form-coded P s (length marks) (length block))
+pub search-zero : (P s marks block : List ℕ)
+    → (searchAnswer P s marks block ≡ 0) ↔ ((t : Text) × (searchingInto P s (length marks) (length block) ≡ ok t))
+search-zero P s marks block =
+    coded-zero (searchingInto P s (length marks) (length block)) (search-form-coded P s (length marks) (length block))
 
 -- and from any other answer its number and its place are had by a remainder and a quotient
 pub search-apart : (P s marks block : List ℕ) (n p : ℕ) → searchingInto P s (length marks) (length block) ≡ refused n p
@@ -42,29 +44,35 @@ from-apart P st s marks block n p e =
     coded-apart (seekingInto P st s (length marks) (length block)) n p (from-form-coded P st s (length marks) (length block)) e
 
 -- the same of a feed
-pub feed-zero : (P : List ℕ) (strand : Strand) (st : ℕ) (s block : List ℕ) → (feedAnswer P strand st s block ≡ 0) ↔ ((x : Next) × (feedingInto P strand st s (length block) ≡ ok x))
+pub feed-zero : (P : List ℕ) (strand : Strand) (st : ℕ) (s block : List ℕ)
+    → (feedAnswer P strand st s block ≡ 0) ↔ ((x : Next) × (feedingInto P strand st s (length block) ≡ ok x))
 feed-zero P strand st s block = coded-zero (feedingInto P strand st s (length block)) (feed-form-coded P strand st s (length block))
 
-pub feed-apart : (P : List ℕ) (strand : Strand) (st : ℕ) (s block : List ℕ) (n p : ℕ) → feedingInto P strand st s (length block) ≡ refused n p
+pub feed-apart : (P : List ℕ) (strand : Strand) (st : ℕ) (s block : List ℕ) (n p : ℕ)
+    → feedingInto P strand st s (length block) ≡ refused n p
     → (feedAnswer P strand st s block % 256 ≡ n) × (feedAnswer P strand st s block / 256 ≡ p)
-feed-apart P strand st s block n p e = coded-apart (feedingInto P strand st s (length block)) n p (feed-form-coded P strand st s (length block)) e
+feed-apart P strand st s block n p e =
+    coded-apart (feedingInto P strand st s (length block)) n p (feed-form-coded P strand st s (length block)) e
 
 -- the same of the first hit
 pub first-zero : (P : List ℕ) (strand : Strand) (st : ℕ) (s block : List ℕ)
     → (firstAnswer P strand st s block ≡ 0) ↔ ((h : Hit) × (firstingInto P strand st s (length block) ≡ ok h))
 first-zero P strand st s block = coded-zero (firstingInto P strand st s (length block)) (first-form-coded P strand st s (length block))
 
-pub first-apart : (P : List ℕ) (strand : Strand) (st : ℕ) (s block : List ℕ) (n p : ℕ) → firstingInto P strand st s (length block) ≡ refused n p
+pub first-apart : (P : List ℕ) (strand : Strand) (st : ℕ) (s block : List ℕ) (n p : ℕ)
+    → firstingInto P strand st s (length block) ≡ refused n p
     → (firstAnswer P strand st s block % 256 ≡ n) × (firstAnswer P strand st s block / 256 ≡ p)
 first-apart P strand st s block n p e =
     coded-apart (firstingInto P strand st s (length block)) n p (first-form-coded P strand st s (length block)) e
 
 -- its first result tells a hit from none
-pub first-segment : (P : List ℕ) (strand : Strand) (st : ℕ) (s block : List ℕ) (k : ℕ) → firstingInto P strand st s (length block) ≡ ok (endsIn k) → k < none
+pub first-segment : (P : List ℕ) (strand : Strand) (st : ℕ) (s block : List ℕ) (k : ℕ)
+    → firstingInto P strand st s (length block) ≡ ok (endsIn k) → k < none
 first-segment P strand st s block k e = segment-below P strand st s (length block) k e
 
 -- and the state that it hands on is one: no call with this pattern refuses it, and it is not 0
-pub first-state : (P : List ℕ) (strand : Strand) (st : ℕ) (s block : List ℕ) (next : ℕ) → firstingInto P strand st s (length block) ≡ ok (clear next)
+pub first-state : (P : List ℕ) (strand : Strand) (st : ℕ) (s block : List ℕ) (next : ℕ)
+    → firstingInto P strand st s (length block) ≡ ok (clear next)
     → isState (length P) next ≡ true
 first-state P strand st s block next e = state-handed P strand st s (length block) next e
 

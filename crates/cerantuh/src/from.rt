@@ -1,5 +1,6 @@
 // The search of a stretch from a state, for C: a text of many stretches is searched one after another, the state behind each handed to the
-// next, so that nothing is lost at a cut. The block's room is asked before the search, since a search that is accepted has written its marks.
+// next, so that nothing is lost at a cut. The block's room is asked before the search, since a search that is accepted has written its
+// marks.
 use crate::block::code;
 use crate::block::put;
 use search::Sought;

@@ -68,7 +68,8 @@ module _ {name : List ℕ} {l₀ : Line} {piece : List ℕ} {from : ℕ} {d₀ :
         getD piece at 0 ≡ 0x0A → record { come = End l (at + 1); left = d } ≡ reading name l₀ (drop from piece) from d₀
     unfolding reading
     reads-feed e =
-        let s : reading name l (getD piece at 0 ∷ drop (at + 1) piece) at d ≡ reading name l₀ (drop from piece) from d₀ = rw cut at (r .same) in
+        let s : reading name l (getD piece at 0 ∷ drop (at + 1) piece) at d ≡ reading name l₀ (drop from piece) from d₀ =
+        rw cut at (r .same) in
         rw (eq-eqb (getD piece at 0) 0x0A e) at s
 
     pub reads-more :
@@ -80,5 +81,6 @@ module _ {name : List ℕ} {l₀ : Line} {piece : List ℕ} {from : ℕ} {d₀ :
         Reads name l₀ piece from d₀ m (at + 1) x
     unfolding reading
     reads-more e m x p q size =
-        let s : reading name l (getD piece at 0 ∷ drop (at + 1) piece) at d ≡ reading name l₀ (drop from piece) from d₀ = rw cut at (r .same) in
+        let s : reading name l (getD piece at 0 ∷ drop (at + 1) piece) at d ≡ reading name l₀ (drop from piece) from d₀ =
+        rw cut at (r .same) in
         record { same = rw (p, q) (rw (ne-eqb (getD piece at 0) 0x0A e) at s); size = size ∙ r .size }

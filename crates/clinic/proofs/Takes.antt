@@ -82,7 +82,9 @@ module _ {name : List ℕ} {r₀ : Reading} {left₀ : ℕ} {piece : List ℕ} {
           record {
             same = rw (s, p) on;
             size = rw p (length-set d n (getD piece at 0) ∙ t .size);
-            room = rw (s, p) (λ (l : 0 < left - 1). let more : 0 < left = omega arith in omega (arith, t .room more, length-set d n (getD piece at 0)));
+            room =
+                rw (s, p) (λ (l : 0 < left - 1). let more : 0 < left = omega arith in omega
+                (arith, t .room more, length-set d n (getD piece at 0)));
           }
       takes-more q Nothing space x e led go s p =
           let on = rw (ne-eqb left 0 some, ← e, ← led) at step-cut in

@@ -66,7 +66,8 @@ module _ (name w : List ℕ) (p : ℕ) where
             let k = after-met (records name w p (suc n) (behind l) ls) (λ xs. ok (l ∷ xs)) rs (d .1) in
             let is : rs ≡ l ∷ k .0 = sym (ok-inj (k .2)) in
             let same : behind l ≤ behind l = omega arith in
-            let rest : records name w p (suc m) (behind l) (k .0) ≡ ok (k .0) = alone (k .0) (suc n) (behind l) (suc m) (behind l) same (k .1) in
+            let rest : records name w p (suc m) (behind l) (k .0) ≡ ok (k .0) =
+            alone (k .0) (suc n) (behind l) (suc m) (behind l) same (k .1) in
             rw is (rw (e, earlier l from (d .0) start le, rest, f))
 
   pub alone : (ls : List (List ℕ)) → Alone ls

@@ -7,7 +7,8 @@ use lib.ListN.{length, set, drop}
 use Rattle.text.specs.Letter.{letter}
 use Rattle.clinic.specs.Words.{goOn}
 use Rattle.clinic.specs.declared.reference.Reading.{Reading}
-use Rattle.clinic.specs.declared.reference.Reading.the-variants.{Start, Before, Passing, Word, Header, Begun, Inside, Returned, Over, Wrong}
+use Rattle.clinic.specs.declared.reference.Reading.the-variants.{Start, Before, Passing, Word, Header, Begun, Inside, Returned, Over}
+use Rattle.clinic.specs.declared.reference.Reading.the-variants.{Wrong}
 use Rattle.clinic.specs.declared.reference.Led.{Led}
 use Rattle.clinic.specs.declared.reference.Led.the-variants.{Base, Nothing, End}
 use Rattle.clinic.specs.declared.reference.Taken.{Taken}

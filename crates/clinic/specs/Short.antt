@@ -36,7 +36,11 @@ unfoldable pub putting : Line → ℕ → List ℕ → Shortened
 putting l b d =
     cond (leb (length d) (l .behind))
     (record { line = record { field = l .field; matched = l .matched; behind = l .behind; whole = false }; buffer = d })
-    (record { line = record { field = l .field; matched = l .matched; behind = l .behind + 1; whole = l .whole }; buffer = set d (l .behind) b })
+    (record {
+      line = record { field = l .field; matched = l .matched; behind = l .behind + 1; whole = l .whole };
+      buffer = set d
+          (l .behind) b;
+    })
 
 -- in field k, with so many bytes of CHROM that are the name's first
 abbrev pub inField : Line → ℕ → ℕ → Line

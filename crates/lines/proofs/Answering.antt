@@ -28,7 +28,8 @@ module _ (S : Strands) (P s d left : List ℕ) (room : ℕ) (r : Searched)
   pub answered-refused :
       (wrong : Refusal) → r ≡ Refused wrong → refusalLine (wrong .number) (wrong .place) ≡ answerLines S P (searching P s room)
   answered-refused wrong e =
-      sym (ap (answerLines S P) (told-refused (searching P s room) (sumsOn S P) (wrong .number) (wrong .place) (sym told ∙ ap toldSearched e)))
+      sym (ap (answerLines S P) (told-refused (searching P s room) (sumsOn S P) (wrong .number) (wrong .place)
+      (sym told ∙ ap toldSearched e)))
 
   module _ (n z m : ℕ) (e : r ≡ Marked n z m) where
     met : (t : Text) × (searching P s room ≡ ok t) × (sumsOn S P t ≡ record { segments = n; size = z; ends = m })

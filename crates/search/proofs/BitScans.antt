@@ -22,7 +22,8 @@ use Rattle.text.specs.State.{next, endsAt}
 use Rattle.text.proofs.Truth.{or-false}
 use Rattle.text.proofs.Blocks.{Clean, clean-none, clean-more, clean-all}
 use Rattle.text.proofs.Likes.{meant-length, meant-at}
-use Rattle.text.proofs.Bits.{bit-ext, bit-above, bit-zero, bit-or, bit-and, bit-fromBits, fromBits-lt, bit-single, bit-shl, bit-shl-below, bit-mod, bit-mod-above, bit-shr-test}
+use Rattle.text.proofs.Bits.{bit-ext, bit-above, bit-zero, bit-or, bit-and, bit-fromBits, fromBits-lt, bit-single, bit-shl, bit-shl-below}
+use Rattle.text.proofs.Bits.{bit-mod, bit-mod-above, bit-shr-test}
 use Rattle.text.proofs.Snoc.{_▸_}
 use Rattle.text.proofs.Steps.{next-open}
 use Rattle.text.proofs.Scan.{one-ends, empty-state, empty-ends, scan-state, scan-ends}
@@ -62,7 +63,8 @@ bits-more f k =
         let e : r ≡ k = omega arith in
         rw e
         (bit-fromBits f (suc k) k (let z : k < suc k = omega arith in z)
-        ∙ sym (bit-or (fromBits f k) (cond (f k) (2 ^ k) 0) k ∙ rw (bit-above (fromBits f k) k k (fromBits-lt f k) (let z : k ≤ k = omega arith in z), at-top (f k)))))
+        ∙ sym (bit-or (fromBits f k) (cond (f k) (2 ^ k) 0) k
+        ∙ rw (bit-above (fromBits f k) k k (fromBits-lt f k) (let z : k ≤ k = omega arith in z), at-top (f k)))))
 
 -- k bases are entered into the table of blank words
 pub record Filling (blank : ℕ) (P table : List ℕ) (k : ℕ) : Type 0 where
@@ -262,7 +264,8 @@ module _ (P masks classes : List ℕ) (st : ℕ) (v : Variant) (i d hits bad : �
 pub top-bit : (n x : ℕ) → x < 2 ^ suc n → ltb (2 ^ n - 1) x ≡ bit x n
 top-bit n x l =
     by-cases (decLt x (2 ^ n))
-    (λ (h : x < 2 ^ n). le-ltb (2 ^ n - 1) x (let z : x ≤ 2 ^ n - 1 = omega arith in z) ∙ sym (bit-above x n n h (let z : n ≤ n = omega arith in z)))
+    (λ (h : x < 2 ^ n). le-ltb (2 ^ n - 1) x (let z : x ≤ 2 ^ n - 1 = omega arith in z)
+    ∙ sym (bit-above x n n h (let z : n ≤ n = omega arith in z)))
     (λ (h : ¬ (x < 2 ^ n)).
     let rest : x - 2 ^ n < 2 ^ n = omega (arith, pow-suc 2 n) in
     let whole : 1 * 2 ^ n + (x - 2 ^ n) ≡ x = omega arith in

@@ -39,7 +39,11 @@ module _ (P : List ℕ) where
   -- a letter more
   pub grow : (s : List ℕ) (n k c x : ℕ) → n < length P → Longest P s n k → Next P k c x → Longest P (s ++ (c ∷ [])) (suc n) x
   grow s n k c x l g w =
-      record { within = omega (arith, g .within, low); ends = suffix-trans (w .ends) (suffix-more s c (take k P) c (g .ends) refl); most = most }
+      record {
+        within = omega (arith, g .within, low);
+        ends = suffix-trans (w .ends) (suffix-more s c (take k P) c (g .ends) refl);
+        most = most;
+      }
     where
       inside : k ≤ length P
       inside = omega (arith, g .within)

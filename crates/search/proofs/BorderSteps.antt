@@ -46,7 +46,8 @@ module _ {P : List ℕ} {st : ℕ} {A : Type 0} {B : ℕ → Type 0} where
       back (carrying q c b) = inl (from-among q c b)
 
 module _ {P : List ℕ} {st : ℕ} {v : Variant} where
-  pub steps-begun : {a b : ℕ} {x y : Bool} → st % 2 ≡ 1 → CarriesAll P st (length P) v a x → Begins P v b y → Steps P st v (bitOr a b) (x || y)
+  pub steps-begun : {a b : ℕ} {x y : Bool} → st % 2 ≡ 1 → CarriesAll P st (length P) v a x → Begins P v b y
+      → Steps P st v (bitOr a b) (x || y)
   steps-begun odd t s =
       let set : bit st 0 ≡ true = rw (bit-first, odd) in
       told-steps P st v (tells-map (λ r l. with-fresh set) (with-fresh set) (tells-or t s))

@@ -101,7 +101,8 @@ module _ (st : ℕ) where
   unfolding passing bit
   passing-ones r zero l = rw (lt-one l) (sym ones-zero)
   passing-ones r (suc n) l =
-      let rest : length (passing (bit st) (suc r) n) ≡ ones (st / 2 ^ suc r) = passing-ones (suc r) n (omega (arith, half r, pow-suc 2 n)) in
+      let rest : length (passing (bit st) (suc r) n) ≡ ones (st / 2 ^ suc r) =
+      passing-ones (suc r) n (omega (arith, half r, pow-suc 2 n)) in
       keep-length (st / 2 ^ r % 2) r (passing (bit st) (suc r) n) (digit-lt r)
       ∙ rw (ones-step (st / 2 ^ r), ← half r, rest)
 

@@ -58,7 +58,8 @@ module _ (P : List ℕ) (y : SoundPattern P) where
   steps-states st (g ∷ T) zero l = refl
   steps-states st (g ∷ T) (suc j) l = steps-states (next P st g) T j (omega arith)
 
-  nothing-sought : (st : ℕ) → _≡_ {A = Trail} (record { marks = []; state = st }) (record { marks = marksFrom P st []; state = run P st [] })
+  nothing-sought : (st : ℕ)
+      → _≡_ {A = Trail} (record { marks = []; state = st }) (record { marks = marksFrom P st []; state = run P st [] })
   unfolding marksFrom run
   nothing-sought st = refl
 
@@ -83,13 +84,15 @@ module _ (P : List ℕ) (strand : Strand) (y : SoundPattern P) where
       let (short, lone) = demand-met (leb (length s) greatestStretch) 4 0 (loneSegment s) g e in
       entering-sound P st s (record { sound = y; short = leb-true (length s) greatestStretch short; state = asked st i }) _ ∙ rw lone
 
-  feeds-by : (st : ℕ) (ss : List (List ℕ)) (T : Text) → isState (length Q) st ≡ true → segmentsText ss ≡ ok T → feeds P strand st ss ≡ ok (steps Q z st T)
+  feeds-by : (st : ℕ) (ss : List (List ℕ)) (T : Text) → isState (length Q) st ≡ true → segmentsText ss ≡ ok T
+      → feeds P strand st ss ≡ ok (steps Q z st T)
   unfolding feeds steps segmentsText
   feeds-by st [] T i e = ap (λ (U : Text). ok (steps Q z st U)) (ok-inj e)
   feeds-by st (s ∷ ss) T i e =
       let (g, here, more) = after-met (segmentOf s) (λ g. after (segmentsText ss) λ T. ok (g ∷ T)) T e in
       let (U, there, all) = after-met (segmentsText ss) (λ T. ok (g ∷ T)) T more in
-      rw (fed-segment st g s i here, feeds-by (next Q st g) ss U (next-state Q z st g i) there) (ap (λ (U : Text). ok (steps Q z st U)) (ok-inj all))
+      rw (fed-segment st g s i here, feeds-by (next Q st g) ss U (next-state Q z st g i) there)
+      (ap (λ (U : Text). ok (steps Q z st U)) (ok-inj all))
 
   pub feeds-steps : (st : ℕ) (ss : List (List ℕ)) (T : Text) → isState (length P) st ≡ true → segmentsText ss ≡ ok T
       → feeds P strand st ss ≡ ok (steps (onStrand strand P) (strand-sound strand P y) st T)
@@ -107,7 +110,8 @@ module _ (P : List ℕ) (strand : Strand) (y : SoundPattern P) where
     seeks-by : (st : ℕ) (ss : List (List ℕ)) (T : Text) → isState (length Q) st ≡ true → stretchesText ss ≡ ok T
         → seeks P strand st room ss ≡ ok (record { marks = marksFrom Q st T; state = run Q st T })
     unfolding seeks stretchesText seenFrom Q
-    seeks-by st [] T i e = ap ok (nothing-sought Q z st) ∙ ap (λ (U : Text). ok (record { marks = marksFrom Q st U; state = run Q st U })) (ok-inj e)
+    seeks-by st [] T i e =
+        ap ok (nothing-sought Q z st) ∙ ap (λ (U : Text). ok (record { marks = marksFrom Q st U; state = run Q st U })) (ok-inj e)
     seeks-by st (s ∷ ss) T i e =
         let (t, here, more) = after-met (stretchOf s) (λ t. after (stretchesText ss) λ T. ok (t ++ T)) T e in
         let (U, there, all) = after-met (stretchesText ss) (λ T. ok (t ++ T)) T more in

@@ -25,7 +25,8 @@ use Rattle.search.specs.declared.both.segment.PassedBoth.{PassedBoth}
 use Rattle.search.specs.declared.both.segment.PassedBoth.the-variants.{To, Refused}
 use Rattle.search.proofs.Entries.{state-of, fresh-state}
 use Rattle.search.proofs.Passes.{Stepped, segment-met, segment-not}
-use Rattle.search.proofs.Markings.{Marking, marking-none, marking-room, marking-more, marking-refused, marking-all, marking-marks, run-marks-not}
+use Rattle.search.proofs.Markings.{Marking, marking-none, marking-room, marking-more, marking-refused, marking-all, marking-marks}
+use Rattle.search.proofs.Markings.{run-marks-not}
 use Rattle.search.proofs.Searches.{run-state}
 
 -- 1 for a mark of 1, and 0 for every other
@@ -102,7 +103,8 @@ module _ (P : List ℕ) where
   either-none = refl
 
   either-snoc : (T : Text) (g : Segment)
-      → eitherMarks P (T ++ (g ∷ [])) ≡ eitherMarks P T ++ (cond (ends P (run P fresh T) g || ends (opposite P) (run (opposite P) fresh T) g) 1 0 ∷ [])
+      → eitherMarks P (T ++ (g ∷ []))
+      ≡ eitherMarks P T ++ (cond (ends P (run P fresh T) g || ends (opposite P) (run (opposite P) fresh T) g) 1 0 ∷ [])
   unfolding eitherMarks marks
   either-snoc T g =
       let a : Bool = ends P (run P fresh T) g in
@@ -151,7 +153,8 @@ unfolding run
 uniting-none P s from buffer l =
     record { seen = []; walk = marking-none false (eitherMarks P) s from buffer (either-none P) l; own = refl; turned = refl }
 
-module _ {P s : List ℕ} {from : ℕ} {buffer : List ℕ} {k at size ones given other : ℕ} (q : Uniting P s from buffer k at size ones given other) where
+module _ {P s : List ℕ} {from : ℕ} {buffer : List ℕ} {k at size ones given other : ℕ}
+    (q : Uniting P s from buffer k at size ones given other) where
   -- the states are those of the two strands
   pub uniting-own : 0 < length P → StateOf P given
   uniting-own some = rw (q .own) (fresh-run P (q .seen) some)
@@ -248,7 +251,8 @@ module _ (P : List ℕ) where
     pub either-not : (j p : ℕ) → o ≡ refused j p → after o (λ t. ok (eitherSums P t)) ≡ refused j p
     either-not j p e = rw e
 
-    pub either-seen : (t : Text) → o ≡ ok t → (n sum ones : ℕ) → length t ≡ n → record { segments = length t; size = sum; ends = ones } ≡ eitherSums P t
+    pub either-seen : (t : Text) → o ≡ ok t → (n sum ones : ℕ) → length t ≡ n
+        → record { segments = length t; size = sum; ends = ones } ≡ eitherSums P t
         → after o (λ t. ok (eitherSums P t)) ≡ ok (record { segments = n; size = sum; ends = ones })
     either-seen t e n sum ones count is =
         rw e (ap ok (sym is) ∙ ap (λ (m : ℕ). ok (record { segments = m; size = sum; ends = ones })) count)

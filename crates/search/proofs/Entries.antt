@@ -48,13 +48,15 @@ module _ (P : List ℕ) (st : ℕ) (s : List ℕ) where
   unfolding entering pattern fitsAt
   entering-after o = simp after-demand
 
-  pub entering-refused : (j p : ℕ) → entering P st s (ok (tt {0})) ≡ refused j p → {A : Type 0} (o : Outcome A) → entering P st s o ≡ refused j p
+  pub entering-refused : (j p : ℕ) → entering P st s (ok (tt {0})) ≡ refused j p → {A : Type 0} (o : Outcome A)
+      → entering P st s o ≡ refused j p
   entering-refused j p e o = entering-after o ∙ rw e
 
   pub entered : entering P st s (ok (tt {0})) ≡ ok tt → Entered P st s
   unfolding entering fitsAt
   entered e =
-      let a = after-met (pattern P (ok (tt {0}))) (λ _. fits s (demand (isState (length P) st) 17 0 (ok tt))) tt (sym (pattern-after P _) ∙ e) in
+      let a = after-met (pattern P (ok (tt {0}))) (λ _. fits s (demand (isState (length P) st) 17 0 (ok tt))) tt
+      (sym (pattern-after P _) ∙ e) in
       let b = demand-met (leb (length s) greatestStretch) 4 0 (demand (isState (length P) st) 17 0 (ok tt)) tt (a .2) in
       let c = demand-met (isState (length P) st) 17 0 (ok tt) tt (b .1) in
       record { sound = pattern-sound P (a .1); short = leb-true (length s) greatestStretch (b .0); state = c .0 }
@@ -78,6 +80,7 @@ module _ (P : List ℕ) (st : ℕ) (s : List ℕ) where
     unfolding entering
     entering-over l o = sound-pattern P y _ ∙ rw (lt-leb (length s) greatestStretch l)
 
-    pub entering-wrong : length s ≤ greatestStretch → isState (length P) st ≡ false → {A : Type 0} (o : Outcome A) → entering P st s o ≡ refused 17 0
+    pub entering-wrong : length s ≤ greatestStretch → isState (length P) st ≡ false → {A : Type 0} (o : Outcome A)
+        → entering P st s o ≡ refused 17 0
     unfolding entering
     entering-wrong short e o = sound-pattern P y _ ∙ rw (le-leb (length s) greatestStretch short, e)

@@ -63,7 +63,8 @@ module _ (P : List ℕ) (strand : Strand) (s : List ℕ) (st : ℕ) where
   fed-not j p e = entering-refused P st s j p e _
 
   module _ (R : List ℕ) (is : R ≡ onStrand strand P) (y : Entered P st s) where
-    pub fed-refused : (j p : ℕ) → after (many (λ _. segmentAt s) 1 [] 0) (λ x. ok (courseOf R st x)) ≡ refused j p → feeding P strand st s ≡ refused j p
+    pub fed-refused : (j p : ℕ) → after (many (λ _. segmentAt s) 1 [] 0) (λ x. ok (courseOf R st x)) ≡ refused j p
+        → feeding P strand st s ≡ refused j p
     unfolding feeding
     fed-refused j p e = entering-sound P st s y _ ∙ rw (lone-refused-inside s (lone-not R s st j p e))
 

@@ -40,7 +40,8 @@ abbrev pub hitOf : List ℕ → ℕ → Hit
 hitOf marks st = cond (ltb (firstEnd marks) none) (endsIn (firstEnd marks)) (clear st)
 
 -- of a sound stretch it is the first one among the marks
-pub hit-sound : (P : List ℕ) (st : ℕ) (s : List ℕ) (t : Text) → stretchOf s ≡ ok t → hitting P st s ≡ ok (hitOf (marksFrom P st t) (run P st t))
+pub hit-sound : (P : List ℕ) (st : ℕ) (s : List ℕ) (t : Text) → stretchOf s ≡ ok t
+    → hitting P st s ≡ ok (hitOf (marksFrom P st t) (run P st t))
 unfolding hitting firstIn wholeOf whole
 hit-sound P st s t e =
     let m = stretch-met s t e in
@@ -73,7 +74,8 @@ module _ (P : List ℕ) (st : ℕ) (s : List ℕ) (n k : ℕ) (seen : Text) (at 
       let unmarked = no-ones P st seen (omega (arith, long, few, short)) zeros in
       let last : marksFrom P st (seen ++ (g ∷ [])) ≡ marksFrom P st seen ++ (1 ∷ []) =
       marks-snoc P st seen g ∙ ap (λ (b : Bool). marksFrom P st seen ++ (cond b 1 0 ∷ [])) hit in
-      let one = ap firstEnd last ∙ first-last (marksFrom P st seen) k unmarked (marks-length P st seen ∙ long) (omega (arith, few, short)) in
+      let one = ap firstEnd last ∙ first-last (marksFrom P st seen) k unmarked (marks-length P st seen ∙ long)
+      (omega (arith, few, short)) in
       let is = first-is P st s n 2 short (r .counted) (k + 1) (seen ++ (g ∷ [])) behind (r .all) (r .few) in
       let here : first P st s n 2 ≡ k = omega (arith, is, one) in
       hit-ends P st s n (r .opens) (omega (arith, here, few, short)) ∙ ap (λ (i : ℕ). ok (endsIn i)) here
@@ -137,7 +139,8 @@ module _ (P : List ℕ) (strand : Strand) (y : SoundPattern P) where
     state st t i =
         rw (strand-length strand P) at (run-state Q (strand-sound strand P y) st t (rw (strand-length strand P) i))
 
-    hit-clear : (st : ℕ) (t : Text) → length t ≤ none → total (λ x. x) (marksFrom Q st t) ≡ 0 → hitOf (marksFrom Q st t) (run Q st t) ≡ clear (run Q st t)
+    hit-clear : (st : ℕ) (t : Text) → length t ≤ none → total (λ x. x) (marksFrom Q st t) ≡ 0
+        → hitOf (marksFrom Q st t) (run Q st t) ≡ clear (run Q st t)
     hit-clear st t few zeros = rw (no-ones Q st t few zeros) refl
 
     hit-some : (st : ℕ) (t : Text) → length t ≤ none → ¬ (total (λ x. x) (marksFrom Q st t) ≡ 0)

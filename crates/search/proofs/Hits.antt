@@ -69,7 +69,8 @@ module _ (stop : Bool) (P : List ℕ) (st : ℕ) (s : List ℕ) (n from : ℕ) (
   module _ (t : Text) (at : ℕ) (e : manyTo stop P st s n from ≡ ok (record { value = t; next = at }))
       (ones : ℕ) (is : ones ≡ total (λ x. x) (marksFrom P st t)) where
     pub run-clear : (stop && not (eqb ones 0)) ≡ false
-        → (many (λ _. segmentAt s) n [] from ≡ ok (record { value = t; next = at })) × (stop ≡ true → (first P st s n from ≡ none) × (ones ≡ 0))
+        → (many (λ _. segmentAt s) n [] from ≡ ok (record { value = t; next = at })) × (stop ≡ true
+        → (first P st s n from ≡ none) × (ones ≡ 0))
     unfolding reach
     run-clear h = go stop e h
       where
@@ -87,7 +88,8 @@ module _ (stop : Bool) (P : List ℕ) (st : ℕ) (s : List ℕ) (n from : ℕ) (
     run-stopped h =
         let stops = and-left stop (not (eqb ones 0)) h in
         let some = eqb-false ones 0 (not-true (eqb ones 0) (and-right stop (not (eqb ones 0)) h)) in
-        let all = stop-ends P st s n from small within t at (ap (λ (b : Bool). manyTo b P st s n from) (sym stops) ∙ e) (λ z. some (is ∙ z)) in
+        let all = stop-ends P st s n from small within t at (ap (λ (b : Bool). manyTo b P st s n from) (sym stops) ∙ e)
+        (λ z. some (is ∙ z)) in
         (stops, some, all .0, all .1)
 
 -- what a run over a whole stretch promises of its answer and of the marks

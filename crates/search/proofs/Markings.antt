@@ -23,7 +23,8 @@ use Rattle.stretch.proofs.Stretches.{InStretch, through-none, through-more, thr
 use Rattle.search.specs.Answers.{MarksFrom, RoomyFrom, MarksOf, handed, into, stretchInto, searching}
 
 -- k segments from `from` on have been read, and their marks stand in front of the buffer, unless the walk is one that stops
-pub record Marking (stop : Bool) (f : Text → List ℕ) (s : List ℕ) (from : ℕ) (buffer : List ℕ) (seen : Text) (k at size ends : ℕ) : Type 0 where
+pub record Marking (stop : Bool) (f : Text → List ℕ) (s : List ℕ) (from : ℕ) (buffer : List ℕ) (seen : Text)
+    (k at size ends : ℕ) : Type 0 where
   pub sum : InStretch s from k seen at size
   pub far : from + 3 * k ≤ at
   pub marked : stop ≡ false → take k buffer ≡ f seen
@@ -34,12 +35,19 @@ pub marking-none : (stop : Bool) (f : Text → List ℕ) (s : List ℕ) (from : 
     → Marking stop f s from buffer [] 0 from 0 0
 unfolding total
 marking-none stop f s from buffer none l =
-    record { sum = through-none s from l; far = omega arith; marked = λ _. sym none; ones = sym (ap (total (λ x. x)) none); few = omega arith }
+    record {
+      sum = through-none s from l;
+      far = omega arith;
+      marked = λ _. sym none;
+      ones = sym (ap (total (λ x. x)) none);
+      few = omega arith;
+    }
 
 module _ {stop : Bool} {f : Text → List ℕ} {s : List ℕ} {from : ℕ} {buffer : List ℕ} {seen : Text} {k at size ones : ℕ}
     (q : Marking stop f s from buffer seen k at size ones) where
   -- one segment more
-  module _ {g : Segment} {behind more : ℕ} (read : segmentAt s at ≡ ok (record { value = g; next = behind })) (weighs : total weight g ≡ more) where
+  module _ {g : Segment} {behind more : ℕ} (read : segmentAt s at ≡ ok (record { value = g; next = behind }))
+      (weighs : total weight g ≡ more) where
     further : InStretch s from (k + 1) (seen ++ (g ∷ [])) behind (size + more)
     further = through-more s from k seen at size (q .sum) g behind more read weighs
 
@@ -102,7 +110,8 @@ module _ (n : ℕ) (found out : List ℕ) where
   pub handed-none : length out < n → (false ≡ leb n (length out)) × (out ≡ handed n found out)
   handed-none l = let short : leb n (length out) ≡ false = lt-leb n (length out) l in rw short (refl, refl)
 
-  pub handed-all : (left : List ℕ) → n ≤ length out → left ≡ over out 0 (take n found) → (true ≡ leb n (length out)) × (left ≡ handed n found out)
+  pub handed-all : (left : List ℕ) → n ≤ length out → left ≡ over out 0 (take n found)
+      → (true ≡ leb n (length out)) × (left ≡ handed n found out)
   handed-all left l w = let fit : leb n (length out) ≡ true = le-leb n (length out) l in rw fit (refl, w)
 
 -- what a search answers, and what it leaves in the caller's buffer
@@ -116,7 +125,8 @@ module _ {A : Type 0} (h : Text → A) (f : Text → List ℕ) (out : List ℕ) 
     into-not j p e = let none = told-refused o h j p e in rw none (refl, refl)
 
     -- a text of n segments, and the marks that were found
-    module _ (x : A) (n : ℕ) (e : after o (λ t. ok (h t)) ≡ ok x) (count : (t : Text) → h t ≡ x → length t ≡ n) (found : List ℕ) (marks : MarksOf f o found) where
+    module _ (x : A) (n : ℕ) (e : after o (λ t. ok (h t)) ≡ ok x) (count : (t : Text) → h t ≡ x → length t ≡ n) (found : List ℕ)
+        (marks : MarksOf f o found) where
       seen : (t : Text) × (o ≡ ok t) × (h t ≡ x)
       seen = told-met o h x e
 

@@ -116,7 +116,8 @@ pub ready : (P masks classes : List ℕ) (st : ℕ) → Vectors P masks classes 
 ready P masks classes st (t, y) = ready-bits Bits P masks classes st refl t y
 
 -- a variant more, with the words as they were united
-pub sweeping-on : (P : List ℕ) (st : ℕ) (s : List ℕ) (first k at size out missed : ℕ) → Sweeping P st s first k at size out missed → (r : Swept)
+pub sweeping-on : (P : List ℕ) (st : ℕ) (s : List ℕ) (first k at size out missed : ℕ) → Sweeping P st s first k at size out missed
+    → (r : Swept)
     → SweptAt P st s first k at missed r → (behind more reached met : ℕ) → r ≡ To behind more reached met → (words : ℕ)
     → words ≡ bitAnd out reached → Sweeping P st s first (k + 1) behind (size + more) words met
 sweeping-on P st s first k at size out missed t r w behind more reached met e words is =

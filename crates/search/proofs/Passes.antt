@@ -43,7 +43,8 @@ module _ (P : List ℕ) (st : ℕ) (s : List ℕ) (at : ℕ) where
   told : Taken Segment ℕ → Pass
   told x = record { next = x .next; size = total weight (x .value); state = next P st (x .value); ends = ends P st (x .value) }
 
-  pub segment-met : (behind more bits : ℕ) (hit : Bool) → segmentPass P st s at ≡ ok (record { next = behind; size = more; state = bits; ends = hit })
+  pub segment-met : (behind more bits : ℕ) (hit : Bool)
+      → segmentPass P st s at ≡ ok (record { next = behind; size = more; state = bits; ends = hit })
       → Stepped P st s at behind more bits hit
   unfolding segmentPass told
   segment-met behind more bits hit e =

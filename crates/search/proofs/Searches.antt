@@ -97,10 +97,12 @@ module _ {stop : Bool} {P : List ℕ} {st : ℕ} {s : List ℕ} {from : ℕ} {bu
         (left : List ℕ) (writes : left ≡ cond stop buffer (set buffer k mark)) where
       last : marksFrom P st (q .seen ++ (met .segment ∷ [])) ≡ marksFrom P st (q .seen) ++ (cond hit 1 0 ∷ [])
       last =
-          let end : ends P (run P st (q .seen)) (met .segment) ≡ hit = ap (λ (n : ℕ). ends P n (met .segment)) (sym (q .state)) ∙ met .end in
+          let end : ends P (run P st (q .seen)) (met .segment) ≡ hit =
+          ap (λ (n : ℕ). ends P n (met .segment)) (sym (q .state)) ∙ met .end in
           marks-snoc P st (q .seen) (met .segment) ∙ ap (λ (b : Bool). marksFrom P st (q .seen) ++ (cond b 1 0 ∷ [])) end
 
-      pub searching-walk : Marking stop (marksFrom P st) s from left (q .seen ++ (met .segment ∷ [])) (k + 1) behind (size + more) (ones + mark)
+      pub searching-walk : Marking stop (marksFrom P st) s from left (q .seen ++ (met .segment ∷ [])) (k + 1) behind (size + more)
+          (ones + mark)
       searching-walk = rw writes (marking-more (q .walk) (met .read) (met .size) hit last mark is room)
 
       pub searching-length : length left ≡ length buffer
@@ -141,7 +143,8 @@ module _ {stop : Bool} {P : List ℕ} {st : ℕ} {s : List ℕ} {from : ℕ} {bu
           let unmarked = no-ones P st seen (omega (arith, marks-length P st seen, long, few)) (sym (q .walk .ones) ∙ q .clear stopped) in
           let first = first-last (marksFrom P st seen) k unmarked long (omega (arith, few)) in
           let one = ap firstEnd (last ∙ ap (λ (h : Bool). marksFrom P st seen ++ (cond h 1 0 ∷ [])) hits) ∙ first in
-          let all = reach-stopped P st s n from small within (k + 1) (seen ++ (met .segment ∷ [])) behind (searching-walk .sum .walk) (omega arith)
+          let all = reach-stopped P st s n from small within (k + 1) (seen ++ (met .segment ∷ [])) behind (searching-walk .sum .walk)
+          (omega arith)
           (omega (arith, one)) in (
             run-told stop P st s from n _ (k + 1) behind _ _ _ _ searching-walk onward
                 (all ∙ ap (λ (h : Bool). reach h P st s n from) (sym stopped)),
@@ -159,7 +162,8 @@ module _ {stop : Bool} {P : List ℕ} {st : ℕ} {s : List ℕ} {from : ℕ} {bu
         let none = marking-refused (q .walk) (reach stop P st s n from) more j p wrong in
         (rw none refl, λ _. run-marks-not (marksFrom P st) _ j p buffer (marking-refused (q .walk) n l j p wrong))
 
-    pub searching-ran : k ≡ n → Run stop P st s from n buffer (ok (record { segments = k; next = at; size = size; state = bits; ends = ones }))
+    pub searching-ran : k ≡ n
+        → Run stop P st s from n buffer (ok (record { segments = k; next = at; size = size; state = bits; ends = ones }))
     searching-ran done =
         let all = reach-all P st s n from small within k (q .seen) at (q .walk .sum .walk) (omega arith) stop clear done in
         (run-told stop P st s from n (q .seen) k at size bits ones buffer (q .walk) (q .state) all, marking-marks (q .walk) n done)
@@ -222,11 +226,15 @@ module _ (P Q : List ℕ) (st : ℕ) (s out : List ℕ) where
 -- a search of P as a strand reads it: Q
 module _ (P Q s out : List ℕ) where
   -- what it says of the state behind the text is left out
-  summed : (o : Outcome Text) (told : Outcome Seen) (said : Outcome Sums) (left : List ℕ) → Told (seenFrom Q fresh) (marksFrom Q fresh) out o told left
+  summed : (o : Outcome Text) (told : Outcome Seen) (said : Outcome Sums) (left : List ℕ)
+      → Told (seenFrom Q fresh) (marksFrom Q fresh) out o told left
       → said ≡ after told (λ x. ok (sums x)) → Told (sumsOf Q) (marks Q) out o said left
   unfolding sumsOf marks
-  summed o told said left h e =
-      (e ∙ ap (λ (k : Outcome Seen). after k (λ x. ok (sums x))) (h .0) ∙ after-after o (λ t. ok (seenFrom Q fresh t)) (λ x. ok (sums x)), h .1)
+  summed o told said left h e = (
+    e ∙ ap (λ (k : Outcome Seen). after k (λ x. ok (sums x))) (h .0)
+        ∙ after-after o (λ t. ok (seenFrom Q fresh t)) (λ x. ok (sums x)),
+    h .1,
+  )
 
   pub pattern-marked : SoundPattern P → (R : List ℕ) → R ≡ Q → (told : Outcome Seen) (said : Outcome Sums) (left : List ℕ)
       → Told (seenFrom R fresh) (marksFrom R fresh) out (stretchInto s (length out)) told left → said ≡ after told (λ x. ok (sums x))
@@ -252,9 +260,11 @@ module _ (P Q s out : List ℕ) where
   unfolding searching seeking
   fresh-searching = go (pattern P (ok (tt {0}))) refl
     where
-      go : (o : Outcome (Unit {0})) → pattern P (ok (tt {0})) ≡ o → entering P fresh s (stretchInto s (length out)) ≡ pattern P (stretchInto s (length out))
+      go : (o : Outcome (Unit {0})) → pattern P (ok (tt {0})) ≡ o
+          → entering P fresh s (stretchInto s (length out)) ≡ pattern P (stretchInto s (length out))
       go (ok t) e = let y = pattern-sound P e in seek-fresh y ∙ sym (sound-pattern P y (stretchInto s (length out)))
-      go (refused j p) e = entering-pattern P fresh s j p e (stretchInto s (length out)) ∙ sym (pattern-refused P j p e (stretchInto s (length out)))
+      go (refused j p) e =
+          entering-pattern P fresh s j p e (stretchInto s (length out)) ∙ sym (pattern-refused P j p e (stretchInto s (length out)))
 
   pub fresh-marked : (told : Outcome Seen) (said : Outcome Sums) (left : List ℕ)
       → Told (seenFrom Q fresh) (marksFrom Q fresh) out (seeking P fresh s (length out)) told left → said ≡ after told (λ x. ok (sums x))

@@ -101,14 +101,17 @@ ones-few P st (g ∷ T) = go (ends P st g) (ones-few P (next P st g) T)
     go false l = omega arith
 
 -- where no mark is a one, the first end is "none"
-pub no-ones : (P : List ℕ) (st : ℕ) (T : Text) → length T ≤ none → total (λ x. x) (marksFrom P st T) ≡ 0 → firstEnd (marksFrom P st T) ≡ none
+pub no-ones : (P : List ℕ) (st : ℕ) (T : Text) → length T ≤ none → total (λ x. x) (marksFrom P st T) ≡ 0
+    → firstEnd (marksFrom P st T) ≡ none
 no-ones P st T few zeros =
     ⊎-elim (λ (e : (total (λ x. x) (marksFrom P st T) ≡ 0) × (firstEnd (marksFrom P st T) ≡ none)). e .1)
-    (λ (e : (0 < total (λ x. x) (marksFrom P st T)) × (firstEnd (marksFrom P st T) < length T)). absurd (let z : ⊥ = omega (arith, e .0) in z))
+    (λ (e : (0 < total (λ x. x) (marksFrom P st T)) × (firstEnd (marksFrom P st T) < length T)). absurd
+    (let z : ⊥ = omega (arith, e .0) in z))
     (ones-or-none P st T few)
 
 -- where one is, the first end is the number of a segment
-pub some-ones : (P : List ℕ) (st : ℕ) (T : Text) → length T ≤ none → ¬ (total (λ x. x) (marksFrom P st T) ≡ 0) → firstEnd (marksFrom P st T) < length T
+pub some-ones : (P : List ℕ) (st : ℕ) (T : Text) → length T ≤ none → ¬ (total (λ x. x) (marksFrom P st T) ≡ 0)
+    → firstEnd (marksFrom P st T) < length T
 some-ones P st T few some =
     ⊎-elim (λ (e : (total (λ x. x) (marksFrom P st T) ≡ 0) × (firstEnd (marksFrom P st T) ≡ none)). absurd (some (e .0)))
     (λ (e : (0 < total (λ x. x) (marksFrom P st T)) × (firstEnd (marksFrom P st T) < length T)). e .1)
@@ -132,7 +135,8 @@ first P st s n from = firstEnd (marksFrom P st (whole (λ _. segmentAt s) n [] f
 -- of n segments that stand from `from` on, in bytes that are fewer than "none"
 module _ (P : List ℕ) (st : ℕ) (s : List ℕ) (n from : ℕ) (small : length s < none) (within : from ≤ length s) where
   -- k of them have been read, those seen
-  module _ (k : ℕ) (seen : Text) (at : ℕ) (w : many (λ _. segmentAt s) k [] from ≡ ok (record { value = seen; next = at })) (l : k ≤ n) where
+  module _ (k : ℕ) (seen : Text) (at : ℕ) (w : many (λ _. segmentAt s) k [] from ≡ ok (record { value = seen; next = at }))
+      (l : k ≤ n) where
     -- what reads whole behind them
     pub behind : (rest : Text) × (whole (λ _. segmentAt s) n [] from ≡ seen ++ rest)
     behind =
@@ -193,7 +197,12 @@ module _ (P : List ℕ) (st : ℕ) (s : List ℕ) (n from : ℕ) (small : length
   -- an end is one of those that read whole
   end-few : first P st s n from < none → first P st s n from < length (whole (λ _. segmentAt s) n [] from)
   end-few l =
-      omega (arith, firstEnd-within (marksFrom P st (whole (λ _. segmentAt s) n [] from)) l, marks-length P st (whole (λ _. segmentAt s) n [] from))
+      omega (
+        arith,
+        firstEnd-within (marksFrom P st (whole (λ _. segmentAt s) n [] from)) l,
+        marks-length P st
+            (whole (λ _. segmentAt s) n [] from),
+      )
 
   -- a fault: nothing ends before it
   pub stop-refused : (j p : ℕ) → many (λ _. segmentAt s) (reach true P st s n from) [] from ≡ refused j p

@@ -1,5 +1,5 @@
--- What this crate proves of its calls, theorem by theorem: read this file first. `searching`, `seeking`, `feeding`, `firsting` and what is told of them
--- are what the contracts say of the calls' answers.
+-- What this crate proves of its calls, theorem by theorem: read this file first. `searching`, `seeking`, `feeding`, `firsting` and what is
+-- told of them are what the contracts say of the calls' answers.
 use Prim.Native.Nat.{ℕ, suc, _+_, _≤_, _<_}
 use mathlib.Core.Path.{_≡_, refl, sym, ap, ap₂, _∙_}
 use mathlib.Core.Logic.{_⊎_, inl, inr, ⊎-elim, _↔_, by-cases}
@@ -34,7 +34,8 @@ use Rattle.search.proofs.Entries.{Entered, entering-sound, fresh-state}
 use Rattle.search.proofs.Told.{searched-once}
 use Rattle.search.proofs.Eithers.{one, either-length, either-ones, either-at}
 use Rattle.search.proofs.Chains.{steps, feeds-steps, steps-marks, steps-states, seeks-text}
-use Rattle.search.proofs.FirstHits.{hitOf, Reads, hit-first, hit-fault, first-sound, asks-clear, asks-ends, zeros-at, ones-none, ends-clear}
+use Rattle.search.proofs.FirstHits.{hitOf, Reads, hit-first, hit-fault, first-sound, asks-clear, asks-ends, zeros-at, ones-none}
+use Rattle.search.proofs.FirstHits.{ends-clear}
 
 -- the byte that a search of an accepted text leaves for segment j is its mark
 left-at : (f : Text → List ℕ) (o : Outcome Text) (out : List ℕ) (t : Text) (j : ℕ) → o ≡ ok t → j < length (f t)
@@ -43,7 +44,8 @@ unfolding over
 left-at f o out t j e l = rw e (List·getD-append (f t) (drop (0 + length (f t)) out) 0 j l)
 
 -- the byte that an accepted search leaves for segment j is 1 exactly when an occurrence ends there
-pub search-marks : (P : List ℕ) (strand : Strand) (s out : List ℕ) (t : Text) (j : ℕ) → 0 < length P → searching P s (length out) ≡ ok t → j < length t
+pub search-marks : (P : List ℕ) (strand : Strand) (s out : List ℕ) (t : Text) (j : ℕ) → 0 < length P → searching P s (length out) ≡ ok t
+    → j < length t
     → (getD (leftBy (marks (onStrand strand P)) (searching P s (length out)) out) j 0 ≡ 1) ↔ EndsIn (onStrand strand P) t j
 unfolding marks
 search-marks P strand s out t j some e l =
@@ -80,7 +82,8 @@ either-refuses P strand s out a c left both p q n k e =
 
 -- else the marks that it leaves are the union of those that the search leaves on the strand as given and on the opposite one
 pub either-unites : (P s out : List ℕ) (a b c : Searched) (given turned both : List ℕ) → Promised P Given s out a given
-    → Promised P Opposite s out b turned → PromisedEither P s out c both → (t : Text) → searching P s (length out) ≡ ok t → (j : ℕ) → j < length t
+    → Promised P Opposite s out b turned → PromisedEither P s out c both → (t : Text) → searching P s (length out) ≡ ok t → (j : ℕ)
+    → j < length t
     → (getD both j 0 ≡ 1) ↔ ((getD given j 0 ≡ 1) ⊎ (getD turned j 0 ≡ 1))
 unfolding marks
 either-unites P s out a b c given turned both p q r t e j l =
@@ -126,7 +129,8 @@ pub record Feeds (P : List ℕ) (strand : Strand) (ss : List (List ℕ)) (T : Te
       → (bit (getD (map (λ x. x .state) answers) j 0) r ≡ true) ↔ CarriedOut (onStrand strand P) T j r
 
 -- feeding any row of sound lone segments, of any number, gives exactly Grossi's ends and the lengths carried out
-pub feeds-text : (P : List ℕ) (strand : Strand) (ss : List (List ℕ)) (T : Text) → SoundPattern P → segmentsText ss ≡ ok T → Feeds P strand ss T
+pub feeds-text : (P : List ℕ) (strand : Strand) (ss : List (List ℕ)) (T : Text) → SoundPattern P → segmentsText ss ≡ ok T
+    → Feeds P strand ss T
 unfolding marks
 feeds-text P strand ss T y e =
     let Q : List ℕ = onStrand strand P in
@@ -140,14 +144,16 @@ feeds-text P strand ss T y e =
 
 -- stretches of any number, searched one after another with the state handed on: their marks laid end to end are the marks of their
 -- texts laid end to end, and the state is that behind them all; from the fresh state these are Grossi's ends, across every cut
-pub seeks-stretches : (P : List ℕ) (strand : Strand) (st room : ℕ) (ss : List (List ℕ)) (T : Text) → SoundPattern P → isState (length P) st ≡ true
+pub seeks-stretches : (P : List ℕ) (strand : Strand) (st room : ℕ) (ss : List (List ℕ)) (T : Text) → SoundPattern P
+    → isState (length P) st ≡ true
     → mostInStretch ≤ room → stretchesText ss ≡ ok T
     → seeks P strand st room ss ≡ ok (record { marks = marksFrom (onStrand strand P) st T; state = run (onStrand strand P) st T })
 seeks-stretches P strand st room ss T y i roomy e = seeks-text P strand y room roomy st ss T i e
 
 -- so mark j of the searches is 1 exactly when an occurrence ends in segment j of the whole text
 pub seeks-ends : (P : List ℕ) (strand : Strand) (room : ℕ) (ss : List (List ℕ)) (T : Text) (x : Trail) (j : ℕ) → SoundPattern P
-    → mostInStretch ≤ room → stretchesText ss ≡ ok T → seeks P strand fresh room ss ≡ ok x → (getD (x .marks) j 0 ≡ 1) ↔ EndsIn (onStrand strand P) T j
+    → mostInStretch ≤ room → stretchesText ss ≡ ok T → seeks P strand fresh room ss ≡ ok x
+    → (getD (x .marks) j 0 ≡ 1) ↔ EndsIn (onStrand strand P) T j
 unfolding marks
 seeks-ends P strand room ss T x j y roomy e f =
     let all = seeks-stretches P strand fresh room ss T y (fresh-state P (y .some)) roomy e in
@@ -155,12 +161,14 @@ seeks-ends P strand room ss T x j y roomy e f =
 
 -- the first hit of a sound stretch is the first one among the marks that a search from the same state leaves; where it leaves none, it
 -- is "none", and the state behind the stretch
-pub first-marks : (P : List ℕ) (strand : Strand) (st : ℕ) (s : List ℕ) (t : Text) → SoundPattern P → isState (length P) st ≡ true → stretchOf s ≡ ok t
+pub first-marks : (P : List ℕ) (strand : Strand) (st : ℕ) (s : List ℕ) (t : Text) → SoundPattern P → isState (length P) st ≡ true
+    → stretchOf s ≡ ok t
     → firsting P strand st s ≡ ok (hitOf (marksFrom (onStrand strand P) st t) (run (onStrand strand P) st t))
 first-marks P strand st s t y i e = first-sound P strand y st s t i e
 
 -- a segment that reads whole, in which an occurrence ends and in none before it, is the first hit, whatever stands behind it
-pub first-beats-fault : (P : List ℕ) (strand : Strand) (st : ℕ) (s : List ℕ) (n k : ℕ) (T : Text) (g : Segment) (behind : ℕ) → Entered P st s
+pub first-beats-fault : (P : List ℕ) (strand : Strand) (st : ℕ) (s : List ℕ) (n k : ℕ) (T : Text) (g : Segment) (behind : ℕ)
+    → Entered P st s
     → Reads s n (k + 1) (T ++ (g ∷ [])) behind → length T ≡ k → total (λ x. x) (marksFrom (onStrand strand P) st T) ≡ 0
     → ends (onStrand strand P) (run (onStrand strand P) st T) g ≡ true → firsting P strand st s ≡ ok (endsIn k)
 unfolding firsting

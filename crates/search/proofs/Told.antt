@@ -62,7 +62,8 @@ unfolding answerSearched
 searched-both (Searched.Marked n z m) e = (e .0, (ap (answer zeroSums) (e .0), e .1))
 searched-both (Searched.Refused r) e = (e .0, (ap (answer zeroSums) (e .0), e .1))
 
-pub first-both : (r : First) {o : Outcome Hit} → toldFirst r ≡ o → (toldFirst r ≡ o) × (answerFirst r ≡ answer zeroStop (after o (λ h. ok (stopOf h))))
+pub first-both : (r : First) {o : Outcome Hit} → toldFirst r ≡ o
+    → (toldFirst r ≡ o) × (answerFirst r ≡ answer zeroStop (after o (λ h. ok (stopOf h))))
 unfolding answerFirst
 first-both (First.Ends k) e = (e, ap (λ (o : Outcome Hit). answer zeroStop (after o (λ h. ok (stopOf h)))) e)
 first-both (First.None s) e = (e, ap (λ (o : Outcome Hit). answer zeroStop (after o (λ h. ok (stopOf h)))) e)

@@ -81,7 +81,8 @@ module _ (P : List ℕ) (st : ℕ) (v : Variant) (bits : ℕ) where
         end = bit-zero (length P - 1) ∙ sym miss ∙ t .end ∙ sym (one-ends P st v);
       }
 
-  words-hit : 0 < length P → length P ≤ 64 → {end : Bool} → Steps P st v bits end → end ≡ true → Words P st (v ∷ []) bits (1 * 2 ^ (length P - 1) % 2 ^ 64)
+  words-hit : 0 < length P → length P ≤ 64 → {end : Bool} → Steps P st v bits end → end ≡ true
+      → Words P st (v ∷ []) bits (1 * 2 ^ (length P - 1) % 2 ^ 64)
   words-hit some short t hit =
       let last : length P - 1 < 64 = omega (arith, some, short) in
       let near : length P - 1 < length P = omega (arith, some) in
@@ -91,7 +92,8 @@ module _ (P : List ℕ) (st : ℕ) (v : Variant) (bits : ℕ) where
       (record {
         state = λ r l. ap (λ (n : ℕ). bit n r) (t .state);
         fits = pow-lt near;
-        end = bit-single (length P - 1) (length P - 1) ∙ eq-eqb (length P - 1) (length P - 1) refl ∙ sym hit ∙ t .end ∙ sym (one-ends P st v);
+        end =
+            bit-single (length P - 1) (length P - 1) ∙ eq-eqb (length P - 1) (length P - 1) refl ∙ sym hit ∙ t .end ∙ sym (one-ends P st v);
       })
 
 -- the same with the other bits kept
@@ -133,19 +135,22 @@ module _ (v : Variant) (wrong : Bool) (e : wrong ≡ not (every letter v)) where
         let bad : every letter v ≡ false = not-true _ (sym e ∙ is) in
         (sym (ap not bad), λ good. absurd (true≢false (sym good ∙ bad)))
 
-    pub letters-good : wrong ≡ false → (out missed : ℕ) → Turned P st (meant v ∷ []) before out missed → LettersBy P st before v out missed false
+    pub letters-good : wrong ≡ false → (out missed : ℕ) → Turned P st (meant v ∷ []) before out missed
+        → LettersBy P st before v out missed false
     letters-good is out missed w = (sym (ap not (letters-all is)), λ _. w)
 
 -- the answers of a sweep over a variant
 module _ (P : List ℕ) (st : ℕ) (s : List ℕ) (first k at before : ℕ) where
-  pub swept-not : (j p : ℕ) → variantAt s (valuesFrom s k first) at ≡ refused j p → SweptAt P st s first k at before (Refused (record { number = j; place = p }))
+  pub swept-not : (j p : ℕ) → variantAt s (valuesFrom s k first) at ≡ refused j p
+      → SweptAt P st s first k at before (Refused (record { number = j; place = p }))
   unfolding SweptAt
   swept-not j p e = e
 
   pub swept-to : (start next : ℕ) → Whole s at start next
       → variantAt s (valuesFrom s k first) at ≡ ok (record { value = valueOf s at; next = next })
       → (size out missed : ℕ) → size ≡ counted (next - start)
-      → (every letter (take (next - start) (drop start s)) ≡ true → Turned P st (meant (take (next - start) (drop start s)) ∷ []) before out missed)
+      → (every letter (take (next - start) (drop start s)) ≡ true
+      → Turned P st (meant (take (next - start) (drop start s)) ∷ []) before out missed)
       → SweptAt P st s first k at before (To next size out missed)
   unfolding SweptAt weight
   swept-to start next w read size out missed e t =
@@ -186,7 +191,8 @@ module _ (P : List ℕ) (st : ℕ) (s : List ℕ) (first k at size out missed : 
           missing = subst (λ (n : ℕ). n < 2 ^ 64) (sym (turned .rest)) (and-lt 64 missed (others (turned .hits)) (t .missing) far);
           words =
               subst₂ (λ (a b : ℕ). Words P st (t .seen ++ (valueOf s at ∷ [])) a b) (others-and out (t .word) reached (turned .word)) hits
-              (words-more P st (t .seen) (valueOf s at) (others out) (others missed) (others reached) (turned .hits) (t .words) (turned .words));
+              (words-more P st (t .seen) (valueOf s at) (others out) (others missed) (others reached) (turned .hits) (t .words)
+              (turned .words));
         }
 
     -- the print of that variant is in the set
@@ -198,7 +204,8 @@ module _ (P : List ℕ) (st : ℕ) (s : List ℕ) (first k at size out missed : 
         noted-more s n first k set at (t .seen) noted (variant-read s _ at _ read .inside) (in-values s first k (t .seen) at size (t .sum))
         (in-values s first (k + 1) _ behind (size + more) (sweeping-more behind more reached met e .sum))
 
-    pub sweeping-refused : (n : ℕ) → k < n → (j p : ℕ) → r ≡ Refused (record { number = j; place = p }) → many (variantAt s) n [] first ≡ refused j p
+    pub sweeping-refused : (n : ℕ) → k < n → (j p : ℕ) → r ≡ Refused (record { number = j; place = p })
+        → many (variantAt s) n [] first ≡ refused j p
     unfolding SweptAt
     sweeping-refused n l j p e = in-not s first k (t .seen) at size (t .sum) n l j p (subst (SweptAt P st s first k at missed) e w)
 
@@ -208,7 +215,8 @@ module _ (P : List ℕ) (st : ℕ) (s : List ℕ) (first k at size out missed : 
   sweeping-taken some short high e =
       let near : length P - 1 < 64 = omega (arith, some, short) in
       let long : suc (length P - 1) ≡ length P = omega (arith, some) in
-      let low : others (high * 2 ^ 1 % 2 ^ 64) ≡ 2 ^ length P - 1 = low-others (length P - 1) high near e ∙ ap (λ (n : ℕ). 2 ^ n - 1) long in
+      let low : others (high * 2 ^ 1 % 2 ^ 64) ≡ 2 ^ length P - 1 =
+      low-others (length P - 1) high near e ∙ ap (λ (n : ℕ). 2 ^ n - 1) long in
       record {
         seen = t .seen;
         sum = t .sum;

@@ -45,8 +45,8 @@ fn summed(sought: Sought) -> Searched
     }
 }
 
-// The search by bit-vectors, of the pattern as the strand reads it: refusals 1, 2, 3, those of the stretch, then 10. It writes 1 or 0 for each segment; further bytes
-// stay, and a refusal changes nothing.
+// The search by bit-vectors, of the pattern as the strand reads it: refusals 1, 2, 3, those of the stretch, then 10. It writes 1 or 0 for
+// each segment; further bytes stay, and a refusal changes nothing.
 pub fn by_bits(pattern: &[u8], strand: Strand, stretch: &[u8], marks: &mut [u8]) -> Searched
     ensures { λ r. ⌜ toldSearched r ≡ after (searching (now (pattern .entry)) (now (stretch .entry)) (length (now (marks .entry))))
         (λ t. ok (sumsOf (onStrand strand (now (pattern .entry))) t)) ⌝ }

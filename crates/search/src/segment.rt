@@ -63,7 +63,8 @@ fn variant_by(
     at: usize,
 ) -> Swept
     requires { ⌜ Tools method (now pattern) (now table) (now classes) × StateOf (now pattern) bits ⌝ }
-    requires { ⌜ UpTo (now stretch) first (count - left) at × Noted (now stretch) count first (count - left) prints × (count - left < count) ⌝ }
+    requires { ⌜ UpTo (now stretch) first (count - left) at × Noted (now stretch) count first (count - left) prints
+        × (count - left < count) ⌝ }
     ensures { λ r. ⌜ SweptAt (now (pattern .entry)) bits (now (stretch .entry)) first (count - left) at before r ⌝ }
 {
     match head(stretch, at) {

@@ -16,7 +16,8 @@ use Rattle.text.proofs.Outcomes.{ok-inj, demand-met, after-met}
 use Rattle.stretch.specs.Bytes.{greatestStretch, word, wordBytes}
 use Rattle.stretch.specs.Pieces.{lettersAt, nextOf, closedAt}
 use Rattle.stretch.specs.Reading.{Taken, valueOf, among, many, variantAt, segmentAt, stretchOf, loneSegment, segmentOf}
-use Rattle.stretch.specs.Encoding.{bytesOf, encodeVariant, encodeSegment, encode, raisedText, distinct, all, writableSegment, writable}
+use Rattle.stretch.specs.Encoding.{bytesOf, encodeVariant, encodeSegment, encode, raisedText, distinct, all, writableSegment}
+use Rattle.stretch.specs.Encoding.{writable}
 use Rattle.stretch.specs.Skips.{stepped, behindSegment}
 use Rattle.stretch.specs.Standing.{lettersFrom, standingSegment, segmentsFrom, standing}
 use Rattle.stretch.proofs.Heads.{whole-letters, value-part}

@@ -164,7 +164,8 @@ module _ (s : List ℕ) (short : length s ≤ greatestStretch) where
       let rest = stands-back s at (encodeVariant v) (bytesOf encodeVariant g) h in
       ap₂ _∷_ letters (rw next (letters-encoded g (at + length (encodeVariant v)) rest))
 
-  variants-behind : (g : Segment) (at : ℕ) → Stands s at (bytesOf encodeVariant g) → stepped (nextOf s) (length g) at ≡ at + length (bytesOf encodeVariant g)
+  variants-behind : (g : Segment) (at : ℕ) → Stands s at (bytesOf encodeVariant g)
+      → stepped (nextOf s) (length g) at ≡ at + length (bytesOf encodeVariant g)
   unfolding stepped bytesOf encodeVariant wordBytes
   variants-behind [] at h = omega arith
   variants-behind (v ∷ g) at h =

@@ -46,7 +46,8 @@ unfolding firstNot letter
 first-meant [] = refl
 first-meant (c ∷ v) = ap (λ n. cond (letter c) (suc n) 0) (first-meant v)
 
-pub first-part : (l : List ℕ) (at n : ℕ) {w : ℕ} → w ≡ firstNot letter (take n (drop at l)) → w ≡ firstNot capital (take n (drop at (meant l)))
+pub first-part : (l : List ℕ) (at n : ℕ) {w : ℕ} → w ≡ firstNot letter (take n (drop at l))
+    → w ≡ firstNot capital (take n (drop at (meant l)))
 first-part l at n e = e ∙ first-meant (take n (drop at l)) ∙ ap (firstNot capital) (part-meant l at n)
 
 -- comparisons
@@ -54,7 +55,8 @@ pub alike-part : (v l : List ℕ) (at n : ℕ) → alike v (take n (drop at l)) 
 unfolding alike
 alike-part v l at n = ap (same (meant v)) (part-meant l at n)
 
-pub among-part : (l : List ℕ) (at n : ℕ) (seen : Segment) → among (meant (take n (drop at l))) seen ≡ among (take n (drop at (meant l))) seen
+pub among-part : (l : List ℕ) (at n : ℕ) (seen : Segment)
+    → among (meant (take n (drop at l))) seen ≡ among (take n (drop at (meant l))) seen
 among-part l at n seen = ap (λ (v : Variant). among v seen) (part-meant l at n)
 
 -- raised letters are as many

@@ -60,7 +60,8 @@ module _ (s : List ℕ) (v : Variant) (at rest place : ℕ) (enough : at ≤ pla
 
 -- the k variants from `place` on that end at `at` are all that begin before it
 module _ (s : List ℕ) (v : Variant) (at : ℕ) where
-  before-all : (k n place : ℕ) → behindVariants s k place ≡ at → k ≤ n → repeatedBefore s v at n place ≡ among (meant v) (valuesFrom s k place)
+  before-all : (k n place : ℕ) → behindVariants s k place ≡ at → k ≤ n
+      → repeatedBefore s v at n place ≡ among (meant v) (valuesFrom s k place)
   unfolding repeatedBefore among anyOf valuesFrom stepped alike
   before-all zero zero place e l = refl
   before-all zero (suc n) place e l =

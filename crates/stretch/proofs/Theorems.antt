@@ -83,7 +83,8 @@ pub accepted-letters :
 accepted-letters = read-letters
 
 -- What was read on to the end is an accepted stretch: its bytes are those of the segments that were read, and it means them raised.
-pub read-is-accepted : (s : List ℕ) (l : List Handed) → ReadOn s 0 0 l → (gathered l ≡ standing s) × (stretchOf s ≡ ok (raisedText (gathered l)))
+pub read-is-accepted : (s : List ℕ) (l : List Handed) → ReadOn s 0 0 l
+    → (gathered l ≡ standing s) × (stretchOf s ≡ ok (raisedText (gathered l)))
 read-is-accepted s l r =
     let (t, e) = read-accepted s l r in
     let a = reads-as s t e in

@@ -89,7 +89,8 @@ got-once (Got.Variant i k j v) (Got.Variant i′ k′ j′ v′) e =
     cc
 got-once (End j v) (End j′ v′) e = ap₂ End (ap (λ (x : Reading). x .segment) e) (ap (λ (x : Reading). x .variant) e)
 got-once (Got.Refused r j v) (Got.Refused r′ j′ v′) e =
-    let a : _≡_ {A = Outcome Found} (refused (r .number) (r .place)) (refused (r′ .number) (r′ .place)) = ap (λ (x : Reading). x .answer) e in
+    let a : _≡_ {A = Outcome Found} (refused (r .number) (r .place))
+    (refused (r′ .number) (r′ .place)) = ap (λ (x : Reading). x .answer) e in
     let i = refused-inj a in
     let w : r ≡ r′ = λ k. record { number = i .0 k; place = i .1 k } in
     let s : j ≡ j′ = ap (λ (x : Reading). x .segment) e in

@@ -92,7 +92,8 @@ module _ (letters lengths counts : List ℕ) where
 
     -- the theorem
     pub writing-writable :
-        (room : ℕ) (t : Text) → writingCapitals letters lengths counts room ≡ ok t → (t ≡ given letters lengths counts) × (writable t ≡ true)
+        (room : ℕ) (t : Text) → writingCapitals letters lengths counts room ≡ ok t
+        → (t ≡ given letters lengths counts) × (writable t ≡ true)
     unfolding writable
     writing-writable room t e =
         let m : Met letters lengths counts t = writing-met letters lengths counts room t e in

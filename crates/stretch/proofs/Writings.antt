@@ -101,7 +101,8 @@ pub record Met (letters lengths counts : List ℕ) (t : Text) : Type 0 where
   pub all : segmentsGiven letters lengths counts ≡ ok (record { value = t; next = last })
 
 pub writing-met :
-    (letters lengths counts : List ℕ) (room : ℕ) (t : Text) → writingCapitals letters lengths counts room ≡ ok t → Met letters lengths counts t
+    (letters lengths counts : List ℕ) (room : ℕ) (t : Text) → writingCapitals letters lengths counts room ≡ ok t
+    → Met letters lengths counts t
 unfolding writingCapitals
 writing-met letters lengths counts room t e =
     let a : Bool = counted letters lengths counts in

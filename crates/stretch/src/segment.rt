@@ -38,7 +38,8 @@ fn variant_at(
     at: usize,
 ) -> Part
     requires { ⌜ Classes (now classes) ⌝ }
-    requires { ⌜ UpTo (now stretch) first (count - left) at × Noted (now stretch) count first (count - left) prints × (count - left < count) ⌝ }
+    requires { ⌜ UpTo (now stretch) first (count - left) at × Noted (now stretch) count first (count - left) prints
+        × (count - left < count) ⌝ }
     ensures { λ r. ⌜ toldPart r ≡ spanAt (now (stretch .entry)) (valuesFrom (now (stretch .entry)) (count - left) first) at ⌝ }
 {
     match head(stretch, at) {

@@ -66,7 +66,8 @@ module _ (f : ℕ → Bool) (s : List ℕ) where
   unfolding every
   blocks-none n wrong e = e
 
-  pub blocks-more : (n at : ℕ) (wrong more : Bool) → Blocks n at wrong → more ≡ not (every f (take n (drop at s))) → Blocks n (at + n) (wrong || more)
+  pub blocks-more : (n at : ℕ) (wrong more : Bool) → Blocks n at wrong → more ≡ not (every f (take n (drop at s)))
+      → Blocks n (at + n) (wrong || more)
   blocks-more n at wrong more e r =
       rw (e, r, take-add at n s, every-append f (take at s) (take n (drop at s)))
       (step (every f (take at s)) (every f (take n (drop at s))) (every f (take n (drop (length s - n) s))))
@@ -83,7 +84,8 @@ module _ (f : ℕ → Bool) (s : List ℕ) where
   blocks-all n at wrong l near e = e ∙ ap not (same-truth _ _ whole parts)
     where
       last : take n (drop (length s - n) s) ≡ drop (length s - n) s
-      last = take-all n (drop (length s - n) s) (let z : length (drop (length s - n) s) ≤ n = omega (arith, length-drop (length s - n) s) in z)
+      last =
+          take-all n (drop (length s - n) s) (let z : length (drop (length s - n) s) ≤ n = omega (arith, length-drop (length s - n) s) in z)
 
       whole : (every f (take at s) && every f (take n (drop (length s - n) s))) ≡ true → every f s ≡ true
       whole h =
@@ -100,7 +102,8 @@ module _ (f : ℕ → Bool) (s : List ℕ) where
 -- by a table: a byte more is bad where it is no letter
 classed : (bad : ℕ) (b : Bool) → eqb (bitOr bad (cond b 0 1)) 0 ≡ (eqb bad 0 && b)
 classed bad true = ap (λ (n : ℕ). eqb n 0) (or-zero-r bad) ∙ sym (and-true (eqb bad 0))
-classed bad false = ne-eqb (bitOr bad 1) 0 (λ e. true≢false (sym odd ∙ ap (λ (n : ℕ). bit n 0) e ∙ bit-zero 0)) ∙ sym (and-false (eqb bad 0))
+classed bad false =
+    ne-eqb (bitOr bad 1) 0 (λ e. true≢false (sym odd ∙ ap (λ (n : ℕ). bit n 0) e ∙ bit-zero 0)) ∙ sym (and-false (eqb bad 0))
   where
     odd : bit (bitOr bad 1) 0 ≡ true
     odd = bit-or bad 1 0 ∙ or-right (bit bad 0) (bit 1 0) (bit-single 0 0)

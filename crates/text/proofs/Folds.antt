@@ -44,7 +44,8 @@ module _ (P : List ℕ) (st : ℕ) (g : Segment) (v : Variant) where
       each zero l = rw (bit-or, at g 0 l, at (v ∷ []) 0 l, at (g ++ (v ∷ [])) 0 l) (sym (or-self (bit st 0)))
       each (suc r) l =
           rw (bit-or, at g (suc r) l, at (v ∷ []) (suc r) l, at (g ++ (v ∷ [])) (suc r) l)
-          (anyOf-snoc (carries P st (suc r)) g v ∙ ap (λ (b : Bool). anyOf (carries P st (suc r)) g || b) (sym (or-false (carries P st (suc r) v))))
+          (anyOf-snoc (carries P st (suc r)) g v ∙ ap (λ (b : Bool). anyOf (carries P st (suc r)) g || b)
+          (sym (or-false (carries P st (suc r) v))))
 
   pub ends-snoc : ends P st (g ++ (v ∷ [])) ≡ (ends P st g || endsAt P st v)
   unfolding ends

@@ -37,7 +37,8 @@ module _ (P : List ℕ) {A : Type 0} {B : ℕ → Type 0} where
 
   pub alone-from : (st q : ℕ) → bit st q ≡ true → From P (2 ^ q) A B → From P st A B
   alone-from st q b (afresh e a) = afresh (rw (lone-bit q 0 .0 e) at b) a
-  alone-from st q b (carrying p c h) = carrying p (record { some = c .some; short = c .short; carried = rw (lone-bit q p .0 (c .carried)) at b }) h
+  alone-from st q b (carrying p c h) =
+      carrying p (record { some = c .some; short = c .short; carried = rw (lone-bit q p .0 (c .carried)) at b }) h
 
 -- a lone 0 brings about A alone, a lone q of 1 or more B q alone
 pub lone-fresh : (P : List ℕ) {A : Type 0} {B : ℕ → Type 0} → From P (2 ^ 0) A B → A
@@ -51,7 +52,13 @@ lone-carried P q some {B = B} (carrying p c b) = rw (lone-bit q p .0 (c .carried
 module _ (P : List ℕ) (st : ℕ) (T : Text) (some : 0 < length P) where
   run-sent : (r : ℕ) → r < length P → (bit (run P st T) r ≡ true) ↔ Sent st (λ q. run P (2 ^ q) T) (length P) r
   run-sent zero l = (
-    λ e. record { sender = 0; small = some; carried = sym (run-open P st T some) ∙ e; arrives = run-open P (2 ^ 0) T some ∙ lone-bit 0 0 .1 refl },
+    λ e. record {
+      sender = 0;
+      small = some;
+      carried = sym (run-open P st T some) ∙ e;
+      arrives = run-open P (2 ^ 0) T some
+          ∙ lone-bit 0 0 .1 refl;
+    },
     λ s.
         let e = lone-bit (s .sender) 0 .0 (sym (run-open P (2 ^ s .sender) T some) ∙ s .arrives) in
         run-open P st T some ∙ (rw e at (s .carried)),
@@ -60,7 +67,13 @@ module _ (P : List ℕ) (st : ℕ) (T : Text) (some : 0 < length P) where
       let pos : 0 < suc r = omega arith in (
         λ e.
             let a = from-alone P st some (run-is P st T (suc r) pos l e) in
-            record { sender = a .from; small = a .short; carried = a .carried; arrives = is-run P (2 ^ a .from) T (suc r) pos l (a .brings) },
+            record {
+              sender = a .from;
+              small = a .short;
+              carried = a .carried;
+              arrives = is-run P (2 ^ a .from) T (suc r) pos l
+                  (a .brings);
+            },
         λ s.
             is-run P st T (suc r) pos l
             (alone-from P st (s .sender) (s .carried) (run-is P (2 ^ s .sender) T (suc r) pos l (s .arrives))),
@@ -88,6 +101,7 @@ module _ (P : List ℕ) (st : ℕ) (T : Text) (some : 0 < length P) where
       ))
 
 -- one segment's step is linear in the state
-pub next-linear : (P : List ℕ) (st : ℕ) (g : Segment) → 0 < length P → st < 2 ^ length P → union st (λ q. next P (2 ^ q) g) (length P) ≡ next P st g
+pub next-linear : (P : List ℕ) (st : ℕ) (g : Segment) → 0 < length P → st < 2 ^ length P
+    → union st (λ q. next P (2 ^ q) g) (length P) ≡ next P st g
 unfolding run
 next-linear P st g some small = run-linear P st (g ∷ []) some small

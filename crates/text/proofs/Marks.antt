@@ -130,13 +130,16 @@ module _ (P : List ℕ) (st : ℕ) (T : Text) (j : ℕ) (some : 0 < length P) wh
           completed (m .0) q (c .short) (record { variant = h .variant; listed = h .listed; is = k })
           (run-is P st (take j T) q (c .some) (c .short) (c .carried))
 
-  ended : {A : Variant → Type 0} → Some (segment T j) A → ((s : Variant) → A s → EndsBy P (before P st T j) s) → getD (marksFrom P st T) j 0 ≡ 1
+  ended : {A : Variant → Type 0} → Some (segment T j) A → ((s : Variant) → A s → EndsBy P (before P st T j) s)
+      → getD (marksFrom P st T) j 0 ≡ 1
   ended {A} here f =
       mark-at P st T j (listed-within T j A here)
       ∙ ap (λ (b : Bool). cond b 1 0)
-      (is-ends P (before P st T j) (segment T j) (record { variant = here .variant; listed = here .listed; is = f (here .variant) (here .is) }))
+      (is-ends P (before P st T j) (segment T j)
+      (record { variant = here .variant; listed = here .listed; is = f (here .variant) (here .is) }))
 
-  finish : (q : ℕ) → 0 < q → q < length P → Leaves P st (take j T) q → Some (segment T j) (Prefix (drop q P)) → getD (marksFrom P st T) j 0 ≡ 1
+  finish : (q : ℕ) → 0 < q → q < length P → Leaves P st (take j T) q → Some (segment T j) (Prefix (drop q P))
+      → getD (marksFrom P st T) j 0 ≡ 1
   finish q pos short h here =
       ended here (λ s k. carrying q (record { some = pos; short = short; carried = is-run P st (take j T) q pos short h }) k)
 

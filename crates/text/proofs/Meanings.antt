@@ -82,7 +82,8 @@ pub meaning-shown : (c : ℕ) → shown c (meaningOf c) ≡ raised c
 unfolding meaningOf capital
 meaning-shown c = step (base (raised c)) (eqb (raised c) unknown) refl refl
   where
-    step : (b u : Bool) → base (raised c) ≡ b → eqb (raised c) unknown ≡ u → shown c (cond b (Base (raised c)) (cond u Unknown None)) ≡ raised c
+    step : (b u : Bool) → base (raised c) ≡ b → eqb (raised c) unknown ≡ u
+        → shown c (cond b (Base (raised c)) (cond u Unknown None)) ≡ raised c
     step true u e f = refl
     step false true e f = sym (eqb-true (raised c) unknown f)
     step false false e f = ⊎-elim sym (λ (x : capital (raised c) ≡ true). absurd (false≢true (rw (e, f) at x))) (raised-cases c)

@@ -34,7 +34,8 @@ unfolding marks
 marks-ends P T j some = (λ e. from-fresh P (mark-is P fresh T j some e), λ h. is-mark P fresh T j some (afresh fresh-allows h))
 
 nothing-between : (T : Text) (j : ℕ) → between T j (suc j) ≡ []
-nothing-between T j = drop-of-length-le (take (suc j) T) (let z : length (take (suc j) T) ≤ suc j = omega (arith, length-take (suc j) T) in z)
+nothing-between T j =
+    drop-of-length-le (take (suc j) T) (let z : length (take (suc j) T) ≤ suc j = omega (arith, length-take (suc j) T) in z)
 
 module _ (w : List ℕ) (T : Text) (j : ℕ) where
   -- what is begun in segment j and reaches its end is a suffix of one of its variants
@@ -45,7 +46,8 @@ module _ (w : List ℕ) (T : Text) (j : ℕ) where
       record { variant = h .begun .variant; listed = h .begun .listed; is = rw whole (h .begun .is) }
 
   begun-last : 0 < length w → Some (segment T j) (Suffix w) → Reaches w T j (suc j)
-  begun-last some h = record { start = w; rest = []; split = sym (append-nil w); some = some; begun = h; passed = rw (nothing-between T j) refl }
+  begun-last some h =
+      record { start = w; rest = []; split = sym (append-nil w); some = some; begun = h; passed = rw (nothing-between T j) refl }
 
 module _ (P : List ℕ) (T : Text) (j r : ℕ) (some : 0 < r) (short : r < length P) (l : j < length T) where
   all : length (take (suc j) T) ≡ suc j

@@ -22,7 +22,8 @@ pub refused-inj : {A : Type 0} {n p m q : ℕ} → _≡_ {A = Outcome A} (refuse
 refused-inj e = (cc, cc)
 
 -- in numbers: a refusal has zeros beside its number and place
-pub refused-zeros : {A : Type 0} (zeros : A) (o : Outcome A) (n p : ℕ) → o ≡ refused n p → answer zeros o ≡ record { number = n; place = p; value = zeros }
+pub refused-zeros : {A : Type 0} (zeros : A) (o : Outcome A) (n p : ℕ) → o ≡ refused n p
+    → answer zeros o ≡ record { number = n; place = p; value = zeros }
 refused-zeros zeros o n p e = rw e
 
 -- an accepted answer has met the demand
@@ -36,7 +37,8 @@ after-met (ok a) f b e = (a, refl, e)
 after-met (refused n p) f b e = absurd (refused-ok n p b e)
 
 -- what is done after a demand is done after what follows it
-pub after-demand : {A B : Type 0} (t : Bool) (n p : ℕ) (o : Outcome A) (f : A → Outcome B) → after (demand t n p o) f ≡ demand t n p (after o f)
+pub after-demand : {A B : Type 0} (t : Bool) (n p : ℕ) (o : Outcome A) (f : A → Outcome B)
+    → after (demand t n p o) f ≡ demand t n p (after o f)
 after-demand true n p o f = refl
 after-demand false n p o f = refl
 
@@ -48,7 +50,8 @@ same-fate (ok a) (refused n p) z f g x y = refused-ok n p z (y (f a refl))
 same-fate (refused n p) (ok b) z f g x y = refused-ok n p z (x (g b refl))
 same-fate (refused n p) (refused m q) z f g x y = tt
 
-pub after-after : {A B C : Type 0} (o : Outcome A) (f : A → Outcome B) (g : B → Outcome C) → after (after o f) g ≡ after o (λ a. after (f a) g)
+pub after-after : {A B C : Type 0} (o : Outcome A) (f : A → Outcome B) (g : B → Outcome C)
+    → after (after o f) g ≡ after o (λ a. after (f a) g)
 after-after (ok a) f g = refl
 after-after (refused n p) f g = refl
 

@@ -17,7 +17,8 @@ use Rattle.text.proofs.Truth.{or-false, same-truth, not-true-false}
 use Rattle.text.proofs.Tests.{eq-test, and-test, or-test}
 use Rattle.text.proofs.Bits.{bit-ext}
 use Rattle.text.proofs.Snoc.{_▸_, snoc-inj, suffix-less, suffix-more, prefix-less, prefix-more, inside-less, inside-more}
-use Rattle.text.proofs.Steps.{split-length, front-length, afresh, carrying, CarriedBy, EndsBy, next-open, next-lt, next-is, is-next, ends-is, is-ends}
+use Rattle.text.proofs.Steps.{split-length, front-length, afresh, carrying, CarriedBy, EndsBy, next-open, next-lt, next-is, is-next}
+use Rattle.text.proofs.Steps.{ends-is, is-ends}
 
 -- a segment with one variant: bit r of the next state, bit 0 included
 module _ (P : List ℕ) (st : ℕ) (v : Variant) where
@@ -30,7 +31,8 @@ module _ (P : List ℕ) (st : ℕ) (v : Variant) where
       absurd (let z : ⊥ = omega (arith, split-length P (take q P) v 0 zero-le e, front-length P q c, c .some) in z)
 
   pub one-carried : (r : ℕ) → r < length P → (bit (next P st (v ∷ [])) r ≡ true) ↔ CarriedBy P st r v
-  one-carried zero short = (λ e. open-carried (sym (next-open P st (v ∷ []) short) ∙ e), λ h. next-open P st (v ∷ []) short ∙ carried-open h)
+  one-carried zero short =
+      (λ e. open-carried (sym (next-open P st (v ∷ []) short) ∙ e), λ h. next-open P st (v ∷ []) short ∙ carried-open h)
   one-carried (suc r) short =
       let some : 0 < suc r = omega arith in (
         λ e. let h = next-is P st (v ∷ []) (suc r) some short e in rw (← List·Memᴰ·eq-of-singleton (h .listed)) (h .is),
@@ -116,7 +118,8 @@ module _ (P : List ℕ) (st : ℕ) (v : Variant) (c : ℕ) where
     ends-less (afresh e h) =
         ⊎-elim
         (λ (k : Inside P v). inl (afresh e k))
-        (λ (k : Suffix P (v ▸ c)). let s = suffix-less v c (take n P) (getD P n 0) (subst (λ (p : List ℕ). Suffix p (v ▸ c)) split k) in inr (afresh e (s .0), s .1))
+        (λ (k : Suffix P (v ▸ c)). let s = suffix-less v c (take n P) (getD P n 0) (subst (λ (p : List ℕ). Suffix p (v ▸ c)) split k) in inr
+        (afresh e (s .0), s .1))
         (inside-less v c P h)
     ends-less (carrying q k h) =
         ⊎-elim

@@ -44,7 +44,11 @@ module _ (s : List ℕ) (c : ℕ) where
 
   pub suffix-more : (p : List ℕ) (a : ℕ) → Suffix p s → a ≡ c → Suffix (p ▸ a) (s ▸ c)
   suffix-more p a h e =
-      record { start = h .start; split = ap (λ (t : List ℕ). t ▸ c) (h .split) ∙ append-assoc (h .start) p (c ∷ []) ∙ ap (λ (x : ℕ). h .start ++ (p ▸ x)) (sym e) }
+      record {
+        start = h .start;
+        split = ap (λ (t : List ℕ). t ▸ c) (h .split) ∙ append-assoc (h .start) p (c ∷ [])
+            ∙ ap (λ (x : ℕ). h .start ++ (p ▸ x)) (sym e);
+      }
 
   -- a prefix that ends before the last letter, or with it
   pub prefix-less : (p : List ℕ) → Prefix p (s ▸ c) → Prefix p s ⊎ (p ≡ s ▸ c)
@@ -71,7 +75,8 @@ module _ (s : List ℕ) (c : ℕ) where
             rest = t;
             split =
                 snoc-inj s (h .start ++ (p ++ t)) c d
-                (e ∙ ap (λ (x : List ℕ). h .start ++ x) (sym (append-assoc p t (d ∷ []))) ∙ sym (append-assoc (h .start) (p ++ t) (d ∷ []))) .0;
+                (e ∙ ap (λ (x : List ℕ). h .start ++ x) (sym (append-assoc p t (d ∷ [])))
+                ∙ sym (append-assoc (h .start) (p ++ t) (d ∷ []))) .0;
           })
 
   pub inside-more : (p : List ℕ) → Inside p s ⊎ Suffix p (s ▸ c) → Inside p (s ▸ c)

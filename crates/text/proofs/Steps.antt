@@ -15,7 +15,8 @@ use Rattle.text.specs.Compare.{same, prefix, suffix, inside}
 use Rattle.text.specs.Occurrence.{Prefix, Suffix, Inside, Some}
 use Rattle.text.specs.Bits.{bit, anyBelow, anyOf}
 use Rattle.text.specs.State.{brings, sends, carries, nextBit, next, endsAt, ends}
-use Rattle.text.proofs.Truth.{or-cases, or-left, or-right, and-left, and-right, and-both, anyOf-some, some-anyOf, anyBelow-some, some-anyBelow, Below}
+use Rattle.text.proofs.Truth.{or-cases, or-left, or-right, and-left, and-right, and-both, anyOf-some, some-anyOf, anyBelow-some}
+use Rattle.text.proofs.Truth.{some-anyBelow, Below}
 use Rattle.text.proofs.Bits.{bit-fromBits, fromBits-lt}
 use Rattle.text.proofs.Strings.{same-eq, eq-same, prefix-is, is-prefix, suffix-is, is-suffix, inside-is, is-inside}
 
@@ -93,7 +94,12 @@ module _ (P : List ℕ) (st : ℕ) (a : Bool) (b : ℕ → Bool) where
           let q = h .index in
           let front = and-left (ltb 0 q && bit st q) (b q) (h .passes) in
           carrying q
-          (record { some = ltb-true 0 q (and-left (ltb 0 q) (bit st q) front); short = h .small; carried = and-right (ltb 0 q) (bit st q) front })
+          (record {
+            some = ltb-true 0 q (and-left (ltb 0 q) (bit st q) front);
+            short = h .small;
+            carried = and-right (ltb 0 q)
+                (bit st q) front;
+          })
           (and-right (ltb 0 q && bit st q) (b q) (h .passes))
 
   is-brings : From P st (a ≡ true) (λ q. b q ≡ true) → brings P st a b ≡ true

@@ -17,7 +17,8 @@ use Rattle.text.specs.Occurrence.{EndsIn, Passes, Finishes}
 use Rattle.text.specs.Bits.{bit}
 use Rattle.text.specs.State.{isState, run, marksFrom}
 use Rattle.text.specs.Refusal.{ok, greatestPattern}
-use Rattle.text.specs.Card.{Row, none, dead, row, later, firstEnd, ran, rowsOf, cardOf, emptyCard, follow, onward, through, joined, join, ask, padded, mostSegments}
+use Rattle.text.specs.Card.{Row, none, dead, row, later, firstEnd, ran, rowsOf, cardOf, emptyCard, follow, onward, through, joined}
+use Rattle.text.specs.Card.{join, ask, padded, mostSegments}
 use Rattle.text.proofs.Truth.{and-right}
 use Rattle.text.proofs.Patterns.{SoundPattern}
 use Rattle.text.proofs.Bits.{bit-single, lone-bit}
@@ -42,7 +43,8 @@ pub follow-text : (P : List ℕ) (st : ℕ) (T : Text) → 0 < length P → leng
     follow (length P) (cardOf P T .rows) st ≡ ran P st T
 unfolding cardOf ran
 follow-text P st T some short small =
-    follow-rowsOf (length P) (λ q. ran P (2 ^ q) T) st short ∙ λ i. record { exit = run-linear P st T some small i; first = first-linear P st T some i }
+    follow-rowsOf (length P) (λ q. ran P (2 ^ q) T) st short
+    ∙ λ i. record { exit = run-linear P st T some small i; first = first-linear P st T some i }
 
 -- rows sent through a map that keeps dead rows dead
 map-rowsOf : (m : ℕ) (f g : ℕ → Row) (h : Row → Row) → m ≤ greatestPattern → h dead ≡ dead → ((q : ℕ) → q < m → h (f q) ≡ g q) →
@@ -59,7 +61,8 @@ map-rowsOf m f g h short kept e =
         ap h (rowsOf-from m f q far) ∙ kept ∙ sym (rowsOf-from m g q far))
 
 -- the card of two texts end to end is the join of their cards
-pub card-append : (P : List ℕ) (T U : Text) → 0 < length P → length P ≤ greatestPattern → cardOf P (T ++ U) ≡ joined (cardOf P T) (cardOf P U)
+pub card-append : (P : List ℕ) (T U : Text) → 0 < length P → length P ≤ greatestPattern
+    → cardOf P (T ++ U) ≡ joined (cardOf P T) (cardOf P U)
 unfolding joined cardOf ran
 card-append P T U some short =
     λ i. record { pattern = cardOf P T .pattern; m = length P; segments = length-append T U i; rows = sym rows i }
@@ -72,7 +75,8 @@ card-append P T U some short =
         ap (onward (length T) (ran P (2 ^ q) T)) (follow-text P (run P (2 ^ q) T) U some short (run-lt P (2 ^ q) T (pow-lt l)))
         ∙ sym (ran-append P (2 ^ q) T U)
 
-    rows : map (through (length P) (length T) next) (rowsOf (length P) (λ q. ran P (2 ^ q) T)) ≡ rowsOf (length P) (λ q. ran P (2 ^ q) (T ++ U))
+    rows : map (through (length P) (length T) next) (rowsOf (length P) (λ q. ran P (2 ^ q) T))
+        ≡ rowsOf (length P) (λ q. ran P (2 ^ q) (T ++ U))
     rows = map-rowsOf (length P) _ _ (through (length P) (length T) next) short (through-dead (length P) (length T) next) each
 
 -- the first number of which A holds, or "none"

@@ -29,7 +29,8 @@ module _ {d out : List ℕ} {at next : ℕ} where
   unfolding hitLine
   hit-put label before j name e p = rw e at p
 
-  pub clear-put : (label : ℕ) (x : Standing) → x .ends ≡ 0 → Put d at (digits label ++ clearWord) out next → Put d at (standingLine label x) out next
+  pub clear-put : (label : ℕ) (x : Standing) → x .ends ≡ 0 → Put d at (digits label ++ clearWord) out next
+      → Put d at (standingLine label x) out next
   unfolding standingLine
   clear-put label x e p = rw (eq-eqb (x .ends) 0 e) p
 
@@ -39,7 +40,8 @@ module _ {d out : List ℕ} {at next : ℕ} where
   unfolding standingLine
   held-put label x e p = rw (ne-eqb (x .ends) 0 e) p
 
-  pub last-clear : {whole : Bool} {ends : ℕ} → whole ≡ true → ends ≡ 0 → Put d at clearLine out next → Put d at (lastLine whole ends) out next
+  pub last-clear : {whole : Bool} {ends : ℕ} → whole ≡ true → ends ≡ 0 → Put d at clearLine out next
+      → Put d at (lastLine whole ends) out next
   unfolding lastLine
   last-clear {whole} {ends} w e p = rw (w, eq-eqb ends 0 e) p
 
@@ -47,6 +49,7 @@ module _ {d out : List ℕ} {at next : ℕ} where
   unfolding lastLine
   last-part ends w p = rw w p
 
-  pub last-held : {whole : Bool} {ends : ℕ} → whole ≡ true → (ends ≡ 0 → ⊥) → Put d at heldLine out next → Put d at (lastLine whole ends) out next
+  pub last-held : {whole : Bool} {ends : ℕ} → whole ≡ true → (ends ≡ 0 → ⊥) → Put d at heldLine out next
+      → Put d at (lastLine whole ends) out next
   unfolding lastLine
   last-held {whole} {ends} w e p = rw (w, ne-eqb ends 0 e) p

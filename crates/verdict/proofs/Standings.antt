@@ -37,7 +37,8 @@ pub sought-sound : (P : List ℕ) (st : ℕ) (s : List ℕ) (room : ℕ) (t : Te
     → Entered P st s × (stretchOf s ≡ ok t) × (length t ≤ room)
 unfolding seeking into
 sought-sound P st s room t e =
-    let (_, f, g) = after-met (entering P st s (ok (tt {0}))) (λ _. stretchInto s room) t (sym (entering-after P st s (stretchInto s room)) ∙ e) in
+    let (_, f, g) = after-met (entering P st s (ok (tt {0}))) (λ _. stretchInto s room) t
+    (sym (entering-after P st s (stretchInto s room)) ∙ e) in
     let (u, h, k) = after-met (stretchOf s) (λ x. demand (leb (length x) room) 10 0 (ok x)) t g in
     let (fit, same) = demand-met (leb (length u) room) 10 0 (ok u) t k in
     let few : length u ≤ room = leb-true (length u) room fit in
@@ -154,12 +155,18 @@ module _ (P : List ℕ) (x : Standing) (s : List ℕ) (room : ℕ) where
           b ∙ ap (plus (x .ends)) (c ∙ ap (λ (l : List ℕ). length (markedFrom 0 l)) united-is) in
           let back : turned .bits ≡ run (opposite P) (x .opposite .bits) t =
           sym (g .state) ∙ ap (run (opposite P) (x .opposite .bits)) both in
-          let is : record { segments = n; standing = record { given = own; opposite = turned; segments = all; ends = ends } } ≡ behind P x t =
+          let is : record { segments = n; standing = record { given = own; opposite = turned; segments = all; ends = ends } }
+          ≡ behind P x t =
           λ i.
           record {
             segments = sym (f .count) i;
             standing =
-                record { given = record { bits = sym (f .state) i }; opposite = record { bits = back i }; segments = many i; ends = more i };
+                record {
+                  given = record { bits = sym (f .state) i };
+                  opposite = record { bits = back i };
+                  segments = many i;
+                  ends = more i;
+                };
           } in (
             ap ok is ∙ sym (ap (λ (o : Outcome Text). after o (λ u. ok (behind P x u))) passes-text),
             λ u h.

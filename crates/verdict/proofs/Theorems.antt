@@ -1,5 +1,5 @@
--- What this crate proves of its calls, theorem by theorem: read this file first. `passing`, `stood` and `bothMarks` are what the contract of
--- `pass` says of its answer, `stands` is that call on one stretch after another, each from where the one before has led, and `night` is
+-- What this crate proves of its calls, theorem by theorem: read this file first. `passing`, `stood` and `bothMarks` are what the contract
+-- of `pass` says of its answer, `stands` is that call on one stretch after another, each from where the one before has led, and `night` is
 -- that for each sequence of a list. `halting`, `halts` and `firstNight` are the same of `pass_first`.
 use Prim.Native.Nat.{ℕ, zero, suc, _+_, _≤_, _<_, _-_, _^_, min}
 use native.Mathlib.Omega.{arith}
@@ -81,7 +81,8 @@ module _ (P : List ℕ) (T t : Text) where
   at-more : (x : Standing) → At P T x → At P (T ++ t) (stood P x t)
   unfolding stood
   at-more x a =
-      let counted : length (markedFrom 0 (eitherMarks P (T ++ t))) ≡ length (markedFrom 0 (eitherMarks P T)) + length (markedFrom 0 (bothMarks P x t)) =
+      let counted : length (markedFrom 0 (eitherMarks P (T ++ t))) ≡ length (markedFrom 0 (eitherMarks P T)) + length
+      (markedFrom 0 (bothMarks P x t)) =
       ap (λ (l : List ℕ). length (markedFrom 0 l)) (marks-behind x a) ∙ count-append 0 (eitherMarks P T) (bothMarks P x t) in
       record {
         own = ap (λ (st : ℕ). run P st t) (a .own) ∙ sym (run-append P fresh T t);
@@ -108,7 +109,8 @@ pub record Stood (P : List ℕ) (T : Text) (ss : List (List ℕ)) (y : Standing)
   pub accepted : stretchesText ss ≡ ok text
   pub at : At P (T ++ text) y
 
-pub stands-from : (P : List ℕ) (T : Text) (x : Standing) (ss : List (List ℕ)) (y : Standing) → At P T x → stands P x ss ≡ ok y → Stood P T ss y
+pub stands-from : (P : List ℕ) (T : Text) (x : Standing) (ss : List (List ℕ)) (y : Standing) → At P T x → stands P x ss ≡ ok y
+    → Stood P T ss y
 unfolding stands stretchesText
 stands-from P T x [] y a e =
     let same : x ≡ y = ok-inj e in
@@ -224,7 +226,8 @@ module _ (P : List ℕ) (T t U : Text) (x : Standing) (a : At P T x) where
     λ m.
         let (k, is, marked) = named-is 0 (bothMarks P x t) j m in
         let same : k ≡ j = omega (arith, is) in
-        on-ends P (T ++ (t ++ U)) Either (length T + j) (sound .some) .0 (mark-there j l ∙ ap (λ (i : ℕ). getD (bothMarks P x t) i 0) (sym same) ∙ marked),
+        on-ends P (T ++ (t ++ U)) Either (length T + j) (sound .some) .0
+        (mark-there j l ∙ ap (λ (i : ℕ). getD (bothMarks P x t) i 0) (sym same) ∙ marked),
     λ h.
         let marked : getD (bothMarks P x t) j 0 ≡ 1 =
         sym (mark-there j l) ∙ on-ends P (T ++ (t ++ U)) Either (length T + j) (sound .some) .1 h in

@@ -43,7 +43,8 @@ pub record Uniting (other own out : List ℕ) (marked i : ℕ) : Type 0 where
   pub same : length out ≡ length own
   pub done : (j : ℕ) → j < i → getD out j 0 ≡ getD (united (take (length other) own) other) j 0
   pub rest : (j : ℕ) → i ≤ j → getD out j 0 ≡ getD own j 0
-  pub count : marked + length (from (united (take (length other) own) other) i) ≡ length (markedFrom 0 (united (take (length other) own) other))
+  pub count : marked + length (from (united (take (length other) own) other) i)
+      ≡ length (markedFrom 0 (united (take (length other) own) other))
   pub small : marked ≤ i
 
 pub uniting-none : (other own : List ℕ) → length other ≤ length own → Uniting other own own 0 0
@@ -87,7 +88,8 @@ module _ {other own out : List ℕ} {marked i : ℕ} (q : Uniting other own out 
   uniting-more l mark more is ones few =
       let inside : i < length out = uniting-room l in
       let at : mark ≡ getD u i 0 = is ∙ here l in
-      let counted : length (from u i) ≡ one (getD u i 0) + length (from u (i + 1)) = from-one u i (let z : i < length u = omega (arith, long) in z) in
+      let counted : length (from u i) ≡ one (getD u i 0) + length (from u (i + 1)) =
+      from-one u i (let z : i < length u = omega (arith, long) in z) in
       let one-here : more ≡ one (getD u i 0) = ones ∙ ap one at in
       record {
         few = q .few;
@@ -134,7 +136,11 @@ module _ {marks : List ℕ} {start j : ℕ} (p : Passing marks start j) where
   passing-more l e =
       let step : firstNot (λ x. not (eqb x 1)) (drop j marks) ≡ suc (firstNot (λ x. not (eqb x 1)) (drop (j + 1) marks)) =
       first-at (λ x. not (eqb x 1)) marks j l ∙ rw (ne-eqb (getD marks j 0) 1 e) refl in
-      record { upto = omega (arith, p .upto); same = p .same ∙ (let z : nextMarked marks j ≡ nextMarked marks (j + 1) = omega (arith, step) in z) }
+      record {
+        upto = omega (arith, p .upto);
+        same = p .same
+            ∙ (let z : nextMarked marks j ≡ nextMarked marks (j + 1) = omega (arith, step) in z);
+      }
 
   pub passing-marked : j < length marks → getD marks j 0 ≡ 1 → j ≡ nextMarked marks start
   unfolding nextMarked

@@ -80,7 +80,12 @@ module _ {k : Kind} {s : List ℕ} {start i : ℕ} (p : Skipping k s start i) wh
   unfolding past
   skipping-more l e =
       let step : firstNot (of k) (drop i s) ≡ suc (firstNot (of k) (drop (i + 1) s)) = first-at (of k) s i l ∙ rw e refl in
-      record { upto = omega (arith, p .upto); inside = omega arith; same = p .same ∙ (let z : past k s i ≡ past k s (i + 1) = omega (arith, step) in z) }
+      record {
+        upto = omega (arith, p .upto);
+        inside = omega arith;
+        same = p .same
+            ∙ (let z : past k s i ≡ past k s (i + 1) = omega (arith, step) in z);
+      }
 
   pub skipping-stop : i < length s → of k (getD s i 0) ≡ false → i ≡ past k s start
   unfolding past

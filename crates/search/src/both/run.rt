@@ -38,7 +38,8 @@ fn run_both(
     segments: usize,
     marks: &mut [u8],
 ) -> RanBoth
-    requires { ⌜ Vectors (now pattern) (evens (now table)) (now classes) × Vectors (opposite (now pattern)) (odds (now table)) (now classes) ⌝ }
+    requires { ⌜ Vectors (now pattern) (evens (now table)) (now classes)
+        × Vectors (opposite (now pattern)) (odds (now table)) (now classes) ⌝ }
     requires { ⌜ (at ≤ length (now stretch)) × RoomyFrom (now stretch) at segments (now marks) ⌝ }
     ensures { λ r. ⌜ toldRanBoth r
         ≡ after (many (λ _. segmentAt (now (stretch .entry))) segments [] at) (λ x. ok (eitherCourse (now (pattern .entry)) x)) ⌝ }
@@ -85,7 +86,8 @@ pub fn stretch_both(
     stretch: &[u8],
     marks: &mut [u8],
 ) -> Searched
-    requires { ⌜ Vectors (now pattern) (evens (now table)) (now classes) × Vectors (opposite (now pattern)) (odds (now table)) (now classes) ⌝ }
+    requires { ⌜ Vectors (now pattern) (evens (now table)) (now classes)
+        × Vectors (opposite (now pattern)) (odds (now table)) (now classes) ⌝ }
     requires { ⌜ Roomy (now stretch) (now marks) ⌝ }
     ensures { λ r. ⌜ toldSearched r ≡ after (stretchOf (now (stretch .entry))) (λ t. ok (eitherSums (now (pattern .entry)) t)) ⌝ }
     ensures { λ r. ⌜ MarksOf (eitherMarks (now (pattern .entry))) (stretchOf (now (stretch .entry))) (now (marks .exit)) ⌝ }

@@ -60,7 +60,8 @@ fn variant_both(
     left: usize,
     at: usize,
 ) -> SweptBoth
-    requires { ⌜ UpTo (now stretch) first (count - left) at × Noted (now stretch) count first (count - left) prints × (count - left < count) ⌝ }
+    requires { ⌜ UpTo (now stretch) first (count - left) at × Noted (now stretch) count first (count - left) prints
+        × (count - left < count) ⌝ }
     ensures { λ r. ⌜ SweptBy (evens (now (table .entry))) (now (classes .entry)) (bits .given) (now (stretch .entry)) first
         (count - left) at (before .given) (sweptGiven r) ⌝ }
     ensures { λ r. ⌜ SweptBy (odds (now (table .entry))) (now (classes .entry)) (bits .opposite) (now (stretch .entry)) first
@@ -103,9 +104,11 @@ impl Pair {
         at: usize,
     ) -> PassedBoth
         requires { ⌜ Vectors (now pattern) (evens (now table)) (now classes) × StateOf (now pattern) (self .given) ⌝ }
-        requires { ⌜ Vectors (opposite (now pattern)) (odds (now table)) (now classes) × StateOf (opposite (now pattern)) (self .opposite) ⌝ }
+        requires { ⌜ Vectors (opposite (now pattern)) (odds (now table)) (now classes)
+            × StateOf (opposite (now pattern)) (self .opposite) ⌝ }
         ensures { λ r. ⌜ toldPassed (passedGiven r) ≡ segmentPass (now (pattern .entry)) (self .given) (now (stretch .entry)) at ⌝ }
-        ensures { λ r. ⌜ toldPassed (passedOpposite r) ≡ segmentPass (opposite (now (pattern .entry))) (self .opposite) (now (stretch .entry)) at ⌝ }
+        ensures { λ r. ⌜ toldPassed (passedOpposite r)
+            ≡ segmentPass (opposite (now (pattern .entry))) (self .opposite) (now (stretch .entry)) at ⌝ }
     {
         let count = match variants(stretch, at) {
             Counted::Refused(wrong) => {

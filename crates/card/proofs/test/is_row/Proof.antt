@@ -5,7 +5,8 @@ use mathlib.Core.Path.{_≡_}
 use mathlib.Core.Bool.{true}
 use mathlib.Core.Logic.{⊎-elim}
 use lib.Dec.{ltb}
-use Rattle.card.proofs.Formed.{freshOf, fresh-first, fresh-other, row-leaves, row-rests, row-stale, row-wide, row-none, row-ends, above-low, below-low}
+use Rattle.card.proofs.Formed.{freshOf, fresh-first, fresh-other, row-leaves, row-rests, row-stale, row-wide, row-none, row-ends}
+use Rattle.card.proofs.Formed.{above-low, below-low}
 use Rattle.card.proofs.test.is_row.Statement.{statement}
 use Rattle.card.proofs.test.is_row.Tie as tie
 

@@ -14,7 +14,8 @@ told-requires c κs =
     let d = c .before .before .before in
     let a = d .before .before .before .before .before .before .before .args in (
       d .before .before .if1 .left,
-      sought-fits (a .pattern .now) (a .strand) (a .state) (a .stretch .now) (a .marks .now) (a .block .now) (d .through .result) (d .through .ensures .0),
+      sought-fits (a .pattern .now) (a .strand) (a .state) (a .stretch .now) (a .marks .now) (a .block .now) (d .through .result)
+          (d .through .ensures .0),
     )
 
 returns-2 : tie.Need-returns-2
@@ -22,7 +23,8 @@ returns-2 c =
     let e = c .before .before in
     let d = e .before .before .before .before in
     let a = d .before .before .before .before .before .before .before .args in
-    form-room (a .pattern .now) (a .strand) (a .state) (a .stretch .now) (a .marks .now) (a .block .now) (d .through .result) (d .through .ensures .0) _ _ _
+    form-room (a .pattern .now) (a .strand) (a .state) (a .stretch .now) (a .marks .now) (a .block .now) (d .through .result)
+    (d .through .ensures .0) _ _ _
     (d .before .before .if1 .left) (d .through .ensures .1 .1) (e .told .ensures)
 
 pub form-spec : {M : Type 1} → statement M

@@ -6,7 +6,8 @@ use Rattle.cerantuh.proofs.from.told.Tie as tie
 
 code-requires : tie.Need-code-requires
 code-requires c κs =
-    told-fits _ (c .before .before .before .before .args .block .now) _ (c .before .sought .given .1) (c .before .before .before .before .pre .1)
+    told-fits _ (c .before .before .before .before .args .block .now) _ (c .before .sought .given .1)
+    (c .before .before .before .before .pre .1)
 
 returns : tie.Need-returns
 returns c = told-not _ _ _ _ (c .before .before .sought .given .1) (c .code .ensures)
@@ -19,7 +20,8 @@ returns-2 c =
     let first = second .before .before .before .before in
     let marked = first .before .before .before in
     let start = marked .before .before .before in
-    told-put _ (start .args .block .now) _ _ _ _ _ _ _ _ (marked .sought2 .given .1) (start .pre .0) (first .put .ensures) (second .put2 .ensures)
+    told-put _ (start .args .block .now) _ _ _ _ _ _ _ _ (marked .sought2 .given .1) (start .pre .0) (first .put .ensures)
+    (second .put2 .ensures)
     (third .put3 .ensures) (fourth .put4 .ensures)
 
 pub told-spec : {M : Type 1} → statement M

@@ -12,8 +12,11 @@ told-requires : tie.Need-told-requires
 told-requires c κs =
     let d = c .before .before .before in
     let w = d .before .before in
-    let a = w .before .before .before .before .before .args in
-    (w .if1 .left, searched-fits (eitherMarks (a .pattern .now)) (eitherSums (a .pattern .now)) (a .pattern .now) (a .stretch .now) (a .marks .now) (a .block .now) (d .either .result) (d .either .ensures .0))
+    let a = w .before .before .before .before .before .args in (
+      w .if1 .left,
+      searched-fits (eitherMarks (a .pattern .now)) (eitherSums (a .pattern .now)) (a .pattern .now) (a .stretch .now)
+          (a .marks .now) (a .block .now) (d .either .result) (d .either .ensures .0),
+    )
 
 returns-2 : tie.Need-returns-2
 returns-2 c =
@@ -21,7 +24,8 @@ returns-2 c =
     let d = e .before .before .before .before in
     let w = d .before .before in
     let a = w .before .before .before .before .before .args in
-    form-room (eitherMarks (a .pattern .now)) (eitherSums (a .pattern .now)) (a .pattern .now) (a .stretch .now) (a .marks .now) (a .block .now) (d .either .result) (d .either .ensures .0) _ _ _
+    form-room (eitherMarks (a .pattern .now)) (eitherSums (a .pattern .now)) (a .pattern .now) (a .stretch .now) (a .marks .now)
+    (a .block .now) (d .either .result) (d .either .ensures .0) _ _ _
     (w .if1 .left) (d .either .ensures .1 .1) (e .told .ensures)
 
 pub cerantuh-search-either-spec : {M : Type 1} → statement M

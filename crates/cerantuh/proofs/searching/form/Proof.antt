@@ -15,15 +15,21 @@ told-requires : tie.Need-told-requires
 told-requires c κs =
     let d = c .before .before .before in
     let a = d .before .before .before .before .before .before .before .before .before .args in
-    let Q : List ℕ = onStrand (a .strand) (a .pattern .now) in
-    (d .before .before .before .before .if1 .left, searched-fits (marked Q) (sumsOf Q) (a .pattern .now) (a .stretch .now) (a .marks .now) (a .block .now) (d .by-bits .result) (d .by-bits .ensures .0))
+    let Q : List ℕ = onStrand (a .strand) (a .pattern .now) in (
+      d .before .before .before .before .if1 .left,
+      searched-fits (marked Q) (sumsOf Q) (a .pattern .now) (a .stretch .now) (a .marks .now)
+          (a .block .now) (d .by-bits .result) (d .by-bits .ensures .0),
+    )
 
 told-requires-2 : tie.Need-told-requires-2
 told-requires-2 c κs =
     let d = c .before .before .before in
     let a = d .before .before .before .before .before .before .before .before .before .args in
-    let Q : List ℕ = onStrand (a .strand) (a .pattern .now) in
-    (d .before .before .before .before .if1 .left, searched-fits (marked Q) (sumsOf Q) (a .pattern .now) (a .stretch .now) (a .marks .now) (a .block .now) (d .by-borders .result) (d .by-borders .ensures .0))
+    let Q : List ℕ = onStrand (a .strand) (a .pattern .now) in (
+      d .before .before .before .before .if1 .left,
+      searched-fits (marked Q) (sumsOf Q) (a .pattern .now) (a .stretch .now) (a .marks .now)
+          (a .block .now) (d .by-borders .result) (d .by-borders .ensures .0),
+    )
 
 returns-2 : tie.Need-returns-2
 returns-2 c =
@@ -31,7 +37,8 @@ returns-2 c =
     let d = e .before .before .before .before in
     let a = d .before .before .before .before .before .before .before .before .before .args in
     let Q : List ℕ = onStrand (a .strand) (a .pattern .now) in
-    form-room (marked Q) (sumsOf Q) (a .pattern .now) (a .stretch .now) (a .marks .now) (a .block .now) (d .by-bits .result) (d .by-bits .ensures .0) _ _ _
+    form-room (marked Q) (sumsOf Q) (a .pattern .now) (a .stretch .now) (a .marks .now) (a .block .now) (d .by-bits .result)
+    (d .by-bits .ensures .0) _ _ _
     (d .before .before .before .before .if1 .left) (d .by-bits .ensures .1 .1) (e .told .ensures)
 
 returns-3 : tie.Need-returns-3
@@ -40,7 +47,8 @@ returns-3 c =
     let d = e .before .before .before .before in
     let a = d .before .before .before .before .before .before .before .before .before .args in
     let Q : List ℕ = onStrand (a .strand) (a .pattern .now) in
-    form-room (marked Q) (sumsOf Q) (a .pattern .now) (a .stretch .now) (a .marks .now) (a .block .now) (d .by-borders .result) (d .by-borders .ensures .0) _ _ _
+    form-room (marked Q) (sumsOf Q) (a .pattern .now) (a .stretch .now) (a .marks .now) (a .block .now) (d .by-borders .result)
+    (d .by-borders .ensures .0) _ _ _
     (d .before .before .before .before .if1 .left) (d .by-borders .ensures .1 .1) (e .told2 .ensures)
 
 pub form-spec : {M : Type 1} → statement M

@@ -1,5 +1,5 @@
--- `clinic::reference::take` meets its contract. The loop's invariant, `Takes`: the bytes that are left lead to what all of them lead to, and
--- there is room for the bases that are wanted. The measure is the number of these bytes.
+-- `clinic::reference::take` meets its contract. The loop's invariant, `Takes`: the bytes that are left lead to what all of them lead to,
+-- and there is room for the bases that are wanted. The measure is the number of these bytes.
 use Prim.Native.Nat.{_-_, _<_}
 use native.Mathlib.Omega.{arith}
 use mathlib.Core.Path.{ap, sym, _∙_}

@@ -1,5 +1,5 @@
--- `clinic::short::read_line` meets its contract. The loop's invariant, `Reads`: the bytes that are left lead to what all of them lead to. The
--- measure is their number.
+-- `clinic::short::read_line` meets its contract. The loop's invariant, `Reads`: the bytes that are left lead to what all of them lead to.
+-- The measure is their number.
 use Prim.Native.Nat.{_-_}
 use mathlib.Core.Path.{_∙_, ap}
 use lib.ListN.{length}
@@ -32,7 +32,8 @@ loop-again c =
     let o = c .before .before in
     let i = o .before .before in
     let l = i .before .before in
-    reads-more (l .before .loop .inv) (l .loop-test .taken) (i .if1 .left) _ _ (o .over .ensures .0) (o .over .ensures .1) (o .over .kept .1 .1 .1 .0)
+    reads-more (l .before .loop .inv) (l .loop-test .taken) (i .if1 .left) _ _ (o .over .ensures .0) (o .over .ensures .1)
+    (o .over .kept .1 .1 .1 .0)
 
 same-length-2 : tie.Need-same-length-2 Inv-loop μ-loop
 same-length-2 c = c .before .loop .inv .size

@@ -9,7 +9,8 @@ use Rattle.lines.proofs.answer.screened.Tie as tie
 array-share-prefix-marks : tie.Need-array-share-prefix-marks
 array-share-prefix-marks c =
     let d = c .before .before .before .before in
-    answered-long (d .before .before .before .before .before .before .args .strands) _ _ _ _ _ _ (d .search-on .ensures .0) (d .search-on .ensures .1) _ _ _ (c .before .segments .given .1)
+    answered-long (d .before .before .before .before .before .before .args .strands) _ _ _ _ _ _ (d .search-on .ensures .0)
+    (d .search-on .ensures .1) _ _ _ (c .before .segments .given .1)
 
 slice-aggregate-put-text : tie.Need-slice-aggregate-put-text
 slice-aggregate-put-text c = simp length-take (omega (arith, array-share-prefix-marks (c .before)))

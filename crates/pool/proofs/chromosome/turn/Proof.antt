@@ -5,12 +5,14 @@ use Rattle.pool.proofs.chromosome.turn.Tie as tie
 
 same-length-10 : tie.Need-same-length-10
 same-length-10 c =
-    let r = c .before .before .before .before .before .before .before .before .before .before .before .before .before .before .before .before .before .before .before .before .before .before .before .before .before in
+    let r = c .before .before .before .before .before .before .before .before .before .before .before .before .before .before .before
+    .before .before .before .before .before .before .before .before .before .before in
     r .next-record .kept .1 .1 .0
 
 same-length-11 : tie.Need-same-length-11
 same-length-11 c =
-    let r = c .before .before .before .before .before .before .before .before .before .before .before .before .before .before .before .before .before .before .before .before .before .before .before .before .before in
+    let r = c .before .before .before .before .before .before .before .before .before .before .before .before .before .before .before
+    .before .before .before .before .before .before .before .before .before .before in
     r .next-record .kept .1 .1 .1 .0
 
 pub turn-spec : {M : Type 1} → statement M

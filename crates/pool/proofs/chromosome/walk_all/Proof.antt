@@ -9,10 +9,12 @@ use Rattle.pool.proofs.chromosome.walk_all.Tie as tie
 
 abbrev Inv-loop : tie.InvT-loop
 Inv-loop name piece₀ variants₀ short₀ window₀ lines₀ out₀ state₀ records₀ turns₀ piece variants short window lines out state records turns =
-    (length piece ≡ length piece₀) × (length variants ≡ length variants₀) × (length short ≡ length short₀) × (length window ≡ length window₀) × (length lines ≡ length lines₀) × (length out ≡ length out₀)
+    (length piece ≡ length piece₀) × (length variants ≡ length variants₀) × (length short ≡ length short₀) × (length window
+    ≡ length window₀) × (length lines ≡ length lines₀) × (length out ≡ length out₀)
 
 abbrev μ-loop : tie.MeasureT-loop
-μ-loop name piece₀ variants₀ short₀ window₀ lines₀ out₀ state₀ records₀ turns₀ piece variants short window lines out state records turns = turns
+μ-loop name piece₀ variants₀ short₀ window₀ lines₀ out₀ state₀ records₀ turns₀ piece variants short window lines out state records turns =
+    turns
 
 loop-holds : tie.Need-loop-holds Inv-loop μ-loop
 loop-holds c = (refl, refl, refl, refl, refl, refl)
@@ -49,12 +51,14 @@ same-length-6 c =
 
 sub-turns : tie.Need-sub-turns Inv-loop μ-loop
 sub-turns c =
-    let l = c .before .before .before .before .before .before .before .before .before .before .before .before .before .before .before .before .before .before .before .before .before .before in
+    let l = c .before .before .before .before .before .before .before .before .before .before .before .before .before .before .before
+    .before .before .before .before .before .before .before in
     omega (arith, l .loop-test .taken)
 
 loop-less : tie.Need-loop-less Inv-loop μ-loop
 loop-less c =
-    let l = c .before .before .before .before .before .before .before .before .before .before .before .before .before .before .before .before .before .before .before .before .before .before in
+    let l = c .before .before .before .before .before .before .before .before .before .before .before .before .before .before .before
+    .before .before .before .before .before .before .before in
     omega (arith, l .loop-test .taken)
 
 loop-again : tie.Need-loop-again Inv-loop μ-loop

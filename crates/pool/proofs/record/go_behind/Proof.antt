@@ -1,4 +1,5 @@
--- `pool::record::go_behind` is safe and ends: the buffer for stretches is as long as it was, behind each of the three calls that it is lent to.
+-- `pool::record::go_behind` is safe and ends: the buffer for stretches is as long as it was, behind each of the three calls that it is lent
+-- to.
 use mathlib.Core.Path.{_∙_}
 use borrow.Author.Needs.{needs}
 use Rattle.pool.proofs.record.go_behind.Statement.{statement}

@@ -16,10 +16,14 @@ loop-holds : tie.Need-loop-holds Inv-loop μ-loop
 loop-holds c = (refl, refl)
 
 same-length : tie.Need-same-length Inv-loop μ-loop
-same-length c = let p = c .before .before .before .before .before .before .before in p .turn .kept .1 .1 .1 .0 ∙ p .before .before .before .before .loop .inv .0
+same-length c =
+    let p = c .before .before .before .before .before .before .before in p .turn .kept .1 .1 .1 .0
+    ∙ p .before .before .before .before .loop .inv .0
 
 same-length-2 : tie.Need-same-length-2 Inv-loop μ-loop
-same-length-2 c = let p = c .before .before .before .before .before .before .before in p .turn .kept .1 .1 .1 .1 .0 ∙ p .before .before .before .before .loop .inv .1
+same-length-2 c =
+    let p = c .before .before .before .before .before .before .before in p .turn .kept .1 .1 .1 .1 .0
+    ∙ p .before .before .before .before .loop .inv .1
 
 loop-again : tie.Need-loop-again Inv-loop μ-loop
 loop-again c =

@@ -7,7 +7,8 @@ use Rattle.pool.proofs.sequence.take_bases.Statement.{statement}
 use Rattle.pool.proofs.sequence.take_bases.Tie as tie
 
 abbrev Inv-loop : tie.InvT-loop
-Inv-loop name piece₀ window₀ count most now₀ n₀ turns₀ piece window now n turns = (length piece ≡ length piece₀) × (length window ≡ length window₀)
+Inv-loop name piece₀ window₀ count most now₀ n₀ turns₀ piece window now n turns =
+    (length piece ≡ length piece₀) × (length window ≡ length window₀)
 
 abbrev μ-loop : tie.MeasureT-loop
 μ-loop name piece₀ window₀ count most now₀ n₀ turns₀ piece window now n turns = turns
@@ -16,10 +17,14 @@ loop-holds : tie.Need-loop-holds Inv-loop μ-loop
 loop-holds c = (refl, refl)
 
 same-length : tie.Need-same-length Inv-loop μ-loop
-same-length c = let p = c .before .before .before .before .before .before .before in p .turn .kept .1 .1 .0 ∙ p .before .before .before .before .loop .inv .0
+same-length c =
+    let p = c .before .before .before .before .before .before .before in p .turn .kept .1 .1 .0
+    ∙ p .before .before .before .before .loop .inv .0
 
 same-length-2 : tie.Need-same-length-2 Inv-loop μ-loop
-same-length-2 c = let p = c .before .before .before .before .before .before .before in p .turn .kept .1 .1 .1 .0 ∙ p .before .before .before .before .loop .inv .1
+same-length-2 c =
+    let p = c .before .before .before .before .before .before .before in p .turn .kept .1 .1 .1 .0
+    ∙ p .before .before .before .before .loop .inv .1
 
 loop-again : tie.Need-loop-again Inv-loop μ-loop
 loop-again c =

@@ -7,7 +7,8 @@ use Rattle.pool.proofs.walk.go_to.Statement.{statement}
 use Rattle.pool.proofs.walk.go_to.Tie as tie
 
 abbrev Inv-loop : tie.InvT-loop
-Inv-loop until name piece₀ window₀ lines out₀ now₀ turns₀ piece window out now turns = (length piece ≡ length piece₀) × (length window ≡ length window₀) × (length out ≡ length out₀)
+Inv-loop until name piece₀ window₀ lines out₀ now₀ turns₀ piece window out now turns =
+    (length piece ≡ length piece₀) × (length window ≡ length window₀) × (length out ≡ length out₀)
 
 abbrev μ-loop : tie.MeasureT-loop
 μ-loop until name piece₀ window₀ lines out₀ now₀ turns₀ piece window out now turns = turns
@@ -25,22 +26,34 @@ same-length-3 : tie.Need-same-length-3 Inv-loop μ-loop
 same-length-3 c = c .before .before .before .loop .inv .2
 
 same-length-4 : tie.Need-same-length-4 Inv-loop μ-loop
-same-length-4 c = let p = c .before .before .before .before .before .before .before .before in p .step .kept .1 .1 .1 .0 ∙ p .before .before .before .before .before .before .before .loop .inv .0
+same-length-4 c =
+    let p = c .before .before .before .before .before .before .before .before in p .step .kept .1 .1 .1 .0
+    ∙ p .before .before .before .before .before .before .before .loop .inv .0
 
 same-length-5 : tie.Need-same-length-5 Inv-loop μ-loop
-same-length-5 c = let p = c .before .before .before .before .before .before .before .before in p .step .kept .1 .1 .1 .1 .0 ∙ p .before .before .before .before .before .before .before .loop .inv .1
+same-length-5 c =
+    let p = c .before .before .before .before .before .before .before .before in p .step .kept .1 .1 .1 .1 .0
+    ∙ p .before .before .before .before .before .before .before .loop .inv .1
 
 same-length-6 : tie.Need-same-length-6 Inv-loop μ-loop
-same-length-6 c = let p = c .before .before .before .before .before .before .before .before in p .step .kept .1 .1 .1 .1 .1 .1 .0 ∙ p .before .before .before .before .before .before .before .loop .inv .2
+same-length-6 c =
+    let p = c .before .before .before .before .before .before .before .before in p .step .kept .1 .1 .1 .1 .1 .1 .0
+    ∙ p .before .before .before .before .before .before .before .loop .inv .2
 
 same-length-7 : tie.Need-same-length-7 Inv-loop μ-loop
-same-length-7 c = let p = c .before .before .before .before .before .before .before .before .before in p .step .kept .1 .1 .1 .0 ∙ p .before .before .before .before .before .before .before .loop .inv .0
+same-length-7 c =
+    let p = c .before .before .before .before .before .before .before .before .before in p .step .kept .1 .1 .1 .0
+    ∙ p .before .before .before .before .before .before .before .loop .inv .0
 
 same-length-8 : tie.Need-same-length-8 Inv-loop μ-loop
-same-length-8 c = let p = c .before .before .before .before .before .before .before .before .before in p .step .kept .1 .1 .1 .1 .0 ∙ p .before .before .before .before .before .before .before .loop .inv .1
+same-length-8 c =
+    let p = c .before .before .before .before .before .before .before .before .before in p .step .kept .1 .1 .1 .1 .0
+    ∙ p .before .before .before .before .before .before .before .loop .inv .1
 
 same-length-9 : tie.Need-same-length-9 Inv-loop μ-loop
-same-length-9 c = let p = c .before .before .before .before .before .before .before .before .before in p .step .kept .1 .1 .1 .1 .1 .1 .0 ∙ p .before .before .before .before .before .before .before .loop .inv .2
+same-length-9 c =
+    let p = c .before .before .before .before .before .before .before .before .before in p .step .kept .1 .1 .1 .1 .1 .1 .0
+    ∙ p .before .before .before .before .before .before .before .loop .inv .2
 
 loop-again : tie.Need-loop-again Inv-loop μ-loop
 loop-again c =

@@ -22,7 +22,8 @@ loop-holds : tie.Need-loop-holds Inv-loop μ-loop
 loop-holds c P y = turning-none P _ _ _ _ _ (omega arith) y
 
 -- the letter that is read is a byte
-byte : (c : tie.After-shared-slice-known Inv-loop μ-loop) → getD (c .before .before .before .args .variant .now) (c .before .before .loop .i) 0 < 256
+byte : (c : tie.After-shared-slice-known Inv-loop μ-loop)
+    → getD (c .before .before .before .args .variant .now) (c .before .before .loop .i) 0 < 256
 byte c = omega (arith, c .shared-slice-known .given (c .before .before .loop .i))
 
 cast-c : tie.Need-cast-c Inv-loop μ-loop

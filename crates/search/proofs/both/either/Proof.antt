@@ -1,5 +1,5 @@
--- `search::either` meets its contract: the pattern is asked first, then `mark_both` with the letter vectors of the pattern as given and as the
--- opposite strand reads it.
+-- `search::either` meets its contract: the pattern is asked first, then `mark_both` with the letter vectors of the pattern as given and as
+-- the opposite strand reads it.
 use borrow.Author.Needs.{needs}
 use mathlib.Core.Path.{sym, ap, _∙_}
 use Rattle.text.specs.Refusal.{toldPattern}

@@ -35,7 +35,8 @@ returns c =
     let h = c .before .before .before in
     let a = h .before .before .before .before in
     let d = a .before .before .before .before in
-    into-short _ _ (out a) _ _ _ (told a) (sums-segments _ _) _ (d .stretch-both .ensures .1) _ (h .handed .ensures .1) _ (h .handed .ensures .0) (c .if1 .taken)
+    into-short _ _ (out a) _ _ _ (told a) (sums-segments _ _) _ (d .stretch-both .ensures .1) _ (h .handed .ensures .1) _
+    (h .handed .ensures .0) (c .if1 .taken)
 
 returns-2 : tie.Need-returns-2
 returns-2 c =
@@ -47,7 +48,8 @@ returns-3 c =
     let h = c .before .before .before in
     let a = h .before .before .before .before in
     let d = a .before .before .before .before in
-    into-marked _ _ (out a) _ _ _ (told a) (sums-segments _ _) _ (d .stretch-both .ensures .1) _ (h .handed .ensures .1) _ (h .handed .ensures .0) (c .if1 .left)
+    into-marked _ _ (out a) _ _ _ (told a) (sums-segments _ _) _ (d .stretch-both .ensures .1) _ (h .handed .ensures .1) _
+    (h .handed .ensures .0) (c .if1 .left)
 
 pub mark-both-by-way-of-spec : {M : Type 1} → statement M
 mark-both-by-way-of-spec =

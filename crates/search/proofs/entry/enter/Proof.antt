@@ -10,7 +10,8 @@ use Rattle.search.proofs.entry.enter.Statement.{statement}
 use Rattle.search.proofs.entry.enter.Tie as tie
 
 returns : tie.Need-returns
-returns c = sym (entering-pattern _ _ _ _ _ (sym (c .before .before .before .check .ensures) ∙ ap toldPattern (c .before .refused .given .1)) _)
+returns c =
+    sym (entering-pattern _ _ _ _ _ (sym (c .before .before .before .check .ensures) ∙ ap toldPattern (c .before .refused .given .1)) _)
 
 -- the pattern was found sound
 sound : (c : tie.After-enum-told) → SoundPattern (c .before .before .before .before .before .args .pattern .now)

@@ -1,4 +1,5 @@
--- `search::marking::mark_by_way_of` meets its contract: what `run_stretch` tells of the stretch, and what is handed over of the marks it found.
+-- `search::marking::mark_by_way_of` meets its contract: what `run_stretch` tells of the stretch, and what is handed over of the marks it
+-- found.
 use borrow.Author.Needs.{needs}
 use Prim.Native.Nat.{ℕ}
 use mathlib.Core.Path.{_≡_, refl, sym, ap, _∙_}
@@ -20,7 +21,12 @@ out a = a .before .before .before .before .before .before .before .before .befor
 told : (a : tie.After-segments)
     → let p = a .before .before .before .before .before .before .before .before .before .before .before .before .args in
     after (stretchOf (p .stretch .now)) (λ t. ok (seenFrom (p .pattern .now) (p .state .bits) t))
-    ≡ ok (record { segments = a .segments .given .0 .0; size = a .segments .given .0 .1 .0; ends = a .segments .given .0 .1 .1 .0; state = a .segments .given .0 .1 .1 .1 .0 .bits })
+    ≡ ok (record {
+      segments = a .segments .given .0 .0;
+      size = a .segments .given .0 .1 .0;
+      ends = a .segments .given .0 .1 .1 .0;
+      state = a .segments .given .0 .1 .1 .1 .0 .bits;
+    })
 told a = sym (a .before .before .before .before .run-stretch .ensures .1 .0 refl) ∙ ap toldSought (a .segments .given .1)
 
 handed-requires : tie.Need-handed-requires
@@ -34,7 +40,8 @@ returns c =
     let h = c .before .before .before in
     let a = h .before .before .before .before in
     let d = a .before .before .before .before in
-    into-short _ _ (out a) _ _ _ (told a) (seen-segments _ _ _) _ (d .run-stretch .ensures .1 .1 refl) _ (h .handed .ensures .1) _ (h .handed .ensures .0) (c .if1 .taken)
+    into-short _ _ (out a) _ _ _ (told a) (seen-segments _ _ _) _ (d .run-stretch .ensures .1 .1 refl) _ (h .handed .ensures .1) _
+    (h .handed .ensures .0) (c .if1 .taken)
 
 returns-2 : tie.Need-returns-2
 returns-2 c =
@@ -46,7 +53,8 @@ returns-3 c =
     let h = c .before .before .before in
     let a = h .before .before .before .before in
     let d = a .before .before .before .before in
-    into-marked _ _ (out a) _ _ _ (told a) (seen-segments _ _ _) _ (d .run-stretch .ensures .1 .1 refl) _ (h .handed .ensures .1) _ (h .handed .ensures .0) (c .if1 .left)
+    into-marked _ _ (out a) _ _ _ (told a) (seen-segments _ _ _) _ (d .run-stretch .ensures .1 .1 refl) _ (h .handed .ensures .1) _
+    (h .handed .ensures .0) (c .if1 .left)
 
 pub mark-by-way-of-spec : {M : Type 1} → statement M
 mark-by-way-of-spec =

@@ -16,4 +16,5 @@ returns c =
     (t .1, λ _. t .0)
 
 pub scan-by-spec : {M : Type 1} → statement M
-scan-by-spec = tie.close (tie.spec (λ c. search needs) (λ c κs. search needs) (λ c. search needs) scan-borders-requires returns (λ c. search needs))
+scan-by-spec =
+    tie.close (tie.spec (λ c. search needs) (λ c κs. search needs) (λ c. search needs) scan-borders-requires returns (λ c. search needs))

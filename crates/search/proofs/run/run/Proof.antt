@@ -8,17 +8,20 @@ use mathlib.Core.Bool.{false}
 use lib.ListN.{length}
 use Rattle.search.specs.Answers.{RoomyFrom}
 use Rattle.search.specs.Step.{toldPassed}
-use Rattle.search.proofs.Searches.{Searching, searching-none, searching-state, searching-room, searching-more, searching-stopped, searching-walk}
+use Rattle.search.proofs.Searches.{Searching, searching-none, searching-state, searching-room, searching-more, searching-stopped}
+use Rattle.search.proofs.Searches.{searching-walk}
 use Rattle.search.proofs.Searches.{searching-length, byte-mark, searching-refused, searching-ran}
 use Rattle.search.proofs.run.run.Statement.{statement}
 use Rattle.search.proofs.run.run.Tie as tie
 
 abbrev Inv-loop : tie.InvT-loop
 Inv-loop stop method pattern table classes stretch at segments marks₀ next₀ size₀ ends₀ reached₀ k₀ marks next size ends reached k =
-    Searching stop pattern (reached₀ .bits) stretch at marks k next size ends (reached .bits) × (k ≤ segments) × (length marks ≡ length marks₀)
+    Searching stop pattern (reached₀ .bits) stretch at marks k next size ends (reached .bits) × (k ≤ segments) × (length marks
+    ≡ length marks₀)
 
 abbrev μ-loop : tie.MeasureT-loop
-μ-loop stop method pattern table classes stretch at segments marks₀ next₀ size₀ ends₀ reached₀ k₀ marks next size ends reached k = segments - k
+μ-loop stop method pattern table classes stretch at segments marks₀ next₀ size₀ ends₀ reached₀ k₀ marks next size ends reached k =
+    segments - k
 
 loop-holds : tie.Need-loop-holds Inv-loop μ-loop
 loop-holds c = (searching-none _ _ _ _ _ _ (c .before .before .before .pre .1 .0 .0), omega arith, refl)
@@ -79,7 +82,8 @@ returns-2 c =
     let on = sym (d .over .ensures) ∙ ap toldPassed (b .behind .given .1) in
     let is = byte-mark (b .behind .given .0 .1 .1 .1 .0) in
     let p = a .before .before .before .before .pre .1 .0 in
-    let told = searching-stopped (a .loop .inv .0) on _ is (keep-requires (m .before) (m .keep .lifetimes)) _ (m .keep .ensures) _ (d .before .loop-test .taken) (p .1) (p .0) (c .if1 .taken) in
+    let told = searching-stopped (a .loop .inv .0) on _ is (keep-requires (m .before) (m .keep .lifetimes)) _ (m .keep .ensures) _
+    (d .before .loop-test .taken) (p .1) (p .0) (c .if1 .taken) in
     (told .0, told .1)
 
 add-size : tie.Need-add-size Inv-loop μ-loop

@@ -8,7 +8,8 @@ use Rattle.stretch.proofs.Frames.{frame-refused-open, frame-opens, frame-refuse
 use Rattle.search.specs.Answers.{toldRan}
 use Rattle.search.proofs.Markings.{marks-all}
 use Rattle.search.proofs.Searches.{run-not, run-met, seen-ends}
-use Rattle.search.proofs.Hits.{hit-closed, hit-not, hit-ends, run-refused, run-clear, run-stopped, says-refused, says-sound, says-stopped}
+use Rattle.search.proofs.Hits.{hit-closed, hit-not, hit-ends, run-refused, run-clear, run-stopped, says-refused, says-sound}
+use Rattle.search.proofs.Hits.{says-stopped}
 use Rattle.search.proofs.run.run_stretch.Statement.{statement}
 use Rattle.search.proofs.run.run_stretch.Tie as tie
 
@@ -63,7 +64,8 @@ returns-4 c =
     let met = run-met _ _ _ _ _ _ _ _ _ _ (sym (r .run .ensures .0) ∙ ap toldRan (m .read .given .1)) in
     let all = run-clear _ _ _ _ _ _ (omega (arith, o .short)) (o .counted) _ _ (met .1) _ (seen-ends _ _ _ _ (met .2)) (f .if1 .left) in
     let none = frame-refused-closed _ told (n .segments .given .1) (all .0) (d .closed .ensures) (c .before .wrong3 .given .1) in
-    let says = says-refused _ _ _ _ _ _ none (λ stops. hit-not _ _ _ _ (sym told ∙ ap toldOpened (n .segments .given .1)) (all .1 stops .0)) in
+    let says = says-refused _ _ _ _ _ _ none (λ stops. hit-not _ _ _ _ (sym told ∙ ap toldOpened (n .segments .given .1))
+    (all .1 stops .0)) in
     (says .0, (says .1, says .2))
 
 returns-5 : tie.Need-returns-5

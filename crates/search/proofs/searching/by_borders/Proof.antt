@@ -32,7 +32,10 @@ mark-requires c κs =
     let y = sound (r .before) in
     let z = read-sized _ _ _ (r .read-on .ensures) y in (
       record { some = z .some; short = z .short; bases = z .bases; holds = d .border-table .ensures },
-      read-state _ (c .before .before .before .before .before .before .before .before .before .before .before .args .pattern .now) _ (r .read-on .ensures) y _ (fresh-state (c .before .before .before .before .before .before .before .before .before .before .before .args .pattern .now) (y .some)),
+      read-state _ (c .before .before .before .before .before .before .before .before .before .before .before .args .pattern .now) _
+          (r .read-on .ensures) y _
+          (fresh-state (c .before .before .before .before .before .before .before .before .before .before .before .args .pattern .now)
+          (y .some)),
     )
 
 returns : tie.Need-returns
@@ -45,7 +48,8 @@ returns-2 c =
     let d = c .before .before .before in
     let r = d .before .before .before .before .before in
     let y = sound (r .before) in
-    let a = c .before .before .before .before .before .before .before .before .before .before .before .before .before .before .before .args in
+    let a = c .before .before .before .before .before .before .before .before .before .before .before .before .before .before
+    .before .args in
     let read = read-is (a .strand) _ _ (r .read-on .ensures) y in
     searched-both _
     (pattern-marked (a .pattern .now) _ (a .stretch .now) (a .marks .now) y _ read _ _ _ (d .mark .ensures) (c .summed .ensures))

@@ -22,7 +22,8 @@ found : (c : tie.After-start)
 found c = head-is _ _ _ _ (sym (c .before .before .head .ensures) ∙ ap toldPart (c .start .given .1))
 
 -- the variants before it, which the walk has passed
-passed : (c : tie.After-start) → let a = c .before .before .before .before .before .args in UpTo (a .stretch .now) (a .first) (a .count - a .left) (a .at)
+passed : (c : tie.After-start)
+    → let a = c .before .before .before .before .before .args in UpTo (a .stretch .now) (a .first) (a .count - a .left) (a .at)
 passed c = c .before .before .before .before .before .pre .1 .0
 
 sub-letters : tie.Need-sub-letters
@@ -41,7 +42,8 @@ returns : tie.Need-returns
 returns c =
     let d = c .before .before .before in
     let s = d .before .before .before in
-    swept-not _ _ _ _ _ _ _ _ _ (misspelt-refused (passed s) (found s) (d .scan-by .ensures .0) (c .before .if1 .taken) (c .misspelt .ensures))
+    swept-not _ _ _ _ _ _ _ _ _ (misspelt-refused (passed s) (found s) (d .scan-by .ensures .0) (c .before .if1 .taken)
+    (c .misspelt .ensures))
 
 returns-2 : tie.Need-returns-2
 returns-2 c =

@@ -8,7 +8,8 @@ use mathlib.Core.Logic.{⊎-elim}
 use lib.ListN.{length, getD}
 use Rattle.search.specs.Masks.{bases}
 use Rattle.search.proofs.Copies.{copied-all}
-use Rattle.search.proofs.BitScans.{Filling, filling-none, filling-more, filling-all, bases-long, bases-all, bases-near, bases-inside, bases-at}
+use Rattle.search.proofs.BitScans.{Filling, filling-none, filling-more, filling-all, bases-long, bases-all, bases-near, bases-inside}
+use Rattle.search.proofs.BitScans.{bases-at}
 use Rattle.search.proofs.vectors.filled.Statement.{statement}
 use Rattle.search.proofs.vectors.filled.Tie as tie
 
@@ -33,7 +34,8 @@ shared-slice-read-c : tie.Need-shared-slice-read-c Inv-loop μ-loop
 shared-slice-read-c c = bases-inside _ _ (near (c .before))
 
 -- it is a byte
-byte : (c : tie.After-shared-slice-known Inv-loop μ-loop) → getD (c .before .before .before .before .args .pattern .now) (c .before .before .loop .k) 0 < 256
+byte : (c : tie.After-shared-slice-known Inv-loop μ-loop)
+    → getD (c .before .before .before .before .args .pattern .now) (c .before .before .loop .k) 0 < 256
 byte c = omega (arith, c .shared-slice-known .given (c .before .before .loop .k))
 
 cast-c : tie.Need-cast-c Inv-loop μ-loop

@@ -11,13 +11,15 @@ use Rattle.stretch.proofs.Frames.{Counts, count-refused, count-met, cou
 use Rattle.stretch.specs.Prints.{Noted}
 use Rattle.stretch.proofs.Prints.{noted-none, noted-more}
 use Rattle.stretch.proofs.Units.{span-read}
-use Rattle.stretch.proofs.Segments.{InSegment, in-none, in-values, in-whole, in-more, in-refused, in-all, walked-refused, walked-done}
+use Rattle.stretch.proofs.Segments.{InSegment, in-none, in-values, in-whole, in-more, in-refused, in-all, walked-refused}
+use Rattle.stretch.proofs.Segments.{walked-done}
 use Rattle.stretch.proofs.segment.segment_at.Statement.{statement}
 use Rattle.stretch.proofs.segment.segment_at.Tie as tie
 
 abbrev Inv-loop : tie.InvT-loop
 Inv-loop classes stretch at count first next₀ size₀ prints₀ left₀ next size prints left =
-    (seen : Segment) × InSegment stretch first (count - left) seen next size × (left ≤ count) × Noted stretch count first (count - left) prints
+    (seen : Segment) × InSegment stretch first (count - left) seen next size × (left ≤ count) × Noted stretch count first
+    (count - left) prints
 
 abbrev μ-loop : tie.MeasureT-loop
 μ-loop classes stretch at count first next₀ size₀ prints₀ left₀ next size prints left = left

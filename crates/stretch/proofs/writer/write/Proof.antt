@@ -55,14 +55,17 @@ returns-2 c =
     let d = c .before in
     let a = d .before .before .before .before .before .before .before .before .args in
     let e = sym (d .before .lengths-sum .ensures) ∙ not-true _ (d .if2 .taken) in
-    written-both _ (refused-leaves _ (c .refused-at-02 .ensures) (lengths-refused (meant (a .letters .now)) _ _ _ (rw (meant-length (a .letters .now)) e)))
+    written-both _
+    (refused-leaves _ (c .refused-at-02 .ensures) (lengths-refused (meant (a .letters .now)) _ _ _ (rw (meant-length (a .letters .now)) e)))
 
 returns-3 : tie.Need-returns-3
 unfolding needed
 returns-3 c =
     let d = c .before in
     let e = sym (d .before .fits-stretch .ensures) ∙ not-true _ (d .if3 .taken) in
-    written-both _ (refused-leaves _ (c .refused-at-03 .ensures) (long-refused _ (matching (d .before .before)) (rw (same-need (entry (d .before .before))) e)))
+    written-both _
+    (refused-leaves _ (c .refused-at-03 .ensures)
+    (long-refused _ (matching (d .before .before)) (rw (same-need (entry (d .before .before))) e)))
 
 segments-given-requires : tie.Need-segments-given-requires
 segments-given-requires c κs = matching (c .before .before)
@@ -83,11 +86,17 @@ returns-5 c =
     let d = c .before .before in
     let g = d .before .before in
     let e = sym (g .segments-given .ensures) ∙ ap toldReached (d .enum-told .given .1) in
-    written-both _ (refused-leaves _ (c .refused-at-04 .ensures) (room-refused _ (fitting (g .before)) e (rw (same-need (entered (g .before))) (c .before .if4 .taken))))
+    written-both _ (refused-leaves _ (c .refused-at-04 .ensures)
+    (room-refused _ (fitting (g .before)) e (rw (same-need (entered (g .before))) (c .before .if4 .taken))))
 
 put-text-requires : tie.Need-put-text-requires
 unfolding needed
-put-text-requires c κs = let d = c .before .before in (fitting (d .before .before .before) .matching, rw (same-need (entered (d .before .before .before))) (c .before .if4 .left))
+put-text-requires c κs =
+    let d = c .before .before in (
+      fitting (d .before .before .before) .matching,
+      rw (same-need (entered (d .before .before .before)))
+          (c .before .if4 .left),
+    )
 
 returns-6 : tie.Need-returns-6
 unfolding needed

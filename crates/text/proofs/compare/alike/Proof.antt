@@ -30,7 +30,8 @@ returns-2 c =
 loop-again : tie.Need-loop-again Inv-loop μ-loop
 loop-again c =
     let d = c .before .before .before .before in
-    like-more (d .before .before .before .before .before .args .a .now) (d .before .before .before .before .before .args .b .now) _ (d .before .loop .inv) (d .loop-test .taken) (c .before .differ .ensures) (c .if2 .left)
+    like-more (d .before .before .before .before .before .args .a .now) (d .before .before .before .before .before .args .b .now) _
+    (d .before .loop .inv) (d .loop-test .taken) (c .before .differ .ensures) (c .if2 .left)
 
 returns-3 : tie.Need-returns-3 Inv-loop μ-loop
 returns-3 c = sym (like-all _ _ _ (c .before .loop .inv) (c .loop-test .left))

@@ -10,4 +10,5 @@ unfolding eight
 returns c = omega arith
 
 pub eight-spec : {M : Type 1} → statement M
-eight-spec = tie.close (tie.spec (λ c κs. search needs) (λ c. search needs) (λ c κs. search needs) (λ c. search needs) (λ c. search needs) returns)
+eight-spec =
+    tie.close (tie.spec (λ c κs. search needs) (λ c. search needs) (λ c κs. search needs) (λ c. search needs) (λ c. search needs) returns)

@@ -10,4 +10,5 @@ unfolding four
 returns c = (omega arith, omega arith)
 
 pub four-spec : {M : Type 1} → statement M
-four-spec = tie.close (tie.spec (λ c κs. search needs) (λ c. search needs) (λ c κs. search needs) (λ c. search needs) (λ c. search needs) returns)
+four-spec =
+    tie.close (tie.spec (λ c κs. search needs) (λ c. search needs) (λ c κs. search needs) (λ c. search needs) (λ c. search needs) returns)

@@ -40,7 +40,8 @@ returns c =
     let n = k .before .before .before .before .before in
     let l = n .before .before .before .before .before in
     let p = l .before .before in
-    let all = put-more (put-more (put-more (l .put-number .ensures) (n .put-counted .ensures)) (k .put-counted2 .ensures)) (d .put-named .ensures) in
+    let all = put-more (put-more (put-more (l .put-number .ensures) (n .put-counted .ensures)) (k .put-counted2 .ensures))
+    (d .put-named .ensures) in
     put-fits (hit-put _ _ _ _ (p .plus .ensures) all)
 
 pub put-hit-spec : {M : Type 1} → statement M

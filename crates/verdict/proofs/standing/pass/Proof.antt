@@ -13,7 +13,8 @@ array-share-prefix-other c =
     let one = s .before .before .before .before .before .before .before .before .before .before .before .through in
     let f = sought-found _ _ _ _ _ _ _ _ (two .ensures .0) (two .ensures .1 .1) _ _ _ _ (s .segments .given .1) in
     let g = sought-found _ _ _ _ _ _ _ _ (one .ensures .0) (one .ensures .1 .1) _ _ _ _ (o .opposite .given .1) in
-    let x = s .before .before .before .before .before .before .before .before .before .before .before .before .before .before .before .before .before .args .standing in
+    let x = s .before .before .before .before .before .before .before .before .before .before .before .before .before .before .before
+    .before .before .args .standing in
     turned-long _ x _ _ g f
 
 slice-aggregate-unite : tie.Need-slice-aggregate-unite
@@ -24,7 +25,8 @@ slice-aggregate-unite c =
     let one = s .before .before .before .before .before .before .before .before .before .before .before .through in
     let f = sought-found _ _ _ _ _ _ _ _ (two .ensures .0) (two .ensures .1 .1) _ _ _ _ (s .segments .given .1) in
     let g = sought-found _ _ _ _ _ _ _ _ (one .ensures .0) (one .ensures .1 .1) _ _ _ _ (o .opposite .given .1) in
-    let x = s .before .before .before .before .before .before .before .before .before .before .before .before .before .before .before .before .before .args .standing in
+    let x = s .before .before .before .before .before .before .before .before .before .before .before .before .before .before .before
+    .before .before .args .standing in
     turned-count _ x _ _ g f
 
 unite-requires : tie.Need-unite-requires
@@ -35,13 +37,15 @@ unite-requires c κs =
     let one = s .before .before .before .before .before .before .before .before .before .before .before .through in
     let f = sought-found _ _ _ _ _ _ _ _ (two .ensures .0) (two .ensures .1 .1) _ _ _ _ (s .segments .given .1) in
     let g = sought-found _ _ _ _ _ _ _ _ (one .ensures .0) (one .ensures .1 .1) _ _ _ _ (o .opposite .given .1) in
-    let x = s .before .before .before .before .before .before .before .before .before .before .before .before .before .before .before .before .before .args .standing in
+    let x = s .before .before .before .before .before .before .before .before .before .before .before .before .before .before .before
+    .before .before .args .standing in
     turned-room _ x _ _ g f
 
 returns : tie.Need-returns
 returns c =
     let d = c .before .before .before .before in
-    passes-other _ _ _ _ _ _ _ (sought-not _ _ _ _ _ _ _ _ (d .through .ensures .0) (d .through .ensures .1 .1) _ (c .before .refused .given .1))
+    passes-other _ _ _ _ _ _ _ (sought-not _ _ _ _ _ _ _ _ (d .through .ensures .0) (d .through .ensures .1 .1) _
+    (c .before .refused .given .1))
 
 returns-2 : tie.Need-returns-2
 returns-2 c =

@@ -12,7 +12,8 @@ use Rattle.search.specs.Either.{passedGiven, passedOpposite}
 use Rattle.search.specs.declared.both.segment.PassedBoth.{PassedBoth}
 use Rattle.search.proofs.Searches.{byte-mark}
 use Rattle.search.proofs.Eithers.{passed-not, passed-own, passed-turned}
-use Rattle.search.proofs.Eithers.{Uniting, uniting-none, uniting-own, uniting-turned, uniting-room, uniting-more, uniting-refused, uniting-ran}
+use Rattle.search.proofs.Eithers.{Uniting, uniting-none, uniting-own, uniting-turned, uniting-room, uniting-more, uniting-refused}
+use Rattle.search.proofs.Eithers.{uniting-ran}
 use Rattle.search.proofs.both.run.run_both.Statement.{statement}
 use Rattle.search.proofs.both.run.run_both.Tie as tie
 

@@ -22,7 +22,8 @@ found : (c : tie.After-start)
 found c = head-is _ _ _ _ (sym (c .before .before .head .ensures) ∙ ap toldPart (c .start .given .1))
 
 -- the variants before it, which the walk has passed
-passed : (c : tie.After-start) → let a = c .before .before .before .before .args in UpTo (a .stretch .now) (a .first) (a .count - a .left) (a .at)
+passed : (c : tie.After-start)
+    → let a = c .before .before .before .before .args in UpTo (a .stretch .now) (a .first) (a .count - a .left) (a .at)
 passed c = c .before .before .before .before .pre .0
 
 sub-letters : tie.Need-sub-letters

@@ -15,7 +15,8 @@ returns c =
     fed-both _ (sym (fed-not _ _ _ _ _ _ wrong))
 
 -- nothing is wrong before the segment is read
-entry : (c : tie.After-enum-told) → let a = c .before .before .before .before .before .args in Entered (a .pattern .now) (a .self .bits) (a .segment .now)
+entry : (c : tie.After-enum-told)
+    → let a = c .before .before .before .before .before .args in Entered (a .pattern .now) (a .self .bits) (a .segment .now)
 entry c = entered _ _ _ (sym (c .before .before .enter .ensures) ∙ ap toldEntry (c .enum-told .given .1))
 
 array-share-prefix-bytes : tie.Need-array-share-prefix-bytes

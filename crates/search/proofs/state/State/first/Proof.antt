@@ -1,4 +1,5 @@
--- `search::State::first` meets its contract: what `enter` asks first, then what the run that stops says of the pattern as the strand reads it.
+-- `search::State::first` meets its contract: what `enter` asks first, then what the run that stops says of the pattern as the strand reads
+-- it.
 use borrow.Author.Needs.{needs}
 use mathlib.Core.Bool.{false≢true}
 use mathlib.Core.Path.{refl, sym, ap, _∙_}
@@ -13,7 +14,8 @@ use Rattle.search.proofs.state.State.first.Statement.{statement}
 use Rattle.search.proofs.state.State.first.Tie as tie
 
 -- nothing is wrong before the stretch is read
-entry : (c : tie.After-enum-told) → let a = c .before .before .before .before .before .args in Entered (a .pattern .now) (a .self .bits) (a .stretch .now)
+entry : (c : tie.After-enum-told)
+    → let a = c .before .before .before .before .before .args in Entered (a .pattern .now) (a .self .bits) (a .stretch .now)
 entry c = entered _ _ _ (sym (c .before .before .enter .ensures) ∙ ap toldEntry (c .enum-told .given .1))
 
 returns : tie.Need-returns

@@ -15,17 +15,21 @@ use Rattle.search.proofs.state.State.over.Tie as tie
 
 abbrev Inv-loop : tie.InvT-loop
 Inv-loop method pattern table classes stretch at count bits first next₀ size₀ out₀ missed₀ prints₀ left₀ next size out missed prints left =
-    Sweeping pattern bits stretch first (count - left) next size out missed × (left ≤ count) × Noted stretch count first (count - left) prints
+    Sweeping pattern bits stretch first (count - left) next size out missed × (left ≤ count) × Noted stretch count first
+    (count - left) prints
 
 abbrev μ-loop : tie.MeasureT-loop
-μ-loop method pattern table classes stretch at count bits first next₀ size₀ out₀ missed₀ prints₀ left₀ next size out missed prints left = left
+μ-loop method pattern table classes stretch at count bits first next₀ size₀ out₀ missed₀ prints₀ left₀ next size out missed prints left =
+    left
 
 returns : tie.Need-returns Inv-loop μ-loop
-returns c = sym (segment-passed-not _ _ _ _ _ _ (count-refused _ _ (c .before .before .before .variants .ensures) (c .before .wrong .given .1)))
+returns c =
+    sym (segment-passed-not _ _ _ _ _ _ (count-refused _ _ (c .before .before .before .variants .ensures) (c .before .wrong .given .1)))
 
 -- the count is there
 counts : (c : tie.After-count Inv-loop μ-loop)
-    → Counts (c .before .before .before .before .before .args .stretch .now) (c .before .before .before .before .before .args .at) (c .count .given .0 .0)
+    → Counts (c .before .before .before .before .before .args .stretch .now) (c .before .before .before .before .before .args .at)
+    (c .count .given .0 .0)
 counts c = count-met _ _ (c .before .before .variants .ensures) (c .count .given .1)
 
 add-first : tie.Need-add-first Inv-loop μ-loop

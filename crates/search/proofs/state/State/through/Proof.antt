@@ -11,7 +11,8 @@ use Rattle.search.proofs.state.State.through.Statement.{statement}
 use Rattle.search.proofs.state.State.through.Tie as tie
 
 -- nothing is wrong before the stretch is read
-entry : (c : tie.After-enum-told) → let a = c .before .before .before .before .before .before .args in Entered (a .pattern .now) (a .self .bits) (a .stretch .now)
+entry : (c : tie.After-enum-told)
+    → let a = c .before .before .before .before .before .before .args in Entered (a .pattern .now) (a .self .bits) (a .stretch .now)
 entry c = entered _ _ _ (sym (c .before .before .enter .ensures) ∙ ap toldEntry (c .enum-told .given .1))
 
 array-share-prefix-bytes : tie.Need-array-share-prefix-bytes

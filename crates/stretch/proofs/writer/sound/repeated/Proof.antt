@@ -60,7 +60,8 @@ returns c =
     let i = d .before .before in
     let a = entry (i .before) .args in
     let start = i .before .loop .start in
-    let equal = sym (alike-part (a .variant .now) (a .letters .now) start (start + d .stated .result - start)) ∙ sym (c .before .alike-from-end .ensures) ∙ c .if1 .taken in
+    let equal = sym (alike-part (a .variant .now) (a .letters .now) start (start + d .stated .result - start))
+    ∙ sym (c .before .alike-from-end .ensures) ∙ c .if1 .taken in
     sym (compared-same (i .before .loop .inv) (i .loop-test .taken) (d .stated .ensures) equal)
 
 loop-again : tie.Need-loop-again Inv-loop μ-loop
@@ -69,7 +70,8 @@ loop-again c =
     let i = d .before .before in
     let a = entry (i .before) .args in
     let start = i .before .loop .start in
-    let other = sym (alike-part (a .variant .now) (a .letters .now) start (start + d .stated .result - start)) ∙ sym (c .before .alike-from-end .ensures) ∙ c .if1 .left in
+    let other = sym (alike-part (a .variant .now) (a .letters .now) start (start + d .stated .result - start))
+    ∙ sym (c .before .alike-from-end .ensures) ∙ c .if1 .left in
     compared-more (i .before .loop .inv) (i .loop-test .taken) (d .stated .ensures) other
 
 returns-2 : tie.Need-returns-2 Inv-loop μ-loop

@@ -1,5 +1,5 @@
--- `search::both::words::Pair::over` meets its contract. The loop's invariant, `Sweeping` on each strand: the variants before `next` are read, and
--- the words are theirs. The measure is the number of variants left.
+-- `search::both::words::Pair::over` meets its contract. The loop's invariant, `Sweeping` on each strand: the variants before `next` are
+-- read, and the words are theirs. The measure is the number of variants left.
 use Prim.Native.Nat.{ℕ, _+_, _-_, _*_, _%_, _^_, _≤_, _<_}
 use borrow.Author.Needs.{needs}
 use native.Mathlib.Omega.{arith}
@@ -35,7 +35,8 @@ returns c =
 
 -- the count is there
 counts : (c : tie.After-count Inv-loop μ-loop)
-    → Counts (c .before .before .before .before .before .args .stretch .now) (c .before .before .before .before .before .args .at) (c .count .given .0 .0)
+    → Counts (c .before .before .before .before .before .args .stretch .now) (c .before .before .before .before .before .args .at)
+    (c .count .given .0 .0)
 counts c = count-met _ _ (c .before .before .variants .ensures) (c .count .given .1)
 
 add-first : tie.Need-add-first Inv-loop μ-loop
@@ -56,7 +57,8 @@ loop-holds c =
     )
 
 variant-both-requires : tie.Need-variant-both-requires Inv-loop μ-loop
-variant-both-requires c κs = let q = c .before .loop .inv in (in-whole _ _ _ _ _ _ (q .0 .sum), q .3, omega (arith, c .loop-test .taken, q .2))
+variant-both-requires c κs =
+    let q = c .before .loop .inv in (in-whole _ _ _ _ _ _ (q .0 .sum), q .3, omega (arith, c .loop-test .taken, q .2))
 
 returns-2 : tie.Need-returns-2 Inv-loop μ-loop
 returns-2 c =
@@ -81,7 +83,8 @@ loop-again c =
     let e = b .behind .given .1 in
     let v = d .variant-both .ensures in
     let w = c .before .and .ensures in
-    let noted = sweeping-noted _ _ _ _ _ _ _ _ _ (a .loop .inv .0) _ (v .0 _ (ready _ _ _ _ (p .0))) _ _ _ _ (ap sweptGiven e) _ _ (a .loop .inv .3) in
+    let noted = sweeping-noted _ _ _ _ _ _ _ _ _ (a .loop .inv .0) _ (v .0 _ (ready _ _ _ _ (p .0))) _ _ _ _ (ap sweptGiven e) _ _
+    (a .loop .inv .3) in
     let all = a .before .before .count .given .0 .0 in
     let left = a .loop .left in
     let less : all - (left - 1) ≡ all - left + 1 = omega (arith, d .before .loop-test .taken, a .loop .inv .2) in
