@@ -43,6 +43,16 @@ wrong-byte c l = step (letter c) (apart (bitAnd c 0xDF)) (go (told c) refl)
     step false true e = refl
     step false false e = absurd (true≢false (sym e))
 
+pub other-byte : (c : ℕ) → (not (eqb c 0x41) && not (eqb c 0x43) && not (eqb c 0x47) && not (eqb c 0x54)) ≡ not (base c)
+unfolding base
+other-byte c = step (eqb c 0x41) (eqb c 0x43) (eqb c 0x47) (eqb c 0x54)
+  where
+    step : (a b d e : Bool) → (not a && not b && not d && not e) ≡ not (a || b || d || e)
+    step true b d e = refl
+    step false true d e = refl
+    step false false true e = refl
+    step false false false e = refl
+
 -- one more is wrong, or one before it
 not-both : (a b : Bool) → (not a || not b) ≡ not (a && b)
 not-both true b = refl
@@ -57,6 +67,9 @@ module _ (f : ℕ → Bool) (s : List ℕ) where
       → (wrong || more) ≡ not (every f (take (i + 1) s))
   wrong-more i wrong more l e r =
       rw (add-one, take-suc s i 0 l, every-snoc f (take i s) (getD s i 0), e, r) (not-both (every f (take i s)) (f (getD s i 0)))
+
+  pub wrong-all : (i : ℕ) (wrong : Bool) → length s ≤ i → wrong ≡ not (every f (take i s)) → wrong ≡ not (every f s)
+  wrong-all i wrong l e = e ∙ ap (λ (x : List ℕ). not (every f x)) (take-all i s l)
 
   -- up to a place in whole blocks of n, and the last n
   abbrev pub Blocks : ℕ → ℕ → Bool → Type 0

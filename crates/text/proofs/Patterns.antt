@@ -2,14 +2,13 @@
 use Prim.Native.Nat.{ℕ, _<_, _≤_}
 use native.Mathlib.Omega.{arith}
 use mathlib.Core.Path.{_≡_, sym, _∙_}
-use mathlib.Core.Bool.{true}
+use mathlib.Core.Bool.{Bool, true, false, not}
 use mathlib.Core.List.{List}
-use borrow.Author.Tests.{ltb-true, leb-true, lt-ltb, le-leb, lt-leb}
+use borrow.Author.Tests.{ltb-true, leb-true, lt-ltb, le-leb, lt-leb, not-true, not-false}
 use lib.ListN.{length}
 use Rattle.text.specs.Letter.{base, every, firstNot}
 use Rattle.text.specs.Refusal.{Outcome, ok, refused, after, pattern}
 use Rattle.text.proofs.Outcomes.{demand-met, after-demand}
-use Rattle.text.proofs.Letters.{first-le, first-every, first-not-every}
 
 -- 1 to 64 bases
 pub record SoundPattern (P : List ℕ) : Type 0 where
@@ -51,16 +50,13 @@ module _ (P : List ℕ) where
       let k : 0 < length P = omega arith in
       rw (lt-ltb 0 (length P) k, lt-leb (length P) 64 l)
 
-  pub pattern-byte :
-      {A : Type 0} (o : Outcome A) (k : ℕ) → k ≡ firstNot base P → length P ≤ 64 → k < length P → pattern P o ≡ refused 3 k
-  unfolding pattern
-  pattern-byte o k e short l =
-      let some : 0 < length P = omega arith in
-      let w : firstNot base P < length P = omega arith in
-      rw (lt-ltb 0 (length P) some, le-leb (length P) 64 short, first-not-every base P w, e)
+  module _ (some : length P ≡ 0 → ⊥) (short : length P ≤ 64) {wrong : Bool} (e : wrong ≡ not (every base P)) where
+    pub pattern-byte : {A : Type 0} (o : Outcome A) (k : ℕ) → k ≡ firstNot base P → wrong ≡ true → pattern P o ≡ refused 3 k
+    unfolding pattern
+    pattern-byte o k is w =
+        let l : 0 < length P = omega arith in
+        let bad : every base P ≡ false = not-true _ (sym e ∙ w) in
+        rw (lt-ltb 0 (length P) l, le-leb (length P) 64 short, bad, is)
 
-  pub bases-sound :
-      (k : ℕ) → k ≡ firstNot base P → (length P ≡ 0 → ⊥) → length P ≤ 64 → length P ≤ k → SoundPattern P
-  bases-sound k e some short l =
-      let b : firstNot base P ≡ length P = omega (arith, first-le base P) in
-      record { some = omega arith; short = short; bases = first-every base P b }
+    pub bases-sound : wrong ≡ false → SoundPattern P
+    bases-sound w = record { some = omega arith; short = short; bases = not-false _ (sym e ∙ w) }

@@ -1,6 +1,7 @@
 // Patterns: 1 to 64 bases.
 ghost use mathlib.Core.Path.{_≡_};
-ghost use Rattle.text.specs.Letter.{base, firstNot};
+ghost use mathlib.Core.Bool.{not};
+ghost use Rattle.text.specs.Letter.{base, every, firstNot};
 ghost use Rattle.text.specs.Refusal.{ok, pattern, toldPattern};
 use crate::letter::is_base;
 use crate::refusal;
@@ -26,6 +27,28 @@ fn first_other(bytes: &[u8]) -> usize
     i
 }
 
+// Whether a byte is no base, without a branch.
+fn is_other(byte: u8) -> bool
+    ensures { λ r. ⌜ r ≡ not (base byte) ⌝ }
+{
+    (byte != b'A') & (byte != b'C') & (byte != b'G') & (byte != b'T')
+}
+
+// Whether one of the bytes is no base. No branch depends on a byte, so that the compiler tests many at once: a call on a card asks this
+// too, and a card is small.
+fn any_other(bytes: &[u8]) -> bool
+    ensures { λ r. ⌜ r ≡ not (every base (now (bytes .entry))) ⌝ }
+{
+    let mut wrong = false;
+    let mut i = 0;
+    while i < bytes.len() {
+        let more = is_other(bytes[i]);
+        wrong = wrong | more;
+        i += 1;
+    }
+    wrong
+}
+
 // Refusals 1, 2 and 3, asked in this order.
 pub fn check(bytes: &[u8]) -> PatternIs
     ensures { λ r. ⌜ toldPattern r ≡ pattern (now (bytes .entry)) (ok tt) ⌝ }
@@ -43,11 +66,10 @@ pub fn check(bytes: &[u8]) -> PatternIs
             place: 0,
         });
     }
-    let wrong = first_other(bytes);
-    if wrong < m {
+    if any_other(bytes) {
         return PatternIs::Refused(Refusal {
             number: refusal::PATTERN_BYTE,
-            place: wrong,
+            place: first_other(bytes),
         });
     }
     PatternIs::Sound
