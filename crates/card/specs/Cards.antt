@@ -4,11 +4,11 @@ use mathlib.Core.Path.{_≡_}
 use mathlib.Core.List.{List, [], _∷_, map}
 use mathlib.Core.Bool.{Bool, cond, _&&_}
 use lib.Dec.{ltb, leb}
-use lib.ListN.{length, take}
+use lib.ListN.{length, take, drop}
 use Rattle.text.specs.Letter.{base, every}
 use Rattle.text.specs.Compare.{same}
 use Rattle.text.specs.Refusal.{greatestPattern}
-use Rattle.text.specs.Card.{Row, Card, tabulate, padded}
+use Rattle.text.specs.Card.{Row, Card, tabulate, padded, areRows}
 use Rattle.card.specs.declared.cards.Card.{Card as Held}
 use Rattle.card.specs.declared.follow.Row.{Row as Pair}
 
@@ -54,6 +54,14 @@ pub record Bases (m : ℕ) : Type 0 where
 unfoldable pub isPadded : List ℕ → ℕ → Bool
 isPadded bytes m =
     ltb 0 m && leb m greatestPattern && same bytes (padded (take m bytes)) && every base (take m bytes)
+
+-- every row of a card of m bases and n segments, from row q on, is as document 01 says
+abbrev pub rowsFrom : ℕ → ℕ → List ℕ → List ℕ → ℕ → Bool
+rowsFrom m n exits firsts q = areRows m n q (drop q (rowsIn exits firsts))
+
+-- r is the test of the rows from b up to e: with that of the rows from e on, it is that of the rows from b on
+abbrev pub IsTest : ℕ → ℕ → List ℕ → List ℕ → ℕ → ℕ → Bool → Type 0
+IsTest m n exits firsts b e r = rowsFrom m n exits firsts b ≡ (r && rowsFrom m n exits firsts e)
 
 -- the exits of the empty card: bit q alone in row q below m
 unfoldable pub lones : ℕ → List ℕ

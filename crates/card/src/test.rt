@@ -6,11 +6,11 @@ use text::pattern::PatternIs;
 use text::pattern::check;
 use text::state::low;
 ghost use mathlib.Core.Path.{_≡_};
-ghost use Prim.Native.Nat.{_≤_};
+ghost use Prim.Native.Nat.{ℕ, _<_, _≤_};
 ghost use lib.ListN.{length};
 ghost use Rattle.text.specs.Bits.{low};
 ghost use Rattle.text.specs.Card.{isRow, areRows, wellFormed, samePattern};
-ghost use Rattle.card.specs.Cards.{cardIn, rowOf, rowsIn, isPadded, Full};
+ghost use Rattle.card.specs.Cards.{cardIn, rowOf, rowsIn, isPadded, Full, IsTest};
 
 // Whether the first m of 64 bytes are a pattern, and the others 0.
 fn is_padded(bytes: &[u8], m: usize) -> bool
@@ -27,46 +27,67 @@ fn is_padded(bytes: &[u8], m: usize) -> bool
     }
 }
 
-// Whether row q of a card of m bases and so many segments is as document 01 says; `all` has the lowest m bits set.
+// Whether row q, below m, of a card of m bases and so many segments is as document 01 says; `all` has the lowest m bits set.
 fn is_row(m: usize, all: u64, segments: u32, q: usize, exit: u64, first: u32) -> bool
-    requires { ⌜ all ≡ low m ⌝ }
+    requires { ⌜ (all ≡ low m) × (q < m) ⌝ }
     ensures { λ r. ⌜ r ≡ isRow m segments q (rowOf exit first) ⌝ }
 {
-    if m <= q {
-        if exit != 0 {
-            return false;
-        }
-        return first == Card::NONE;
+    let odd = exit % 2 == 1;
+    let within = exit <= all;
+    let ends = (first == Card::NONE) | (first < segments);
+    (odd == (q == 0)) & within & ends
+}
+
+// Whether the rows below m are. No branch depends on a row, so that the compiler tests several at once.
+fn rows_below(m: usize, segments: u32, exits: &[u64], firsts: &[u32]) -> bool
+    requires { ⌜ Full (now exits) (now firsts) × (m ≤ 64) ⌝ }
+    ensures { λ r. ⌜ IsTest m segments (now (exits .entry)) (now (firsts .entry)) 0 m r ⌝ }
+{
+    let all = low(m);
+    let mut sound = true;
+    let mut q = 0;
+    while q < m {
+        let exit = exits[q];
+        let first = firsts[q];
+        let right = is_row(m, all, segments, q, exit, first);
+        sound = sound & right;
+        q += 1;
     }
-    let fresh = if q == 0 { 1 } else { 0 };
-    if exit % 2 != fresh {
-        return false;
+    sound
+}
+
+// Whether a row is as document 01 says of those from m up: nothing leaves it, and nothing ends in it.
+fn is_idle(exit: u64, first: u32) -> bool
+    ensures { λ r. ⌜ ((m n q : ℕ) → m ≤ q → r ≡ isRow m n q (rowOf exit first)) ⌝ }
+{
+    (exit == 0) & (first == Card::NONE)
+}
+
+// Whether the rows from m up are, without a branch either.
+fn rows_behind(m: usize, exits: &[u64], firsts: &[u32]) -> bool
+    requires { ⌜ Full (now exits) (now firsts) × (m ≤ 64) ⌝ }
+    ensures { λ r. ⌜ ((n : ℕ) → IsTest m n (now (exits .entry)) (now (firsts .entry)) m 64 r) ⌝ }
+{
+    let mut sound = true;
+    let mut q = m;
+    while q < Card::GREATEST_PATTERN {
+        let exit = exits[q];
+        let first = firsts[q];
+        let right = is_idle(exit, first);
+        sound = sound & right;
+        q += 1;
     }
-    if all < exit {
-        return false;
-    }
-    if first == Card::NONE {
-        return true;
-    }
-    first < segments
+    sound
 }
 
 // Whether all 64 rows are.
 fn are_rows(m: usize, segments: u32, exits: &[u64], firsts: &[u32]) -> bool
-    requires { ⌜ Full (now exits) (now firsts) ⌝ }
+    requires { ⌜ Full (now exits) (now firsts) × (m ≤ 64) ⌝ }
     ensures { λ r. ⌜ r ≡ areRows m segments 0 (rowsIn (now (exits .entry)) (now (firsts .entry))) ⌝ }
 {
-    let all = low(m);
-    let mut q = 0;
-    while q < Card::GREATEST_PATTERN {
-        let exit = exits[q];
-        let first = firsts[q];
-        if !is_row(m, all, segments, q, exit, first) {
-            return false;
-        }
-        q += 1;
-    }
-    true
+    let below = rows_below(m, segments, exits, firsts);
+    let behind = rows_behind(m, exits, firsts);
+    below & behind
 }
 
 // Whether a card is not malformed.

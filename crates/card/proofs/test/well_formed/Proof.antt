@@ -29,8 +29,8 @@ full c = record { states = search needs; ends = search needs }
 
 are-rows-requires : tie.Need-are-rows-requires
 are-rows-requires c κs =
-    let d = c .before .before .before .before .before in
-    full (d .before .before .before .before .before .before)
+    let d = c .before .before .before .before .before .before in
+    (full (d .before .before .before .before .before), d .before .before .before .if1 .left)
 
 returns-4 : tie.Need-returns-4
 returns-4 c =
