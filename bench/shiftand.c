@@ -3,26 +3,9 @@
 #include "walk.h"
 #include "yardsticks.h"
 
-uint64_t search_early(const uint8_t *pattern, size_t m, const uint8_t *stretch, size_t len, uint8_t *marks, size_t marks_len,
-                      uint8_t *block, size_t block_len)
-{
-    const struct way way = {EARLY, PRINTS, 1};
-    return walk(way, pattern, m, stretch, len, marks, marks_len, block, block_len);
-}
-
-uint64_t search_memcmp(const uint8_t *pattern, size_t m, const uint8_t *stretch, size_t len, uint8_t *marks, size_t marks_len,
-                       uint8_t *block, size_t block_len)
-{
-    const struct way way = {GATHERED, MEMCMP, 1};
-    return walk(way, pattern, m, stretch, len, marks, marks_len, block, block_len);
-}
-
-uint64_t search_prints(const uint8_t *pattern, size_t m, const uint8_t *stretch, size_t len, uint8_t *marks, size_t marks_len,
-                       uint8_t *block, size_t block_len)
-{
-    const struct way way = {GATHERED, PRINTS, 1};
-    return walk(way, pattern, m, stretch, len, marks, marks_len, block, block_len);
-}
+YARDSTICK(search_early, EARLY, PRINTS, 1)
+YARDSTICK(search_memcmp, GATHERED, MEMCMP, 1)
+YARDSTICK(search_prints, GATHERED, PRINTS, 1)
 
 uint64_t trusting(const uint8_t *pattern, size_t m, const uint8_t *stretch, size_t len, uint8_t *marks, size_t marks_len,
                   uint8_t *block, size_t block_len)

@@ -2,23 +2,6 @@
 #include "walk.h"
 #include "yardsticks.h"
 
-uint64_t check_early(const uint8_t *pattern, size_t m, const uint8_t *stretch, size_t len, uint8_t *marks, size_t marks_len,
-                     uint8_t *block, size_t block_len)
-{
-    const struct way way = {EARLY, PRINTS, 0};
-    return walk(way, pattern, m, stretch, len, marks, marks_len, block, block_len);
-}
-
-uint64_t check_memcmp(const uint8_t *pattern, size_t m, const uint8_t *stretch, size_t len, uint8_t *marks, size_t marks_len,
-                      uint8_t *block, size_t block_len)
-{
-    const struct way way = {GATHERED, MEMCMP, 0};
-    return walk(way, pattern, m, stretch, len, marks, marks_len, block, block_len);
-}
-
-uint64_t check_prints(const uint8_t *pattern, size_t m, const uint8_t *stretch, size_t len, uint8_t *marks, size_t marks_len,
-                      uint8_t *block, size_t block_len)
-{
-    const struct way way = {GATHERED, PRINTS, 0};
-    return walk(way, pattern, m, stretch, len, marks, marks_len, block, block_len);
-}
+YARDSTICK(check_early, EARLY, PRINTS, 0)
+YARDSTICK(check_memcmp, GATHERED, MEMCMP, 0)
+YARDSTICK(check_prints, GATHERED, PRINTS, 0)

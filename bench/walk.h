@@ -201,4 +201,13 @@ EACH_BY_ITSELF uint64_t walk(struct way way, const uint8_t *pattern, size_t m, c
     return 0;
 }
 
+/* A yardstick: the walk in one way, under a name. */
+#define YARDSTICK(name, test, look, searches)                                                                                      \
+    uint64_t name(const uint8_t *pattern, size_t m, const uint8_t *stretch, size_t len, uint8_t *marks, size_t marks_len,          \
+                  uint8_t *block, size_t block_len)                                                                                \
+    {                                                                                                                              \
+        const struct way way = {test, look, searches};                                                                             \
+        return walk(way, pattern, m, stretch, len, marks, marks_len, block, block_len);                                            \
+    }
+
 #endif
