@@ -28,6 +28,26 @@ FORM(card) { return UNUSED, paced_card(pattern, m, stretch, len); }
 FORM(card_ask) { return UNUSED, paced_ask(pattern, m, stretch, len); }
 FORM(card_join_ask) { return UNUSED, paced_join(pattern, m, stretch, len); }
 
+/* A pattern of the same bases, turned round and each another one, so that long ones end in none of the data: every record of a watch list
+   is then looked for in all of the stretch. */
+static void absent(const uint8_t *pattern, size_t m, uint8_t other[MOST_BASES])
+{
+    for (size_t i = 0; i < m; i++) {
+        uint8_t base = pattern[m - 1 - i];
+        other[i] = base == 'A' ? 'C' : base == 'C' ? 'A' : base == 'G' ? 'T' : 'G';
+    }
+}
+
+static uint64_t watch(size_t records, const uint8_t *pattern, size_t m, const uint8_t *stretch, size_t len)
+{
+    uint8_t other[MOST_BASES];
+    absent(pattern, m, other);
+    return paced_watch(other, m, records, stretch, len);
+}
+FORM(watch_1) { return UNUSED, watch(1, pattern, m, stretch, len); }
+FORM(watch_8) { return UNUSED, watch(8, pattern, m, stretch, len); }
+FORM(watch_32) { return UNUSED, watch(32, pattern, m, stretch, len); }
+
 /* Whether an answer, and what is left in the lent bytes, is what the reference expects. */
 typedef int agreement(uint64_t answer, const struct question *question, const struct expected *expected);
 
@@ -64,6 +84,15 @@ static int sized(uint64_t answer, const struct question *question, const struct 
     return answer == (expected->answer == 0 ? expected->results[1] : cerantuh_number(expected->answer));
 }
 
+/* The first segment that is marked, or the number of the refusal. */
+static int sighted(uint64_t answer, const struct question *question, const struct expected *expected)
+{
+    (void)question;
+    const uint8_t *mark = memchr(expected->marks, 1, expected->mark_count);
+    uint64_t segment = mark != NULL ? (uint64_t)(mark - expected->marks) : NO_HIT;
+    return answer == (expected->answer == 0 ? segment << 8 : cerantuh_number(expected->answer));
+}
+
 /* The segment count, 0 of what is refused. */
 static int segments(uint64_t answer, const struct question *question, const struct expected *expected)
 {
@@ -86,8 +115,9 @@ static int asked_twice(uint64_t answer, const struct question *question, const s
     return answer == again.results[3];
 }
 
-/* What a call looks for: the pattern on a strand, on either, its first hit, or nothing, which is the check of a stretch alone. */
-enum looks { ON_GIVEN, ON_OPPOSITE, ON_EITHER, FOR_FIRST, FOR_NOTHING, LOOKS };
+/* What a call looks for: the pattern on a strand, on either, its first hit, another pattern, or nothing, which is the check of a stretch
+   alone. */
+enum looks { ON_GIVEN, ON_OPPOSITE, ON_EITHER, FOR_FIRST, FOR_ABSENT, FOR_NOTHING, LOOKS };
 
 static const struct call {
     const char *name;
@@ -108,6 +138,9 @@ static const struct call {
     {"card", card, ON_GIVEN, 1, segments},
     {"card_ask", card_ask, ON_GIVEN, 0, asked},
     {"card_join_ask", card_join_ask, ON_GIVEN, 0, asked_twice},
+    {"watch_1", watch_1, FOR_ABSENT, 1, sighted},
+    {"watch_8", watch_8, FOR_ABSENT, 1, sighted},
+    {"watch_32", watch_32, FOR_ABSENT, 1, sighted},
     /* the yardsticks */
     {"early", search_early, ON_GIVEN, 1, marked},
     {"memcmp", search_memcmp, ON_GIVEN, 1, marked},
@@ -140,10 +173,13 @@ static void expect(const struct question *question, struct expected expected[LOO
     const uint8_t *pattern = question->pattern, *stretch = question->stretch;
     const uint64_t fresh = CERANTUH_FRESH_STATE;
     size_t m = question->m, len = question->len, most = sizeof marks, room = sizeof block;
+    uint8_t other[MOST_BASES];
+    absent(pattern, m, other);
     reference_from(GIVEN, pattern, m, fresh, stretch, len, most, room, expected + ON_GIVEN);
     reference_from(OPPOSITE, pattern, m, fresh, stretch, len, most, room, expected + ON_OPPOSITE);
     reference_either(pattern, m, stretch, len, most, room, expected + ON_EITHER);
     reference_first(GIVEN, pattern, m, fresh, stretch, len, CERANTUH_FIRST_BLOCK, expected + FOR_FIRST);
+    reference_from(GIVEN, other, m, fresh, stretch, len, most, room, expected + FOR_ABSENT);
     reference_from(GIVEN, (const uint8_t *)"A", 1, fresh, stretch, len, most, room, expected + FOR_NOTHING);
 }
 

@@ -9,6 +9,8 @@ pub const SEGMENTS: usize = 18;
 pub const MARKED: usize = 19;
 
 // What is compared.
+pub const LISTS: usize = 54;
+
 pub const CUTS: usize = 55;
 
 pub const WRITES: usize = 56;

@@ -5,6 +5,7 @@ mod cuts;
 mod feeds;
 mod groups;
 mod joins;
+mod lists;
 mod reads;
 mod searches;
 mod stretches;
@@ -34,7 +35,8 @@ fn searched(tally: Tally, text: &[u8], seed: u64) -> Tally {
     let m = drawn::pattern(&mut bases, text, seed);
     let pattern = part(&bases, 0, m);
     let whole = stretches::compare(tally, groups::WHOLE, pattern, text);
-    spoilt(whole, pattern, text, seed)
+    let listed = lists::compare(whole, text, text, seed);
+    spoilt(listed, pattern, text, seed)
 }
 
 // The text damaged, with a pattern that may be spoilt.
@@ -48,7 +50,9 @@ fn spoilt(tally: Tally, pattern: &[u8], text: &[u8], seed: u64) -> Tally {
 fn damaged(tally: Tally, pattern: &[u8], text: &[u8], seed: u64) -> Tally {
     let mut bytes = [0u8; 2048];
     let n = drawn::damage(&mut bytes, text, seed);
-    stretches::compare(tally, groups::DAMAGED, pattern, part(&bytes, 0, n))
+    let stretch = part(&bytes, 0, n);
+    let damaged = stretches::compare(tally, groups::DAMAGED, pattern, stretch);
+    lists::compare(damaged, text, stretch, drawn::seed(seed, 805))
 }
 
 // All texts.
@@ -70,7 +74,7 @@ fn main() {
           marked ones of them\n\n\n\n\n\n\n\n\n\n\n\n\ndamaged stretches accepted\ndamaged stretches refused with 1\n\
           damaged stretches refused with 2\ndamaged stretches refused with 3\n\ndamaged stretches refused with 5\n\
           damaged stretches refused with 6\ndamaged stretches refused with 7\ndamaged stretches refused with 8\n\
-          damaged stretches refused with 9\n\n\n\n\n\n\n\n\nsegments of damaged stretches\nmarked ones of them\n\n\n\n\
+          damaged stretches refused with 9\n\n\n\n\n\n\n\n\nsegments of damaged stretches\nmarked ones of them\n\n\nwatch lists\n\
           searches from a state, cut at every segment\nwrites\n\
           checks\nreads, at every variant\nsearches, by bit-vectors and by border tables\nfeeds, segment by segment\n\
           cards, row by row\njoins of two parts, and what cards tell of states\nsearches on both strands\n",

@@ -1,6 +1,7 @@
 // The lines of the examples, one after the other.
 use crate::calls;
 use crate::cards;
+use crate::lists;
 use crate::words::find;
 use crate::words::number;
 use crate::words::wanted;
@@ -94,7 +95,9 @@ fn answer(bench: Bench, call: usize, line: &[u8]) -> Answer {
         97 => cards::ask(bench.right, number(line, 1) as u64),
         99 => calls::check(line),
         102 => calls::feed(line),
+        107 => lists::known(line),
         108 => calls::lengths(line),
+        116 => lists::ticked(line),
         119 => calls::write(line),
         _ => Answer::refused(101, 0),
     }
@@ -122,8 +125,8 @@ fn tallied(bench: Bench, call: usize, line: &[u8]) -> Tally {
     }
 }
 
-// One line, known by its first letter: ask, broken, check, equal, feed, join, lengths, make, put, read, search, united,
-// write, or a heading. Nothing comes of an empty line or a comment.
+// One line, known by its first letter: ask, broken, check, equal, feed, join, known, lengths, make, put, read, search, ticked,
+// united, write, or a heading. Nothing comes of an empty line or a comment.
 fn judge(bench: Bench, line: &[u8]) -> Bench {
     let call = number_at(line, 0);
     match call {

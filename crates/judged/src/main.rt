@@ -4,6 +4,7 @@ mod bytes;
 mod calls;
 mod cards;
 mod judging;
+mod lists;
 mod words;
 
 use judging::headings;
@@ -12,7 +13,7 @@ use straight::part;
 use tally::report;
 
 fn main() {
-    let mut input = [0u8; 32768];
+    let mut input = [0u8; 65536];
     let n = io::read_full(0, &mut input);
     let examples = part(&input, 0, n);
     let mut names = [0u8; 1024];

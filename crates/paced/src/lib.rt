@@ -2,10 +2,12 @@
 // They make no promise of their own. A call that is too short to be measured by itself stands behind one that is measured too.
 use card::Asked;
 use card::Card;
+use lent::List;
 use search::State;
 use stretch::Checked;
 use stretch::Written;
 use text::strand::Strand;
+use watch::Found;
 
 // The check of a stretch: its size, or the number of its refusal.
 #[no_mangle]
@@ -44,6 +46,28 @@ pub extern "C" fn paced_join(pattern: &[u8], stretch: &[u8]) -> u64 {
     let made = Card::of(pattern, Strand::Given, stretch);
     let both = made.card.join(made.card);
     asked(both.card)
+}
+
+// A watch list of so many records, all of one pattern.
+fn watched(pattern: &[u8], n: usize) -> List {
+    let mut list = List::empty();
+    let mut k = 0;
+    while k < n {
+        list = list.with(pattern, 0);
+        k += 1;
+    }
+    list
+}
+
+// The first record of such a list that ends: above the lowest byte its segment or the greatest number of 32 bits, or in it the number of
+// the refusal.
+#[no_mangle]
+pub extern "C" fn paced_watch(pattern: &[u8], n: usize, stretch: &[u8]) -> u64 {
+    match watched(pattern, n).first(stretch) {
+        Found::Ends { label: _, segment } => (segment as u64) << 8,
+        Found::None => 0xffff_ffff << 8,
+        Found::Refused(wrong) => wrong.number,
+    }
 }
 
 // The stretch of a window from a variant file: above the lowest byte the bytes that it has, or in it the number of the refusal and

@@ -17,6 +17,9 @@ use Rattle.search.specs.declared.state.Fed.{Fed}
 use Rattle.card.specs.Answers.{answerAsked}
 use Rattle.card.specs.declared.answers.Asked.{Asked}
 use Rattle.card.specs.declared.answers.Made.{Made}
+use Rattle.watch.specs.Watching.{Pointed, answerFound, answerListed}
+use Rattle.watch.specs.declared.round.Found.{Found}
+use Rattle.watch.specs.declared.round.Listed.{Listed}
 use Rattle.tally.specs.declared.answers.Answer.{Answer}
 
 -- a refusal: zeros beside number and place
@@ -66,6 +69,14 @@ searchedAs r = saidAs (λ (x : Sums). x .segments) (λ (x : Sums). x .size) (λ 
 -- a feed: the next state, and 1 where an occurrence ends
 abbrev pub fedAs : Fed → Answer
 fedAs r = saidAs (λ (x : Next). x .state) (λ (x : Next). cond (x .ends) 1 0) (λ (x : Next). 0) (answerFed r)
+
+-- what a watch list finds: the label, and the first ending segment
+abbrev pub foundAs : Found → Answer
+foundAs r = saidAs (λ (x : Pointed). x .label) (λ (x : Pointed). x .segment) (λ (x : Pointed). 0) (answerFound r)
+
+-- whether its records were marked
+abbrev pub listedAs : Listed → Answer
+listedAs r = saidAs (λ (x : Unit {0}). 0) (λ (x : Unit {0}). 0) (λ (x : Unit {0}). 0) (answerListed r)
 
 -- what a card tells of a state: the state behind, and the first end
 abbrev pub askedAs : Asked → Answer

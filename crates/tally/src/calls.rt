@@ -8,8 +8,11 @@ use search::Searched;
 use stretch::Checked;
 use stretch::Got;
 use stretch::Written;
+use watch::Found;
+use watch::Listed;
 ghost use mathlib.Core.Path.{_≡_};
 ghost use Rattle.tally.specs.Answers.{checkedAs, writtenAs, gotAs, searchedAs, fedAs, askedAs, rowAs};
+ghost use Rattle.tally.specs.Answers.{foundAs, listedAs};
 
 // A check: segment count and size.
 pub fn checked(answer: Checked) -> Answer
@@ -84,6 +87,27 @@ pub fn fed(answer: Fed) -> Answer
     match answer {
         Fed::Next { state, ends } => Answer::told(state.bits as usize, ends as usize, 0),
         Fed::Refused(refused) => Answer::refused(refused.number, refused.place),
+    }
+}
+
+// What a watch list finds: the label, and the first ending segment, 4,294,967,295 where no record ends.
+pub fn found(answer: Found) -> Answer
+    ensures { λ r. ⌜ r ≡ foundAs answer ⌝ }
+{
+    match answer {
+        Found::Ends { label, segment } => Answer::told(label as usize, segment, 0),
+        Found::None => Answer::told(0, 4294967295, 0),
+        Found::Refused(refused) => Answer::refused(refused.number, refused.place),
+    }
+}
+
+// Whether the records of a watch list were marked.
+pub fn listed(answer: Listed) -> Answer
+    ensures { λ r. ⌜ r ≡ listedAs answer ⌝ }
+{
+    match answer {
+        Listed::Marked => Answer::told(0, 0, 0),
+        Listed::Refused(refused) => Answer::refused(refused.number, refused.place),
     }
 }
 

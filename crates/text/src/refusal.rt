@@ -43,6 +43,10 @@ pub const STATE_WRONG: u64 = 17;
 pub const FILE_HEADING: u64 = 18;
 // A record of a variant file is wrong.
 pub const RECORD_WRONG: u64 = 19;
+// A watch list has more than 32 records.
+pub const LIST_LONG: u64 = 20;
+// The pattern of a record of a watch list is wrong.
+pub const WATCHED_WRONG: u64 = 21;
 // A window begins at position 0, or has a base beyond the last position.
 pub const WINDOW_PLACE: u64 = 28;
 
@@ -52,3 +56,5 @@ pub const GREATEST_PATTERN: usize = 64;
 pub const GREATEST_STRETCH: usize = 32768;
 // The most segments of a stretch.
 pub const MOST_IN_STRETCH: usize = 10922;
+// The most records of a watch list.
+pub const MOST_WATCHED: usize = 32;

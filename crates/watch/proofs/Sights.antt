@@ -1,0 +1,299 @@
+-- The walk of a record over a sound stretch: letter by letter, variant by variant, segment by segment, up to the first end.
+use Prim.Native.Nat.{ℕ, zero, suc, _+_, _-_, _*_, _%_, _^_, _≤_, _<_}
+use native.Mathlib.Omega.{arith}
+use native.Mathlib.Numerals.{add-one}
+use native.Mathlib.Decide.{ℕ-discrete}
+use mathlib.Core.Path.{_≡_, refl, sym, ap, subst, _∙_}
+use mathlib.Core.Logic.{by-cases}
+use mathlib.Core.Bool.{Bool, true, false, cond}
+use mathlib.Core.List.{List, [], _∷_, _++_}
+use lib.Bits.{bitAnd, bitOr}
+use lib.Dec.{ltb, eqb}
+use lib.ListN.{length, getD, take, drop, set, replicate, length-set, length-replicate}
+use lib.Pow.{pow-mono}
+use lib.Seq.{getD-set-same, getD-set-other, take-all}
+use Rattle.text.specs.Letter.{letter, meant, raised, every, Classes}
+use Rattle.text.specs.Text.{Variant, Segment, Text, counted}
+use Rattle.text.specs.State.{fresh, next, ends, run, marksFrom, marks}
+use Rattle.text.specs.Card.{none, later, firstEnd, tabulate}
+use Rattle.text.specs.Refusal.{Outcome, ok, refused}
+use Rattle.text.proofs.Outcomes.{ok-inj, refused-ok}
+use Rattle.text.proofs.Ends.{later-none, later-zero, later-add, firstEnd-le}
+use Rattle.text.proofs.Rows.{length-tabulate, getD-tabulate}
+use Rattle.stretch.specs.Pieces.{openAt, variantsAt, headAt, nextOf, mostInStretch}
+use Rattle.stretch.specs.Reading.{Taken, valueOf, valuesFrom, variantAt, many, segmentAt, stretchOf}
+use Rattle.stretch.proofs.Frames.{variants-met, open-met}
+use Rattle.stretch.proofs.Heads.{Whole, head-is, head-found}
+use Rattle.stretch.proofs.Units.{Read, variant-read}
+use Rattle.stretch.proofs.Segments.{in-values, in-not, in-all}
+use Rattle.stretch.proofs.Rows.{Row}
+use Rattle.stretch.proofs.Decoding.{stretch-read}
+use Rattle.stretch.proofs.Stretches.{stretch-most}
+use Rattle.search.specs.Masks.{maskOf, bases, Masks, others, Others, StateOf, Ready}
+use Rattle.search.specs.Words.{Turned, SweptAt}
+use Rattle.search.specs.declared.segment.Swept.the-variants.{To}
+use Rattle.search.proofs.BitScans.{Turning, turning-none, turning-more, turning-all}
+use Rattle.search.proofs.Words.{Sweeping, sweeping-none, sweeping-more, sweeping-taken, swept-to}
+use Rattle.search.proofs.Searches.{run-state}
+use Rattle.watch.specs.Watching.{basesOf, sound, firstOf}
+use Rattle.watch.specs.Sight.{Vectors, Armed, Readable, Stepped}
+use Rattle.watch.specs.declared.watched.Watched.{Watched}
+use Rattle.watch.proofs.Records.{sound-spells}
+
+-- the letter vectors, turned one after another
+pub record Turn (P vectors turned : List ℕ) (c : ℕ) : Type 0 where
+  pub full : length turned ≡ 256
+  pub each : (b : ℕ) → b < c → getD turned b 0 ≡ others (maskOf P (raised b))
+
+pub turn-none : (P vectors : List ℕ) → Turn P vectors (replicate 256 0) 0
+turn-none P vectors = record { full = length-replicate {A = ℕ} 256 0; each = λ b l. absurd (let z : ⊥ = omega (arith, l) in z) }
+
+pub turn-more : (P vectors turned : List ℕ) (c : ℕ) → Masks P vectors → Turn P vectors turned c → c < 256
+    → Turn P vectors (set turned c (others (getD vectors c 0))) (c + 1)
+turn-more P vectors turned c y t l =
+    record {
+      full = length-set turned c _ ∙ t .full;
+      each = λ b near. by-cases (ℕ-discrete b c)
+          (λ (e : b ≡ c). rw e (getD-set-same turned c _ 0 (let z : c < length turned = omega (arith, l, t .full) in z)
+          ∙ ap others (y .each c l)))
+          (λ (e : ¬ (b ≡ c)). getD-set-other turned c b _ 0 e ∙ t .each b (omega (arith, near, e)));
+    }
+
+pub turn-all : (P vectors turned : List ℕ) (c : ℕ) → Turn P vectors turned c → 256 ≤ c → Others P turned
+turn-all P vectors turned c t l = record { full = t .full; each = λ b near. t .each b (omega (arith, near, l)) }
+
+-- a table of letters, which the search looks into beside the letter vectors and this walk does not
+unfoldable classTable : List ℕ
+classTable = tabulate (λ c. cond (letter c) 0 1) 256
+
+class-table : Classes classTable
+unfolding classTable
+class-table = record { full = length-tabulate _ 256; each = λ c l. getD-tabulate (λ c. cond (letter c) 0 1) 256 c 0 l }
+
+ready : (P vectors : List ℕ) (st : ℕ) → Armed P vectors st → Ready P vectors classTable st
+ready P vectors st y =
+    record { some = y .tables .some; short = y .tables .short; vectors = y .tables .turned; letters = class-table; state = y .state }
+
+-- i letters of a variant are scanned
+pub record Scanning (P : List ℕ) (st : ℕ) (v : Variant) (i before out missed : ℕ) : Type 0 where
+  pub bad : ℕ
+  pub turning : Turning P st v i before out missed bad
+
+pub scanning-none : (P vectors : List ℕ) (st : ℕ) (v : Variant) (before : ℕ) → before < 2 ^ 64 → Armed P vectors st
+    → Scanning P st v 0 before (others st) before
+scanning-none P vectors st v before fits y =
+    record { bad = 0; turning = turning-none P vectors classTable st v before fits (ready P vectors st y) }
+
+pub scanning-more : (P vectors : List ℕ) (st : ℕ) (v : Variant) (i before out missed : ℕ) → Armed P vectors st
+    → Scanning P st v i before out missed → i < length v → (c : ℕ) → c ≡ getD v i 0 → c < 256 → (t : ℕ) → getD vectors c 0 ≡ t
+    → Scanning P st v (i + 1) before (bitOr out t * 2 ^ 1 % 2 ^ 64) (bitAnd missed (bitOr out t))
+scanning-more P vectors st v i before out missed y s l c e small t at =
+    record {
+      bad = _;
+      turning = turning-more P vectors classTable st v i before out missed (s .bad) (ready P vectors st y) (s .turning) l c e small t at;
+    }
+
+pub scanning-all : (P : List ℕ) (st : ℕ) (v : Variant) (i before out missed : ℕ) → Scanning P st v i before out missed → length v ≤ i
+    → Turned P st (meant v ∷ []) before out missed
+scanning-all P st v i before out missed s l = turning-all P st v i before out missed (s .bad) (s .turning) l
+
+-- a sound segment has its count, and its variants behind it
+pub count-there : (s : List ℕ) (at : ℕ) → Readable s at → (n p : ℕ) → variantsAt s at ≡ refused n p → ⊥
+unfolding segmentAt
+count-there s at g n p e = refused-ok n p (g .read) (rw e at (g .is))
+
+pub count-inside : (s : List ℕ) (at all : ℕ) → variantsAt s at ≡ ok all → at < length s
+count-inside s at all e = variants-met s at all e .inside
+
+count-many : (s : List ℕ) (at all : ℕ) → variantsAt s at ≡ ok all → segmentAt s at ≡ many (variantAt s) all [] (at + 1)
+unfolding segmentAt
+count-many s at all e = rw e
+
+-- `left` of the variants of the segment at `at` are left
+pub record Sweep (P : List ℕ) (st : ℕ) (s : List ℕ) (at all next out missed left : ℕ) : Type 0 where
+  pub most : left ≤ all
+  pub size : ℕ
+  pub sweeping : Sweeping P st s (at + 1) (all - left) next size out missed
+
+pub sweep-none : (P vectors : List ℕ) (st : ℕ) (s : List ℕ) (at all : ℕ) → Armed P vectors st → variantsAt s at ≡ ok all
+    → Sweep P st s at all (at + 1) 0xffff_ffff_ffff_fffe 0xffff_ffff_ffff_ffff all
+sweep-none P vectors st s at all y e =
+    let none : all - all ≡ 0 = omega arith in
+    let inside : at + 1 ≤ length s = omega (arith, count-inside s at all e) in
+    record { most = omega arith; size = 0; sweeping = rw none (sweeping-none P st s (at + 1) (y .tables .some) (y .state .odd) inside) }
+
+module _ (P : List ℕ) (st : ℕ) (s : List ℕ) (at all next out missed left : ℕ) (w : Sweep P st s at all next out missed left)
+    (g : Readable s at) (e : variantsAt s at ≡ ok all) where
+  -- one variant more is there to be read
+  module _ (l : 0 < left) where
+    abbrev seen : Segment
+    seen = valuesFrom s (all - left) (at + 1)
+
+    there : (o : Outcome (Taken Variant ℕ)) → variantAt s seen next ≡ o → (y : Taken Variant ℕ) × (variantAt s seen next ≡ ok y)
+    there (ok y) is = (y, is)
+    there (refused n p) is =
+        let ahead : all - left < all = omega (arith, l, w .most) in
+        let not = in-not s (at + 1) (all - left) _ next _ (w .sweeping .sum) all ahead n p is in
+        absurd (refused-ok n p (g .read) (sym not ∙ sym (count-many s at all e) ∙ g .is))
+
+    whole : (y : Taken Variant ℕ) × (variantAt s seen next ≡ ok y)
+    whole = there (variantAt s seen next) refl
+
+    read : Read s seen next (whole .0)
+    read = variant-read s seen next (whole .0) (whole .1)
+
+    pub sweep-whole : (n p : ℕ) → headAt s next ≡ refused n p → ⊥
+    sweep-whole n p is = refused-ok n p _ (sym is ∙ head-found s next _ refl (read .inside))
+
+    pub sweep-more : (start behind reached met : ℕ) → headAt s next ≡ ok (record { start = start; next = behind })
+        → Turned P st (meant (take (behind - start) (drop start s)) ∷ []) missed reached met
+        → Sweep P st s at all behind (bitAnd out reached) met (left - 1)
+    sweep-more start behind reached met h t =
+        let p : Whole s next start behind = head-is s next start behind h in
+        let is : variantAt s seen next ≡ ok (record { value = valueOf s next; next = behind }) =
+        whole .1 ∙ ap ok (read .is) ∙ ap (λ (n : ℕ). ok (record { value = valueOf s next; next = n })) (sym (p .ends)) in
+        let size : ℕ = counted (behind - start) in
+        let swept : SweptAt P st s (at + 1) (all - left) next missed (To behind size reached met) =
+        swept-to P st s (at + 1) (all - left) next missed start behind p is size reached met refl (λ _. t) in
+        let one : all - left + 1 ≡ all - (left - 1) = omega (arith, l, w .most) in
+        record {
+          most = omega (arith, w .most);
+          size = w .size + size;
+          sweeping = rw one at (sweeping-more P st s (at + 1) (all - left) next (w .size) out missed
+              (w .sweeping) _ swept behind size reached met refl);
+        }
+
+  -- all are taken
+  pub sweep-all : (vectors : List ℕ) → Armed P vectors st → left ≤ 0 → (high : ℕ)
+      → high ≡ 0xffff_ffff_ffff_ffff * 2 ^ (length P - 1) % 2 ^ 64
+      → Stepped P st s at next (others (bitOr out (high * 2 ^ 1 % 2 ^ 64))) (ltb missed high)
+  sweep-all vectors y l high is =
+      let t = sweeping-taken P st s (at + 1) (all - left) next (w .size) out missed (w .sweeping) (y .tables .some)
+      (y .tables .short) high is in
+      let done : all - left ≡ all = omega (arith, l) in
+      record {
+        segment = t .seen;
+        read = count-many s at all e ∙ in-all s (at + 1) (all - left) (t .seen) next (w .size) (t .sum) all done;
+        reached = t .reached;
+        ended = t .ended;
+      }
+
+-- a sound stretch has its count
+pub open-there : (s : List ℕ) (t : Text) → stretchOf s ≡ ok t → (n p : ℕ) → openAt s ≡ refused n p → ⊥
+unfolding stretchOf
+open-there s t e n p is = refused-ok n p t (rw is at e)
+
+-- k of the segments of a text are walked over, and none ends; the first end of the text is that of what is left
+pub record Walking (P : List ℕ) (s : List ℕ) (t : Text) (all bits at k : ℕ) : Type 0 where
+  pub seen : Text
+  pub left : Text
+  pub row : Row (λ _. segmentAt s) seen at left (length s)
+  pub count : k + length left ≡ all
+  pub few : all ≤ mostInStretch
+  pub state : StateOf P bits
+  pub rest : firstEnd (marks P t) ≡ later k (firstEnd (marksFrom P bits left))
+
+pub walking-none : (P vectors s : List ℕ) (t : Text) (all : ℕ) → Vectors P vectors → stretchOf s ≡ ok t → openAt s ≡ ok all
+    → Walking P s t all fresh 2 0
+unfolding marks
+walking-none P vectors s t all y e o =
+    let r = stretch-read s t e in
+    let n : all ≡ length t = open-met s all o .count ∙ r .count in
+    let more : 2 ^ 1 ≤ 2 ^ length P = pow-mono (y .some) in
+    record {
+      seen = [];
+      left = t;
+      row = r .row;
+      count = omega (arith, n);
+      few = omega (arith, n, stretch-most s t e);
+      state = record { small = omega (arith, more); odd = refl };
+      rest = sym (later-zero (firstEnd (marksFrom P fresh t)) (firstEnd-le (marksFrom P fresh t)));
+    }
+
+-- the first end of a text is in its first segment, or that of the others
+marked : (b : Bool) (e : ℕ) → cond (eqb (cond b 1 0) 1) 0 (later 1 e) ≡ cond b 0 (later 1 e)
+marked true e = refl
+marked false e = refl
+
+front : (P : List ℕ) (bits state : ℕ) (g : Segment) (T : Text) (end : Bool) → end ≡ ends P bits g → state ≡ next P bits g
+    → firstEnd (marksFrom P bits (g ∷ T)) ≡ cond end 0 (later 1 (firstEnd (marksFrom P state T)))
+unfolding marksFrom firstEnd
+front P bits state g T end e r = rw (e, r) (marked (ends P bits g) (firstEnd (marksFrom P (next P bits g) T)))
+
+module _ (P s : List ℕ) (t : Text) (all bits at k : ℕ) (w : Walking P s t all bits at k) where
+  -- the next segment
+  record Ahead (left : Text) : Type 0 where
+    segment : Segment
+    place : ℕ
+    more : Text
+    is : left ≡ segment ∷ more
+    read : segmentAt s at ≡ ok (record { value = segment; next = place })
+    row : Row (λ _. segmentAt s) (w .seen ++ (segment ∷ [])) place more (length s)
+
+  ahead : (left : Text) → Row (λ _. segmentAt s) (w .seen) at left (length s) → 0 < length left → Ahead left
+  unfolding Row
+  ahead [] r l = absurd (let z : ⊥ = omega (arith, l) in z)
+  ahead (g ∷ l) r _ = record { segment = g; place = r .0; more = l; is = refl; read = r .1; row = r .2 }
+
+  module _ (l : k < all) where
+    here : Ahead (w .left)
+    here = ahead (w .left) (w .row) (omega (arith, l, w .count))
+
+    pub walking-readable : Readable s at
+    walking-readable = record { read = record { value = here .segment; next = here .place }; is = here .read }
+
+    module _ (behind state : ℕ) (end : Bool) (p : Stepped P bits s at behind state end) where
+      same : here .segment ≡ p .segment
+      same = ap (λ (x : Taken Segment ℕ). x .value) (ok-inj (sym (here .read) ∙ p .read))
+
+      place : here .place ≡ behind
+      place = ap (λ (x : Taken Segment ℕ). x .next) (ok-inj (sym (here .read) ∙ p .read))
+
+      split : firstEnd (marksFrom P bits (w .left)) ≡ cond end 0 (later 1 (firstEnd (marksFrom P state (here .more))))
+      split =
+          ap (λ (u : Text). firstEnd (marksFrom P bits u)) (here .is)
+          ∙ front P bits state (here .segment) (here .more) end (p .ended ∙ ap (ends P bits) (sym same)) (p .reached
+          ∙ ap (next P bits) (sym same))
+
+      pub walking-ends : end ≡ true → k ≡ firstEnd (marks P t)
+      unfolding later
+      walking-ends hit =
+          let one : firstEnd (marks P t) ≡ later k 0 = w .rest ∙ ap (later k) (split
+          ∙ ap (λ (b : Bool). cond b 0 (later 1 (firstEnd (marksFrom P state (here .more))))) hit) in
+          omega (arith, one, l, w .few)
+
+      pub walking-more : 0 < length P → end ≡ false → Walking P s t all state behind (k + 1)
+      unfolding run
+      walking-more some miss =
+          record {
+            seen = w .seen ++ (here .segment ∷ []);
+            left = here .more;
+            row = rw place at (here .row);
+            count = omega (arith, w .count, ap length (here .is));
+            few = w .few;
+            state = rw (p .reached) (run-state P bits (p .segment ∷ []) some (w .state));
+            rest =
+                w .rest ∙ ap (later k) (split ∙ ap (λ (b : Bool). cond b 0 (later 1 (firstEnd (marksFrom P state (here .more))))) miss)
+                ∙ sym (later-add k 1 (firstEnd (marksFrom P state (here .more))));
+          }
+
+  pub walking-all : all ≤ k → none ≡ firstEnd (marks P t)
+  unfolding marksFrom firstEnd
+  walking-all l = last (w .left) (omega (arith, l, w .count)) (w .rest)
+    where
+      last : (left : Text) → length left ≤ 0 → firstEnd (marks P t) ≡ later k (firstEnd (marksFrom P bits left))
+          → none ≡ firstEnd (marks P t)
+      last [] z e = sym (e ∙ later-none k)
+      last (g ∷ l) z e = absurd (let y : ⊥ = omega (arith, z) in y)
+
+-- the tables of a record, and what is seen of it
+pub record-vectors : (w : Watched) (vectors : List ℕ) → sound w ≡ true → Others (bases (take (w .m) (w .pattern))) vectors
+    → Vectors (take (w .m) (w .pattern)) vectors
+unfolding basesOf bases
+record-vectors w vectors e o =
+    let y = sound-spells w e in
+    record { some = y .some; short = y .short; turned = rw (take-all 64 (take (w .m) (w .pattern)) (y .short)) at o }
+
+pub first-is : (w : Watched) (t : Text) → firstEnd (marks (take (w .m) (w .pattern)) t) ≡ firstOf w t
+unfolding firstOf basesOf
+first-is w t = refl

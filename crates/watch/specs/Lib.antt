@@ -1,0 +1,3 @@
+pub mod Watching
+pub mod Rounds
+pub mod Sight

@@ -1,0 +1,164 @@
+// Where a record is first seen in a stretch. The stretch was found sound once for the whole list, so this walk asks nothing of its bytes
+// again. It is the search by bit-vectors with words turned (search/src/bits.rt), up to the first end.
+use crate::watched::Watched;
+use search::masks;
+use stretch::pieces::Counted;
+use stretch::pieces::Opened;
+use stretch::pieces::Part;
+use stretch::pieces::head;
+use stretch::pieces::open;
+use stretch::pieces::variants;
+ghost use mathlib.Core.Path.{_≡_};
+ghost use Rattle.text.specs.Refusal.{ok};
+ghost use Rattle.text.specs.State.{marks};
+ghost use Rattle.text.specs.Card.{firstEnd};
+ghost use Rattle.stretch.specs.Pieces.{openAt, variantsAt};
+ghost use Rattle.stretch.specs.Reading.{stretchOf};
+ghost use Rattle.search.specs.Masks.{bases, Others};
+ghost use Rattle.watch.specs.Watching.{firstOf};
+ghost use Rattle.watch.specs.Rounds.{Sought, textOf};
+ghost use Rattle.watch.specs.Sight.{Armed, Vectors, ScannedBy, Readable, Stepped};
+
+// No segment.
+pub const NONE: usize = 4294967295;
+
+// The other bits of the word behind a variant, and those that no word has had so far.
+struct Scanned {
+    out: u64,
+    missed: u64,
+}
+
+// The place behind a segment, the state there, and whether an occurrence ends in it.
+struct Behind {
+    next: usize,
+    state: u64,
+    ends: bool,
+}
+
+// The other bits of the letter vector of what each byte means.
+fn others(pattern: &[u8]) -> [u64; 256]
+    ensures { λ r. ⌜ Others (bases (now (pattern .entry))) r ⌝ }
+{
+    let vectors = masks(pattern);
+    let mut turned = [0u64; 256];
+    let mut c = 0;
+    while c < 256 {
+        turned[c] = !vectors[c];
+        c += 1;
+    }
+    turned
+}
+
+// The word that the letters of a variant lead to.
+fn scan(vectors: &[u64; 256], bits: u64, before: u64, variant: &[u8]) -> Scanned
+    ensures { λ r. ⌜ ScannedBy (now (vectors .entry)) bits before (now (variant .entry)) (r .out) (r .missed) ⌝ }
+{
+    let mut out = !bits;
+    let mut missed = before;
+    let mut i = 0;
+    while i < variant.len() {
+        let c = variant[i] as usize;
+        let e = out | vectors[c];
+        missed = missed & e;
+        out = e << 1;
+        i += 1;
+    }
+    Scanned { out, missed }
+}
+
+// How many variants the segment at `at` has, a sound one.
+fn count(stretch: &[u8], at: usize) -> usize
+    requires { ⌜ Readable (now stretch) at ⌝ }
+    ensures { λ r. ⌜ variantsAt (now (stretch .entry)) at ≡ ok r ⌝ }
+{
+    match variants(stretch, at) {
+        Counted::Variants(all) => all,
+        // A sound segment has its count.
+        Counted::Refused(_) => 0,
+    }
+}
+
+// The state behind the segment at `at`, a sound one.
+fn over(pattern: &[u8], vectors: &[u64; 256], bits: u64, stretch: &[u8], at: usize) -> Behind
+    requires { ⌜ Armed (now pattern) (now vectors) bits × Readable (now stretch) at ⌝ }
+    ensures { λ r. ⌜ Stepped (now (pattern .entry)) bits (now (stretch .entry)) at (r .next) (r .state) (r .ends) ⌝ }
+{
+    let all = count(stretch, at);
+    let mut next = at + 1;
+    let mut out = 0xffff_ffff_ffff_fffe;
+    let mut missed = 0xffff_ffff_ffff_ffff;
+    let mut left = all;
+    while 0 < left {
+        let Part::At {
+            start,
+            next: behind,
+        } = head(stretch, next)
+        else {
+            // In a sound segment no variant is cut off.
+            return Behind {
+                next,
+                state: bits,
+                ends: false,
+            };
+        };
+        let letters = &stretch[start..behind];
+        let scanned = scan(vectors, bits, missed, letters);
+        out = out & scanned.out;
+        missed = scanned.missed;
+        next = behind;
+        left -= 1;
+    }
+    let high = 0xffff_ffff_ffff_ffff << (pattern.len() - 1);
+    let state = !(out | (high << 1));
+    Behind {
+        next,
+        state,
+        ends: missed < high,
+    }
+}
+
+// How many segments a sound stretch has.
+fn segments(stretch: &[u8]) -> usize
+    requires { ⌜ stretchOf (now stretch) ≡ ok (textOf (now stretch)) ⌝ }
+    ensures { λ r. ⌜ openAt (now (stretch .entry)) ≡ ok r ⌝ }
+{
+    match open(stretch) {
+        Opened::Segments(all) => all,
+        // A sound stretch has its count.
+        Opened::Refused(_) => 0,
+    }
+}
+
+// The first segment of a sound stretch in which an occurrence of the pattern ends, or none.
+fn first_end(pattern: &[u8], vectors: &[u64; 256], stretch: &[u8]) -> usize
+    requires { ⌜ Vectors (now pattern) (now vectors) × (stretchOf (now stretch) ≡ ok (textOf (now stretch))) ⌝ }
+    ensures { λ r. ⌜ r ≡ firstEnd (marks (now (pattern .entry)) (textOf (now (stretch .entry)))) ⌝ }
+{
+    let all = segments(stretch);
+    let mut bits = 1;
+    // Behind the segment count.
+    let mut at = 2;
+    let mut k = 0;
+    while k < all {
+        let behind = over(pattern, vectors, bits, stretch, at);
+        if behind.ends {
+            return k;
+        }
+        bits = behind.state;
+        at = behind.next;
+        k += 1;
+    }
+    NONE
+}
+
+// The first segment in which an occurrence of a record ends, or none.
+pub fn sight(stretch: &[u8], item: Watched) -> usize
+    requires { ⌜ Sought (now stretch) item ⌝ }
+    ensures { λ r. ⌜ r ≡ firstOf item (textOf (now (stretch .entry))) ⌝ }
+{
+    let m = item.m as usize;
+    let bytes = item.pattern;
+    let pattern = &bytes[..m];
+    let vectors = others(pattern);
+    first_end(pattern, &vectors, stretch)
+}

@@ -1,0 +1,28 @@
+// The records of a watch list.
+use text::pattern::PatternIs;
+use text::pattern::check;
+use text::refusal;
+ghost use mathlib.Core.Path.{_≡_};
+ghost use Rattle.watch.specs.Watching.{sound};
+
+// A withheld sequence, the first m bytes of `pattern`, and its label. Bytes behind the m bases are disregarded.
+pub struct Watched {
+    pub pattern: [u8; 64],
+    pub m: u8,
+    pub label: u64,
+}
+
+// Whether refusals 1, 2 and 3 accept a record's pattern.
+pub fn is_sound(item: Watched) -> bool
+    ensures { λ r. ⌜ r ≡ sound item ⌝ }
+{
+    let m = item.m as usize;
+    if refusal::GREATEST_PATTERN < m {
+        return false;
+    }
+    let bytes = item.pattern;
+    match check(&bytes[..m]) {
+        PatternIs::Sound => true,
+        PatternIs::Refused(_) => false,
+    }
+}
