@@ -17,7 +17,8 @@ WORDS = {
     'FASTA': 'it does not begin with >', 'letter': 'this byte is no letter', 'name': 'no sequence in it has that name',
     'no base': 'the sequence of that name has no base', 'VCF': 'it does not begin with ##fileformat=VCFv4.',
     'fields': 'it has fewer than eight fields', 'POS': 'POS is no number from 1 to 2147483647', 'REF is empty': 'REF is empty',
-    'REF': 'REF has a byte that is no letter', 'ALT': 'ALT ', 'long': 'the record is too long', 'equal': 'is equal to REF or to an earlier one',
+    'REF': 'REF has a byte that is no letter', 'ALT': 'ALT ', 'long': 'the record is too long',
+    'equal': 'is equal to REF or to an earlier one',
     'order': 'it begins before the record before it ends', 'beyond': 'the last base of the chromosome',
     'reference': 'REF is not what the reference has there', 'chromosome': 'none of its records has that name',
 }
@@ -67,7 +68,8 @@ def wrapped(bases, width, end):
 def fasta_of(name, bases):
     """A file in FASTA format with other sequences around, in one of its forms."""
     width, end = random.choice([1, 7, 60, 61, 10 ** 6]), random.choice(['\n', '\r\n'])
-    before = ''.join(f'>{other} {name}{end}{wrapped(drawn(30), 11, end)}' for other in [name + 'x', name[:-1], 'x' + name] if random.random() < 0.5)
+    others = [name + 'x', name[:-1], 'x' + name]
+    before = ''.join(f'>{other} {name}{end}{wrapped(drawn(30), 11, end)}' for other in others if random.random() < 0.5)
     behind = f'>{name} again{end}GGGG{end}' if random.random() < 0.5 else ''
     own = f'>{name}{random.choice(["", " a sample", chr(9) + "x"])}{end}{wrapped(cased(bases), width, end)}'
     whole = before + own + behind
