@@ -58,10 +58,9 @@ find_tools() {
 library=target/staticlib/libcerantuh.a
 build_library() {
     is_new "$library" && return 0
-    rt staticlib cerantuh >target/c/library.log 2>&1 || {
-        cat target/c/library.log
-        return 1
-    }
+    alone && { is_new "$library" || rt staticlib cerantuh >target/c/library.log 2>&1; } || cat target/c/library.log
+    exec 9>&-
+    is_new "$library"
 }
 
 flags='-std=c11 -O2 -Wall -Wextra -Iinclude -Itests/c'
