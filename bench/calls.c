@@ -142,6 +142,7 @@ static const struct call {
     {"watch_8", watch_8, FOR_ABSENT, 1, sighted},
     {"watch_32", watch_32, FOR_ABSENT, 1, sighted},
     /* the yardsticks */
+    {"plain", plain, ON_GIVEN, 1, marked},
     {"early", search_early, ON_GIVEN, 1, marked},
     {"memcmp", search_memcmp, ON_GIVEN, 1, marked},
     {"prints", search_prints, ON_GIVEN, 1, marked},

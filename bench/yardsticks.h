@@ -8,7 +8,9 @@
 typedef uint64_t search_form(const uint8_t *pattern, size_t m, const uint8_t *stretch, size_t len, uint8_t *marks,
                              size_t marks_len, uint8_t *block, size_t block_len);
 
-/* shiftand.c: the search by bit-vectors with every check, in three ways; and the one that trusts the bytes */
+search_form plain;        /* plain.c: the search by bit-vectors with every check, as it is first written */
+
+/* shiftand.c: the same, tuned, in three ways; and the one that trusts the bytes */
 search_form search_early, search_memcmp, search_prints, trusting;
 
 /* validate.c: the checks alone, in the same ways; of the results the segment count and the size */
