@@ -40,7 +40,7 @@ impl Card {
     // The most segments of a card.
     pub const MOST_SEGMENTS: u32 = Card::NONE - 1;
     // The first end where none is.
-    pub const NONE: u32 = 4294967295;
+    pub const NONE: u32 = refusal::NO_SEGMENT as u32;
 
     // The card of no segments, of the pattern as the strand reads it: refusals 1, 2, 3 of the pattern as given.
     pub fn empty(pattern: &[u8], strand: Strand) -> Made

@@ -4,13 +4,11 @@ use crate::block::code;
 use crate::block::two;
 use search::First;
 use search::State;
+use text::refusal;
 use text::strand::Strand;
 ghost use mathlib.Core.Path.{_≡_};
 ghost use Rattle.text.specs.declared.strand.Strand.the-variants.{Given, Opposite};
 ghost use Rattle.cerantuh.specs.Forms.{firstAnswer, firstBlock};
-
-// The segment where nothing ends.
-const NONE: u64 = 4294967295;
 
 // The first ending segment, and no state; or "none", and the state behind the stretch; of the pattern as the strand reads it. The
 // block's room is asked last, of a hit too.
@@ -22,7 +20,7 @@ fn form(pattern: &[u8], strand: Strand, state: u64, stretch: &[u8], block: &mut 
     match before.first(pattern, strand, stretch) {
         First::Refused(wrong) => code(wrong),
         First::Ends(segment) => two(segment as u64, 0, &mut *block),
-        First::None(after) => two(NONE, after.bits, &mut *block),
+        First::None(after) => two(refusal::NO_SEGMENT as u64, after.bits, &mut *block),
     }
 }
 

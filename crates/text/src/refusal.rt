@@ -1,5 +1,5 @@
-// Refusals: document 01's numbers, the limits that they speak of, and the place that goes with a number.
-// Accepted is number 0 at place 0.
+// Refusals: the documents' numbers, the place that goes with a number, and the limits that they speak of. Accepted is number 0 at
+// place 0.
 pub struct Refusal {
     pub number: u64,
     pub place: usize,
@@ -17,7 +17,7 @@ pub const STRETCH_LONG: u64 = 4;
 pub const BYTES_END: u64 = 5;
 // A variant count is 0.
 pub const NO_VARIANTS: u64 = 6;
-// A letter is not A, C, G, T.
+// A letter is not A, C, G, T or N, in either case.
 pub const WRONG_LETTER: u64 = 7;
 // A variant is equal to an earlier one of its segment.
 pub const REPEATED: u64 = 8;
@@ -58,3 +58,5 @@ pub const GREATEST_STRETCH: usize = 32768;
 pub const MOST_IN_STRETCH: usize = 10922;
 // The most records of a watch list.
 pub const MOST_WATCHED: usize = 32;
+// What stands for a segment's number where nothing ends.
+pub const NO_SEGMENT: usize = 4294967295;

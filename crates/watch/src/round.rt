@@ -1,6 +1,5 @@
 // The rounds over a list: what is known behind the records so far. One step serves both rounds, the one that asks every pattern and the
 // one that looks for every record; once something is refused, or the first end is found, it leaves all as it is.
-use crate::sight::NONE;
 use crate::sight::sight;
 use crate::watched::Watched;
 use crate::watched::is_sound;
@@ -70,7 +69,7 @@ fn sought(stretch: &[u8], item: Watched) -> Round
     ensures { λ r. ⌜ r ≡ foundBy (textOf (now (stretch .entry))) item ⌝ }
 {
     let segment = sight(stretch, item);
-    if segment < NONE {
+    if segment < refusal::NO_SEGMENT {
         return Round::Found {
             label: item.label,
             segment,
@@ -85,7 +84,7 @@ fn marked(stretch: &[u8], i: usize, item: Watched, bits: u64) -> Round
     ensures { λ r. ⌜ r ≡ markedBy (textOf (now (stretch .entry))) i item bits ⌝ }
 {
     let segment = sight(stretch, item);
-    if segment < NONE {
+    if segment < refusal::NO_SEGMENT {
         return Round::Marking(bits + (1 << i));
     }
     Round::Marking(bits)

@@ -8,6 +8,7 @@ use stretch::pieces::Part;
 use stretch::pieces::head;
 use stretch::pieces::open;
 use stretch::pieces::variants;
+use text::refusal;
 ghost use mathlib.Core.Path.{_≡_};
 ghost use Rattle.text.specs.Refusal.{ok};
 ghost use Rattle.text.specs.State.{marks};
@@ -18,9 +19,6 @@ ghost use Rattle.search.specs.Masks.{bases, Others};
 ghost use Rattle.watch.specs.Watching.{firstOf};
 ghost use Rattle.watch.specs.Rounds.{Sought, textOf};
 ghost use Rattle.watch.specs.Sight.{Armed, Vectors, ScannedBy, Readable, Stepped};
-
-// No segment.
-pub const NONE: usize = 4294967295;
 
 // The other bits of the word behind a variant, and those that no word has had so far.
 struct Scanned {
@@ -148,7 +146,7 @@ fn first_end(pattern: &[u8], vectors: &[u64; 256], stretch: &[u8]) -> usize
         at = behind.next;
         k += 1;
     }
-    NONE
+    refusal::NO_SEGMENT
 }
 
 // The first segment in which an occurrence of a record ends, or none.
