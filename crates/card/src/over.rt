@@ -10,6 +10,7 @@ use crate::rows::segment_rows;
 use search::Sought;
 use search::State;
 use search::masks;
+use stretch::pieces::FIRST_SEGMENT;
 use text::state::low;
 use text::strand::Strand;
 ghost use mathlib.Core.Path.{_≡_};
@@ -35,8 +36,7 @@ fn rows_over(
     ensures { λ r. ⌜ RowsOf (now (pattern .entry)) (now (stretch .entry)) (now (exits .exit)) (now (firsts .exit)) ⌝ }
 {
     let mut live = low(pattern.len()) - 1;
-    // Behind the segment count.
-    let mut at = 2;
+    let mut at = FIRST_SEGMENT;
     let mut k = 0;
     while k < segments {
         if live == 0 {

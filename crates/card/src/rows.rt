@@ -4,6 +4,7 @@ use crate::cards::Card;
 use crate::carry::carry;
 use crate::ends::sooner;
 use stretch::pieces::Counted;
+use stretch::pieces::FIRST_VARIANT;
 use stretch::pieces::Part;
 use stretch::pieces::head;
 use stretch::pieces::variants;
@@ -111,7 +112,7 @@ pub fn segment_rows(
     let all = count(stretch, at);
     let mut next = [0u64; Card::GREATEST_PATTERN];
     let mut finished = 0;
-    let mut from = at + 1;
+    let mut from = at + FIRST_VARIANT;
     let mut j = 0;
     while j < all {
         let Part::At {

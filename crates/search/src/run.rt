@@ -4,6 +4,7 @@ use crate::method::Method;
 use crate::segment::Passed;
 use crate::state::Sought;
 use crate::state::State;
+use stretch::pieces::FIRST_SEGMENT;
 use stretch::pieces::Opened;
 use stretch::pieces::Verdict;
 use stretch::pieces::closed;
@@ -145,7 +146,7 @@ pub fn run_stretch(
         classes,
         state,
         stretch,
-        2,
+        FIRST_SEGMENT,
         segments,
         &mut *marks,
     ) {

@@ -3,6 +3,7 @@ use crate::method::Method;
 use crate::method::scan_by;
 use crate::state::State;
 use stretch::pieces::Counted;
+use stretch::pieces::FIRST_VARIANT;
 use stretch::pieces::Part;
 use stretch::pieces::head;
 use stretch::pieces::misspelt;
@@ -112,7 +113,7 @@ impl State {
             Counted::Variants(count) => count,
         };
         let bits = self.bits;
-        let first = at + 1;
+        let first = at + FIRST_VARIANT;
         let mut next = first;
         let mut size = 0;
         let mut out = 0xffff_ffff_ffff_fffe;

@@ -1,4 +1,5 @@
 // The check of a whole stretch, in one walk.
+use crate::pieces::FIRST_SEGMENT;
 use crate::pieces::Opened;
 use crate::pieces::Verdict;
 use crate::pieces::closed;
@@ -29,7 +30,7 @@ pub fn check(stretch: &[u8]) -> Checked
         Opened::Segments(segments) => segments,
     };
     let letters = classes();
-    let mut at = 2;
+    let mut at = FIRST_SEGMENT;
     let mut size = 0;
     let mut k = 0;
     while k < segments {

@@ -11,6 +11,11 @@ ghost use Rattle.text.specs.Refusal.{refused};
 ghost use Rattle.stretch.specs.Pieces.{fitsAt, openAt, variantsAt, headAt, misspeltAt, closedAt};
 ghost use Rattle.stretch.specs.Pieces.{toldOpened, toldCounted, toldPart, toldVerdict};
 
+// Where the first segment of a stretch stands: behind the segment count.
+pub const FIRST_SEGMENT: usize = 2;
+// How far behind a segment's place its first variant stands: behind the variant count.
+pub const FIRST_VARIANT: usize = 1;
+
 // How many segments a stretch states.
 pub enum Opened {
     Segments(usize),

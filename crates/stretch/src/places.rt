@@ -1,6 +1,8 @@
 // Places in a stretch that was checked: its segments and variants are stepped over, not read again.
 use crate::number::pair;
 use crate::number::wide;
+use crate::pieces::FIRST_SEGMENT;
+use crate::pieces::FIRST_VARIANT;
 ghost use Prim.Native.Nat.{_≤_};
 ghost use mathlib.Core.Path.{_≡_};
 ghost use lib.ListN.{length};
@@ -26,11 +28,11 @@ pub fn segment_place(stretch: &[u8], k: usize) -> usize
     requires { ⌜ segmentPlace (now stretch) k ≤ length (now stretch) ⌝ }
     ensures { λ r. ⌜ r ≡ segmentPlace (now (stretch .entry)) k ⌝ }
 {
-    let mut at = 2;
+    let mut at = FIRST_SEGMENT;
     let mut i = 0;
     while i < k {
         let variants = wide(stretch[at]);
-        at = behind_variants(stretch, variants, at + 1);
+        at = behind_variants(stretch, variants, at + FIRST_VARIANT);
         i += 1;
     }
     at

@@ -4,6 +4,7 @@ use crate::checking::Checked;
 use crate::checking::check;
 use crate::number::pair;
 use crate::number::wide;
+use crate::pieces::FIRST_VARIANT;
 use crate::places::behind_variants;
 use crate::places::segment_place;
 use text::Refusal;
@@ -42,7 +43,7 @@ fn handed(stretch: &[u8], at: usize, segment: usize, variant: usize) -> Got
     requires { ⌜ (nextOf (now stretch) (behindVariants (now stretch) variant (at + 1)) ≤ length (now stretch)) × (variant < 256) ⌝ }
     ensures { λ r. ⌜ toldGot r ≡ handedAt (now (stretch .entry)) at segment variant ⌝ }
 {
-    let place = behind_variants(stretch, variant, at + 1);
+    let place = behind_variants(stretch, variant, at + FIRST_VARIANT);
     Got::Variant {
         start: place + 2,
         len: pair(stretch, place),
@@ -67,7 +68,7 @@ fn from_place(stretch: &[u8], segments: usize, segment: usize, variant: usize) -
     if segment + 1 == segments {
         return Got::End { segment, variant };
     }
-    let next = behind_variants(stretch, variants, at + 1);
+    let next = behind_variants(stretch, variants, at + FIRST_VARIANT);
     handed(stretch, next, segment + 1, 0)
 }
 

@@ -1,5 +1,6 @@
 // One segment in the bytes, checked: its count and its variants, one after another.
 use crate::pieces::Counted;
+use crate::pieces::FIRST_VARIANT;
 use crate::pieces::Part;
 use crate::pieces::head;
 use crate::pieces::misspelt;
@@ -70,7 +71,7 @@ pub fn segment_at(classes: &[u8; 256], stretch: &[u8], at: usize) -> Walked
         }
         Counted::Variants(count) => count,
     };
-    let first = at + 1;
+    let first = at + FIRST_VARIANT;
     let mut next = first;
     let mut size = 0;
     let mut prints = 0;

@@ -3,6 +3,8 @@
 use crate::watched::Watched;
 use search::masks;
 use stretch::pieces::Counted;
+use stretch::pieces::FIRST_SEGMENT;
+use stretch::pieces::FIRST_VARIANT;
 use stretch::pieces::Opened;
 use stretch::pieces::Part;
 use stretch::pieces::head;
@@ -82,7 +84,7 @@ fn over(pattern: &[u8], vectors: &[u64; 256], bits: u64, stretch: &[u8], at: usi
     ensures { λ r. ⌜ Stepped (now (pattern .entry)) bits (now (stretch .entry)) at (r .next) (r .state) (r .ends) ⌝ }
 {
     let all = count(stretch, at);
-    let mut next = at + 1;
+    let mut next = at + FIRST_VARIANT;
     let mut out = 0xffff_ffff_ffff_fffe;
     let mut missed = 0xffff_ffff_ffff_ffff;
     let mut left = all;
@@ -134,8 +136,7 @@ fn first_end(pattern: &[u8], vectors: &[u64; 256], stretch: &[u8]) -> usize
 {
     let all = segments(stretch);
     let mut bits = 1;
-    // Behind the segment count.
-    let mut at = 2;
+    let mut at = FIRST_SEGMENT;
     let mut k = 0;
     while k < all {
         let behind = over(pattern, vectors, bits, stretch, at);

@@ -3,6 +3,7 @@
 use crate::both::segment::PassedBoth;
 use crate::both::words::Pair;
 use crate::searching::Searched;
+use stretch::pieces::FIRST_SEGMENT;
 use stretch::pieces::Opened;
 use stretch::pieces::Verdict;
 use stretch::pieces::closed;
@@ -98,7 +99,15 @@ pub fn stretch_both(
         }
         Opened::Segments(segments) => segments,
     };
-    match run_both(pattern, table, classes, stretch, 2, segments, &mut *marks) {
+    match run_both(
+        pattern,
+        table,
+        classes,
+        stretch,
+        FIRST_SEGMENT,
+        segments,
+        &mut *marks,
+    ) {
         RanBoth::Refused(wrong) => Searched::Refused(wrong),
         RanBoth::To { next, size, ends } => match closed(stretch, next, segments) {
             Verdict::Refused(wrong) => Searched::Refused(wrong),

@@ -2,6 +2,7 @@
 use crate::both::words::Pair;
 use crate::both::words::scan_both;
 use stretch::pieces::Counted;
+use stretch::pieces::FIRST_VARIANT;
 use stretch::pieces::Part;
 use stretch::pieces::head;
 use stretch::pieces::misspelt;
@@ -116,7 +117,7 @@ impl Pair {
             }
             Counted::Variants(count) => count,
         };
-        let first = at + 1;
+        let first = at + FIRST_VARIANT;
         let mut next = first;
         let mut size = 0;
         let mut words = Pair {
