@@ -2,7 +2,7 @@
 pub mod Copies
 pub mod BitScans
 pub mod Words
-pub mod Carrieds
+pub mod CarriedLengths
 pub mod Passes
 pub mod Entries
 pub mod ReadOns

@@ -1,6 +1,6 @@
 // The stretch of a window, made from a reference and a file in Variant Call Format 4. Two passes over the file: the first checks
 // and tallies, the second writes, so that a refused call changes nothing.
-use crate::emit::put_text;
+use crate::put::put_text;
 use crate::scan::Scanned;
 use crate::scan::scan;
 use crate::tally::Tally;

@@ -1,8 +1,8 @@
 // The stretch of a window, made from a reference and a file in Variant Call Format 4.
 mod building;
-mod emit;
 mod pieces;
 pub mod position;
+mod put;
 mod record;
 mod scan;
 mod tally;

@@ -1,6 +1,6 @@
 -- `search::state::State::carried` meets its contract. Each answer is a law of the carried lengths, from the test on their number.
 use borrow.Author.Needs.{needs}
-use Rattle.search.proofs.Carrieds.{carried-none, carried-some}
+use Rattle.search.proofs.CarriedLengths.{carried-none, carried-some}
 use Rattle.search.proofs.state.State.carried.Statement.{statement}
 use Rattle.search.proofs.state.State.carried.Tie as tie
 

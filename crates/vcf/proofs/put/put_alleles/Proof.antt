@@ -1,4 +1,4 @@
--- `vcf::emit::put_alleles` meets its contract. The loop's invariant, `Alleles`: the alleles before `from` are put. The measure is the
+-- `vcf::put::put_alleles` meets its contract. The loop's invariant, `Alleles`: the alleles before `from` are put. The measure is the
 -- number of bytes left.
 use Prim.Native.Nat.{_-_, _+_, _≤_}
 use native.Mathlib.Omega.{arith}
@@ -6,8 +6,8 @@ use mathlib.Core.Path.{_∙_}
 use borrow.Author.Needs.{needs}
 use lib.ListN.{length}
 use Rattle.vcf.proofs.Emitting.{Alleles, alleles-none, alleles-room, alleles-kept, alleles-more, alleles-end}
-use Rattle.vcf.proofs.emit.put_alleles.Statement.{statement}
-use Rattle.vcf.proofs.emit.put_alleles.Tie as tie
+use Rattle.vcf.proofs.put.put_alleles.Statement.{statement}
+use Rattle.vcf.proofs.put.put_alleles.Tie as tie
 
 abbrev Inv-loop : tie.InvT-loop
 Inv-loop alt out₀ at next₀ from₀ out next from = Alleles out₀ at alt out next from

@@ -1,4 +1,4 @@
--- `vcf::emit::put_record` meets its contract: with ALT `.`, and with alleles.
+-- `vcf::put::put_record` meets its contract: with ALT `.`, and with alleles.
 use Prim.Native.Nat.{_+_}
 use native.Mathlib.Omega.{arith}
 use mathlib.Core.Path.{_≡_, sym, ap, _∙_}
@@ -10,8 +10,8 @@ use Rattle.stretch.specs.Bytes.{over}
 use Rattle.vcf.specs.Records.{none}
 use Rattle.vcf.proofs.Emitting.{segmentOf, allelesOf, segment-size, segment-put, segment-put-none, none-size, one-more, few-pieces}
 use Rattle.vcf.proofs.Emitting.{counted-byte, alleles-bytes}
-use Rattle.vcf.proofs.emit.put_record.Statement.{statement}
-use Rattle.vcf.proofs.emit.put_record.Tie as tie
+use Rattle.vcf.proofs.put.put_record.Statement.{statement}
+use Rattle.vcf.proofs.put.put_record.Tie as tie
 
 abbrev S : tie.After-is-none → tie.Start
 S i = i .before .before .before .before

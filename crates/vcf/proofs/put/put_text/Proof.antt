@@ -1,4 +1,4 @@
--- `vcf::emit::put_text` meets its contract. The loop's invariant, `Putting`: the lines left add the rest of the text. The measure is
+-- `vcf::put::put_text` meets its contract. The loop's invariant, `Putting`: the lines left add the rest of the text. The measure is
 -- the number of bytes left.
 use Prim.Native.Nat.{ℕ, _-_, _<_, _≤_}
 use native.Mathlib.Omega.{arith}
@@ -14,8 +14,8 @@ use Rattle.stretch.proofs.Overs.{put-over}
 use Rattle.vcf.proofs.Marks.{next-behind}
 use Rattle.vcf.proofs.Lines.{readable-room, Putting, putting-none, putting-kept, putting-line, putting-placing, putting-room}
 use Rattle.vcf.proofs.Lines.{putting-more, last-room, putting-end}
-use Rattle.vcf.proofs.emit.put_text.Statement.{statement}
-use Rattle.vcf.proofs.emit.put_text.Tie as tie
+use Rattle.vcf.proofs.put.put_text.Statement.{statement}
+use Rattle.vcf.proofs.put.put_text.Tie as tie
 
 abbrev Inv-loop : tie.InvT-loop
 Inv-loop file start records window first segments out₀ put₀ at₀ out put at =

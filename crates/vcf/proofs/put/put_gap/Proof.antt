@@ -1,4 +1,4 @@
--- `vcf::emit::put_gap` meets its contract.
+-- `vcf::put::put_gap` meets its contract.
 use Prim.Native.Nat.{_+_}
 use native.Mathlib.Omega.{arith}
 use mathlib.Core.Path.{_≡_, _∙_}
@@ -9,8 +9,8 @@ use Rattle.vcf.specs.Emission.{gapOf}
 use lib.ListN.{length-set}
 use Rattle.text.specs.Letter.{meant}
 use Rattle.vcf.proofs.Emitting.{gap-nothing, gap-size, gap-put}
-use Rattle.vcf.proofs.emit.put_gap.Statement.{statement}
-use Rattle.vcf.proofs.emit.put_gap.Tie as tie
+use Rattle.vcf.proofs.put.put_gap.Statement.{statement}
+use Rattle.vcf.proofs.put.put_gap.Tie as tie
 
 abbrev S : tie.Else1 → tie.Start
 S e = e .before .before .before

@@ -1,4 +1,4 @@
--- `vcf::emit::put_line` meets its contract: a line that adds nothing, and a record of the window.
+-- `vcf::put::put_line` meets its contract: a line that adds nothing, and a record of the window.
 use Prim.Native.Nat.{_-_, _+_, _<_, _≤_, min}
 use native.Mathlib.Omega.{arith}
 use mathlib.Core.Path.{_≡_, refl, sym, ap, _∙_}
@@ -11,8 +11,8 @@ use mathlib.Core.Bool.{true, false}
 use Rattle.vcf.specs.Records.{beyond, comment, field, position, positionOf}
 use Rattle.vcf.proofs.Digits.{position-small}
 use Rattle.vcf.proofs.Lines.{idle-comment, idle-is, idle-line, busy-bounds, busy-few, busy-room, busy-line}
-use Rattle.vcf.proofs.emit.put_line.Statement.{statement}
-use Rattle.vcf.proofs.emit.put_line.Tie as tie
+use Rattle.vcf.proofs.put.put_line.Statement.{statement}
+use Rattle.vcf.proofs.put.put_line.Tie as tie
 
 abbrev S1 : tie.After-is-comment → tie.Start
 S1 i = i .before .before .before .before
