@@ -1,13 +1,11 @@
 // One record, put into the window behind the bases before it.
 use crate::records::HEADING;
-use crate::sequence::Took;
-use crate::sequence::take_bases;
+use crate::walk::BEFORE;
 use crate::walk::Came;
-use crate::walk::Cut;
-use crate::walk::State;
+use crate::walk::INSIDE;
+use crate::walk::NEXT;
 use crate::walk::Walk;
 use crate::walk::cut_window;
-use crate::walk::go_to;
 use crate::walk::next_position;
 use crate::words::tell_line;
 use crate::words::tell_record;
@@ -15,205 +13,107 @@ use clinic::Fit;
 use lines::put_bytes;
 use stretch::Written;
 use text::compare::alike;
+use text::refusal;
 use vcf::build;
 use vcf::field;
 use vcf::position::position;
 use withheld::part;
 
-// The bytes of a record's segment, or it is refused, which is said.
-enum Alone {
-    Needs(usize),
-    Stop,
-}
+// A line of so few bytes needs a stretch of fewer than these: an allele has two bytes more than letters, and at least one.
+const SHORT_LINE: usize = 256;
+const SHORT_STRETCH: usize = 1024;
 
-// A record alone: a window of its REF, with no other record in it, is a stretch of its segment.
-fn judge_alone(number: u64, short: &[u8], out: &mut [u8]) -> Alone {
-    let line = part(short, HEADING, short.len());
-    let place = position(field(line, 1));
-    match build(short, field(line, 3), place, b"", &mut *out) {
+// The bytes of the segment of a record alone; 0 of a record that is refused, which is said. The buffer has room for every stretch, or for
+// that of this line.
+fn judge_in(number: u64, short: &[u8], line: &[u8], at: usize, out: &mut [u8]) -> usize {
+    match build(short, field(line, 3), at, b"", &mut *out) {
         Written::Refused(wrong) => {
             tell_record(number, wrong, line);
-            Alone::Stop
+            0
         }
-        Written::Bytes(n) => Alone::Needs(std::num::wrapping_sub_usize(n, 2)),
+        Written::Bytes(n) => std::num::wrapping_sub_usize(n, 2),
     }
 }
 
-// A window with room for a segment of so many bytes: this one, or the next.
-fn make_room(walk: Walk, segment: usize, window: &[u8], lines: &[u8], out: &mut [u8]) -> Cut {
-    let held = walk.held;
-    match held.record(segment) {
-        Fit::Fits(_) => Cut::Next(walk),
-        Fit::Full => cut_window(walk, window, lines, &mut *out),
+// A record alone: a window of its REF, with no other record in it, is a stretch of its segment. A short line takes a small buffer, since
+// clearing a large one costs more than building the segment.
+fn judge_alone(number: u64, short: &[u8], line: &[u8], at: usize) -> usize {
+    if line.len() <= SHORT_LINE {
+        let mut out = [0u8; SHORT_STRETCH];
+        return judge_in(number, short, line, at, &mut out);
     }
+    let mut out = [0u8; refusal::GREATEST_STRETCH];
+    judge_in(number, short, line, at, &mut out)
 }
 
-// The walk behind a record of so many bases, whose segment had room, and whose line in short ends at `end`.
-fn behind(walk: Walk, bases: usize, segment: usize, end: usize) -> Walk {
-    let held = walk.held;
-    match held.record(segment) {
-        Fit::Full => walk,
-        Fit::Fits(more) => Walk {
-            first: walk.first,
-            count: std::num::wrapping_add_usize(walk.count, bases),
-            held: more,
-            lines: end,
-            stretches: walk.stretches,
-        },
-    }
+// What is wrong with the record at hand.
+pub fn refuse(walk: Walk, reason: &[u8]) -> Came {
+    let records = walk.records;
+    tell_line(records.number, reason);
+    Came::Stop
 }
 
-// Puts a record's line behind those of the window. The place behind it, or the buffer's end where it has no room.
-fn put_line(line: &[u8], lines: &mut [u8], at: usize) -> usize {
-    let end = put_bytes(line, &mut *lines, at);
-    put_bytes(b"\n", &mut *lines, end)
-}
-
-// Puts the record's line behind those of the window, if its REF is what the reference has there.
-fn enter(
-    state: State,
-    number: u64,
-    segment: usize,
-    line: &[u8],
-    window: &[u8],
-    lines: &mut [u8],
-) -> Came {
-    let walk = state.walk;
-    let sequence = state.sequence;
-    let reference = field(line, 3);
-    let count = walk.count;
-    let there = part(
-        window,
-        count,
-        std::num::wrapping_add_usize(count, reference.len()),
-    );
-    if !alike(reference, there) {
-        tell_line(number, b"REF is not what the reference has there");
-        return Came::Stop;
-    }
-    let end = put_line(line, &mut *lines, walk.lines);
-    if end == lines.len() {
-        tell_line(number, b"POS has too many zeros in front");
-        return Came::Stop;
-    }
-    Came::To(State {
-        walk: behind(walk, reference.len(), segment, end),
-        sequence,
-    })
-}
-
-// Takes the bases of a record's REF, for whose segment there is room, and enters the record.
-fn take_record(
-    state: State,
-    number: u64,
-    segment: usize,
-    name: &[u8],
-    line: &[u8],
-    piece: &mut [u8],
-    window: &mut [u8],
-    lines: &mut [u8],
-) -> Came {
-    let walk = state.walk;
-    let sequence = state.sequence;
-    let count = walk.count;
-    let most = std::num::wrapping_add_usize(count, field(line, 3).len());
-    match take_bases(name, sequence, &mut *piece, &mut *window, count, most) {
-        Took::Stop => Came::Stop,
-        Took::Over(_) => {
-            tell_line(
-                number,
-                b"the record goes beyond the last base of the chromosome",
-            );
-            Came::Stop
-        }
-        Took::All(next) => enter(
-            State {
-                walk,
-                sequence: next,
-            },
-            number,
-            segment,
-            line,
-            window,
-            &mut *lines,
-        ),
-    }
-}
-
-// Puts a record into a window that has room for it, behind the bases before it.
-fn place(
-    state: State,
-    number: u64,
-    segment: usize,
-    name: &[u8],
-    line: &[u8],
-    piece: &mut [u8],
-    window: &mut [u8],
-    lines: &mut [u8],
-    out: &mut [u8],
-) -> Came {
-    let walk = state.walk;
-    let sequence = state.sequence;
-    match make_room(walk, segment, window, lines, &mut *out) {
-        Cut::Stop => Came::Stop,
-        Cut::Next(next) => take_record(
-            State {
-                walk: next,
-                sequence,
-            },
-            number,
-            segment,
-            name,
-            line,
-            &mut *piece,
-            &mut *window,
-            &mut *lines,
-        ),
-    }
-}
-
-// Goes on behind one record more: line `number` of the variant file, which stands in short behind the heading.
-pub fn go_behind(
-    state: State,
-    number: u64,
-    name: &[u8],
-    short: &[u8],
-    piece: &mut [u8],
-    window: &mut [u8],
-    lines: &mut [u8],
-    out: &mut [u8],
-) -> Came {
-    let Alone::Needs(segment) = judge_alone(number, short, &mut *out) else {
-        return Came::Stop;
-    };
+// Aims at a record, which stands in short behind the heading: its position is the next.
+pub fn aim_at(walk: Walk, short: &[u8]) -> Came {
+    let records = walk.records;
     let line = part(short, HEADING, short.len());
     let at = position(field(line, 1));
-    if at < next_position(state.walk) {
-        tell_line(
-            number,
-            b"it begins before the record before it ends: positions must rise, and records must not overlap",
-        );
+    let segment = judge_alone(records.number, short, line, at);
+    if segment == 0 {
         return Came::Stop;
     }
-    match go_to(state, at, name, &mut *piece, &mut *window, lines, &mut *out) {
-        Came::Stop => Came::Stop,
-        Came::Over(_) => {
-            tell_line(
-                number,
-                b"the record stands behind the last base of the chromosome",
-            );
-            Came::Stop
+    if at < next_position(walk) {
+        return refuse(
+            walk,
+            b"it begins before the record before it ends: positions must rise, and records must not overlap",
+        );
+    }
+    let mut next = walk;
+    next.aim = BEFORE;
+    next.until = at;
+    next.segment = segment;
+    Came::To(next)
+}
+
+// Begins a record behind the bases before it, if there is room for its segment; else the window is cut, and the next one has room.
+fn begin_record(walk: Walk, line: &[u8], window: &[u8]) -> Came {
+    let held = walk.held;
+    match held.record(walk.segment) {
+        Fit::Full => cut_window(walk, window),
+        Fit::Fits(more) => {
+            let mut next = walk;
+            next.held = more;
+            next.aim = INSIDE;
+            next.until = std::num::wrapping_add_usize(walk.until, field(line, 3).len());
+            Came::To(next)
         }
-        Came::To(there) => place(
-            there,
-            number,
-            segment,
-            name,
-            line,
-            &mut *piece,
-            &mut *window,
-            &mut *lines,
-            &mut *out,
-        ),
+    }
+}
+
+// Puts a record's line behind those of the window, if its REF is what the reference has there: the last bases of the window.
+fn enter(walk: Walk, line: &[u8], window: &mut [u8]) -> Came {
+    let reference = field(line, 3);
+    let from = std::num::wrapping_sub_usize(walk.count, reference.len());
+    if !alike(reference, part(window, from, walk.count)) {
+        return refuse(walk, b"REF is not what the reference has there");
+    }
+    let end = put_bytes(line, &mut *window, walk.lines);
+    let mut next = walk;
+    next.lines = put_bytes(b"\n", &mut *window, end);
+    next.aim = NEXT;
+    if next.lines == window.len() {
+        return refuse(walk, b"POS has too many zeros in front");
+    }
+    Came::To(next)
+}
+
+// Where the bases end that were aimed at: those before a record, or those of its REF. The record stands in short behind the heading.
+pub fn arrive(walk: Walk, short: &[u8], window: &mut [u8]) -> Came {
+    let records = walk.records;
+    let line = part(short, HEADING, records.behind);
+    if walk.aim == BEFORE {
+        begin_record(walk, line, window)
+    } else {
+        enter(walk, line, &mut *window)
     }
 }

@@ -1,6 +1,5 @@
 // The records of the chromosome, one after another, each as its line in short.
 use crate::source::Next;
-use crate::source::Source;
 use crate::source::next_piece;
 use crate::words::VARIANTS;
 use crate::words::tell;
@@ -15,25 +14,45 @@ use withheld::part;
 // How many bytes the heading has, with its line feed.
 pub const HEADING: usize = 20;
 
-// How far the variant file has come: the file, the number of the line that was read last, and how many records of the chromosome and of
-// others there were.
+// How far the variant file has come: the file, how far the piece that is held is read, its length, the line that is read, the number of
+// the last one that was read whole, the place behind the record's line in short, and how many records of the chromosome and of others there
+// were.
 pub struct Records {
-    pub source: Source,
-    pub line: u64,
+    pub fd: i32,
+    pub at: usize,
+    pub end: usize,
+    pub line: Line,
+    pub number: u64,
+    pub behind: usize,
     pub own: u64,
     pub others: u64,
 }
 
-// A record of the chromosome, whose line in short ends at `end` of the buffer; or none is left; or something is wrong, which is said.
+// One turn: a record of the chromosome; or none yet, and the reading goes on; or none is left; or something is wrong, which is said.
 pub enum Got {
-    Record { records: Records, end: usize },
+    Record(Records),
+    On(Records),
     None(Records),
     Stop,
 }
 
-// Puts the heading in front of a buffer, for lines in short to stand behind.
-pub fn put_heading(out: &mut [u8]) -> usize {
-    put_bytes(b"##fileformat=VCFv4.\n", &mut *out, 0)
+// With the first piece at hand, of so many bytes.
+pub fn first_records(fd: i32, end: usize) -> Records {
+    Records {
+        fd,
+        at: 0,
+        end,
+        line: Line::at(HEADING),
+        number: 0,
+        behind: HEADING,
+        own: 0,
+        others: 0,
+    }
+}
+
+// Puts the heading into a buffer, for lines in short to stand behind.
+pub fn put_heading(out: &mut [u8], at: usize) -> usize {
+    put_bytes(b"##fileformat=VCFv4.\n", &mut *out, at)
 }
 
 // What is wrong with a file that does not begin as a variant file does.
@@ -56,143 +75,81 @@ pub fn begin(fd: i32, piece: &mut [u8]) -> Next {
     }
     let first = part(piece, 0, n);
     if prefix(b"##fileformat=VCFv4.", first) {
-        return Next::Piece(Source { fd, at: 0, end: n });
+        return Next::Piece(n);
     }
     tell_heading(first);
     Next::Stop
 }
 
-// What a line is to the chromosome.
-enum Kind {
-    // It is skipped: a line that begins with #.
-    Comment,
-    Own,
-    Other,
-    // It is no record, or one that is too long, which is said.
-    Wrong,
-}
-
-fn kind_of(name: &[u8], line: Line, number: u64) -> Kind {
+// Behind a line that has ended.
+fn behind(name: &[u8], records: Records) -> Got {
+    let line = records.line;
+    let mut next = records;
+    next.line = Line::at(HEADING);
+    next.number = std::num::wrapping_add_u64(records.number, 1);
     if line.is_comment() {
-        return Kind::Comment;
+        return Got::On(next);
     }
     if !line.has_fields() {
-        tell_line(number, b"it has fewer than eight fields, parted by tabs");
-        return Kind::Wrong;
+        tell_line(
+            next.number,
+            b"it has fewer than eight fields, parted by tabs",
+        );
+        return Got::Stop;
     }
     if !line.is_of(name) {
-        return Kind::Other;
+        next.others = std::num::wrapping_add_u64(records.others, 1);
+        return Got::On(next);
     }
     if !line.whole {
         tell_line(
-            number,
+            next.number,
             b"the record is too long: alone it needs a stretch of more than 32,768 bytes",
         );
-        return Kind::Wrong;
+        return Got::Stop;
     }
-    Kind::Own
-}
-
-// What comes of a turn: a record, none, or one more turn for a line.
-enum Turned {
-    Done(Got),
-    Again { records: Records, line: Line },
-}
-
-// Behind a line that has ended.
-fn behind(name: &[u8], records: Records, line: Line) -> Turned {
-    let mut next = records;
-    next.line = std::num::wrapping_add_u64(records.line, 1);
-    match kind_of(name, line, next.line) {
-        Kind::Wrong => Turned::Done(Got::Stop),
-        Kind::Comment => Turned::Again {
-            records: next,
-            line: Line::at(HEADING),
-        },
-        Kind::Other => {
-            next.others = std::num::wrapping_add_u64(records.others, 1);
-            Turned::Again {
-                records: next,
-                line: Line::at(HEADING),
-            }
-        }
-        Kind::Own => {
-            next.own = std::num::wrapping_add_u64(records.own, 1);
-            Turned::Done(Got::Record {
-                records: next,
-                end: line.behind,
-            })
-        }
-    }
+    next.own = std::num::wrapping_add_u64(records.own, 1);
+    next.behind = line.behind;
+    Got::Record(next)
 }
 
 // The file has ended, perhaps in a line.
-fn at_end(name: &[u8], records: Records, line: Line) -> Turned {
+fn at_end(name: &[u8], records: Records) -> Got {
+    let line = records.line;
     if line.is_new() {
-        return Turned::Done(Got::None(records));
+        return Got::None(records);
     }
-    behind(name, records, line)
-}
-
-// With the file at another place.
-fn at(records: Records, source: Source) -> Records {
-    Records {
-        source,
-        line: records.line,
-        own: records.own,
-        others: records.others,
-    }
+    behind(name, records)
 }
 
 // The next piece, behind one that is used up.
-fn turn_page(name: &[u8], records: Records, line: Line, piece: &mut [u8]) -> Turned {
-    let source = records.source;
-    match next_piece(source.fd, VARIANTS, &mut *piece) {
-        Next::Stop => Turned::Done(Got::Stop),
-        Next::End => at_end(name, records, line),
-        Next::Piece(next) => Turned::Again {
-            records: at(records, next),
-            line,
-        },
-    }
-}
-
-fn turn(name: &[u8], records: Records, line: Line, piece: &mut [u8], short: &mut [u8]) -> Turned {
-    let source = records.source;
-    let fd = source.fd;
-    let end = source.end;
-    match read_line(name, line, part(piece, 0, end), source.at, &mut *short) {
-        Come::On(more) => {
-            let used = at(records, Source { fd, at: end, end });
-            turn_page(name, used, more, &mut *piece)
-        }
-        Come::End { line: whole, next } => {
-            let behind_line = at(records, Source { fd, at: next, end });
-            behind(name, behind_line, whole)
+fn turn_page(name: &[u8], records: Records, piece: &mut [u8]) -> Got {
+    match next_piece(records.fd, VARIANTS, &mut *piece) {
+        Next::Stop => Got::Stop,
+        Next::End => at_end(name, records),
+        Next::Piece(end) => {
+            let mut next = records;
+            next.at = 0;
+            next.end = end;
+            Got::On(next)
         }
     }
 }
 
-// The next record of the chromosome, put into the buffer behind the heading. Nothing counts the turns, so the loop counts down from a
-// number that no run uses up.
-pub fn next_record(name: &[u8], records: Records, piece: &mut [u8], short: &mut [u8]) -> Got {
-    let mut now = records;
-    let mut line = Line::at(HEADING);
-    let mut turns = u64::MAX;
-    while 0 < turns {
-        match turn(name, now, line, &mut *piece, &mut *short) {
-            Turned::Done(got) => {
-                return got;
-            }
-            Turned::Again {
-                records: next,
-                line: more,
-            } => {
-                now = next;
-                line = more;
-                turns -= 1;
-            }
+// Reads on to the end of the line or of the piece. The line in short is put into the buffer behind the heading.
+pub fn read_on(name: &[u8], records: Records, piece: &mut [u8], short: &mut [u8]) -> Got {
+    let mut next = records;
+    let held = part(piece, 0, records.end);
+    match read_line(name, records.line, held, records.at, &mut *short) {
+        Come::On(line) => {
+            next.line = line;
+            next.at = records.end;
+            turn_page(name, next, &mut *piece)
+        }
+        Come::End { line, next: at } => {
+            next.line = line;
+            next.at = at;
+            behind(name, next)
         }
     }
-    Got::Stop
 }

@@ -1,47 +1,29 @@
 // The bases of the chromosome, taken from the reference as they are wanted.
 use crate::source::Next;
-use crate::source::Source;
 use crate::source::next_piece;
+use crate::walk::Came;
+use crate::walk::INSIDE;
+use crate::walk::Walk;
 use crate::words::REFERENCE;
 use crate::words::tell;
 use crate::words::tell_byte;
 use braces::Place;
+use clinic::Fit;
+use clinic::Held;
 use clinic::Reading;
 use clinic::take;
+use text::compare::prefix;
 use withheld::part;
 
-// How far the reference has come: the file, where the reading stands, and line and column where the piece that is held begins.
-pub struct Sequence {
-    pub source: Source,
+// Where the reading of the reference stands, and line and column where the piece that is held begins.
+pub struct Spot {
     pub reading: Reading,
     pub place: Place,
 }
 
-// The bases are there; or the sequence is over, with so many in the buffer; or it could not be read, which is said.
-pub enum Took {
-    All(Sequence),
-    Over(usize),
-    Stop,
-}
-
-// Nothing is read yet.
-pub fn start(fd: i32) -> Sequence {
-    Sequence {
-        source: Source { fd, at: 0, end: 0 },
-        reading: Reading::Start,
-        place: Place::first(),
-    }
-}
-
-// What is wrong with a byte: the first of the file, or one of the sequence.
-fn tell_wrong(first: bool, byte: u8, place: Place) {
-    if !first {
-        tell_byte(
-            place.line as u64,
-            place.column as u64,
-            b"this byte is no letter: it is not A, C, G, T or N",
-        );
-    } else if byte == 0x1F {
+// What is wrong with a file that does not begin as a reference does.
+fn tell_first(piece: &[u8]) {
+    if prefix(&[0x1F], piece) {
         tell(REFERENCE, b"it is compressed; unpack it first: gunzip -c");
     } else {
         tell(
@@ -51,48 +33,41 @@ fn tell_wrong(first: bool, byte: u8, place: Place) {
     }
 }
 
-// The file has ended: the sequence with it, if it was found.
-fn at_end(reading: Reading, count: usize) -> Took {
-    match reading {
-        Reading::Header => Took::Over(count),
-        Reading::Begun => Took::Over(count),
-        Reading::Inside => Took::Over(count),
-        Reading::Returned => Took::Over(count),
-        Reading::Over => Took::Over(count),
-        Reading::Start => {
-            tell_wrong(true, 0, Place::first());
-            Took::Stop
-        }
-        _ => {
-            tell(REFERENCE, b"no sequence in it has that name");
-            Took::Stop
-        }
-    }
+fn tell_missing() {
+    tell(REFERENCE, b"no sequence in it has that name");
 }
 
-// One turn: what the piece that is held has of the bases, and the next piece where that is not all.
-enum Turned {
-    Done(Took),
-    Again { sequence: Sequence, count: usize },
+// The file has ended: the sequence with it, if it was found.
+fn at_end(walk: Walk) -> Came {
+    let spot = walk.spot;
+    let reading = spot.reading;
+    match reading {
+        Reading::Start => tell_first(b""),
+        Reading::Before => tell_missing(),
+        Reading::Passing => tell_missing(),
+        Reading::Word(_) => tell_missing(),
+        _ => {
+            return Came::Over(walk);
+        }
+    }
+    Came::Stop
 }
 
 // The next piece, behind one that is used up.
-fn turn_page(sequence: Sequence, count: usize, piece: &mut [u8]) -> Turned {
-    let source = sequence.source;
-    let reading = sequence.reading;
-    let place = sequence.place;
-    let behind = place.behind(part(piece, 0, source.end), source.end);
-    match next_piece(source.fd, REFERENCE, &mut *piece) {
-        Next::Stop => Turned::Done(Took::Stop),
-        Next::End => Turned::Done(at_end(reading, count)),
-        Next::Piece(next) => Turned::Again {
-            sequence: Sequence {
-                source: next,
-                reading,
-                place: behind,
-            },
-            count,
-        },
+pub fn turn_page(walk: Walk, piece: &mut [u8]) -> Came {
+    let mut behind = walk.spot;
+    let place = behind.place;
+    behind.place = place.behind(part(piece, 0, walk.end), walk.end);
+    match next_piece(walk.fd, REFERENCE, &mut *piece) {
+        Next::Stop => Came::Stop,
+        Next::End => at_end(walk),
+        Next::Piece(end) => {
+            let mut next = walk;
+            next.spot = behind;
+            next.at = 0;
+            next.end = end;
+            Came::To(next)
+        }
     }
 }
 
@@ -103,91 +78,56 @@ fn is_start(reading: Reading) -> bool {
     }
 }
 
-fn turn(
-    name: &[u8],
-    sequence: Sequence,
-    piece: &mut [u8],
-    window: &mut [u8],
-    count: usize,
-    most: usize,
-) -> Turned {
-    let source = sequence.source;
-    let before = sequence.reading;
-    let place = sequence.place;
-    let got = take(
-        name,
-        before,
-        part(piece, 0, source.end),
-        source.at,
-        &mut *window,
-        count,
-        most,
-    );
+// What is wrong with the byte at a place of the piece: the first of the file, or one of the sequence.
+fn tell_wrong(spot: Spot, piece: &[u8], at: usize) {
+    let reading = spot.reading;
+    let place = spot.place;
+    if is_start(reading) && at == 0 {
+        tell_first(piece);
+    } else {
+        let there = place.behind(piece, at);
+        tell_byte(
+            there.line as u64,
+            there.column as u64,
+            b"this byte is no letter: it is not A, C, G, T or N",
+        );
+    }
+}
+
+// What the stretch holds with so many bases more, which had room. Those of a record's REF are held with its segment.
+fn with_bases(walk: Walk, n: usize) -> Held {
+    let held = walk.held;
+    if walk.aim == INSIDE {
+        return held;
+    }
+    match held.bases(n) {
+        Fit::Full => held,
+        Fit::Fits(more) => more,
+    }
+}
+
+// Takes n bases of the sequence of this name into the window, for which there is room, or as many of them as the piece has.
+pub fn take_bases(name: &[u8], walk: Walk, n: usize, piece: &[u8], window: &mut [u8]) -> Came {
+    let spot = walk.spot;
+    let before = spot.reading;
+    let place = spot.place;
+    let count = walk.count;
+    let most = std::num::wrapping_add_usize(count, n);
+    let held_piece = part(piece, 0, walk.end);
+    let got = take(name, before, held_piece, walk.at, &mut *window, count, most);
     let reading = got.reading;
-    let at = got.at;
-    let next = Sequence {
-        source: Source {
-            fd: source.fd,
-            at,
-            end: source.end,
-        },
-        reading,
-        place,
-    };
+    let there = Spot { reading, place };
+    let mut next = walk;
+    next.count = got.count;
+    next.held = with_bases(walk, std::num::wrapping_sub_usize(got.count, count));
+    next.at = got.at;
+    next.spot = there;
     match reading {
-        Reading::Over => Turned::Done(Took::Over(got.count)),
+        Reading::Over => Came::Over(next),
         Reading::Wrong => {
-            tell_wrong(
-                is_start(before) && at == 0,
-                first_of(piece),
-                place.behind(piece, at),
-            );
-            Turned::Done(Took::Stop)
+            tell_wrong(spot, held_piece, got.at);
+            Came::Stop
         }
-        _ => {
-            if most <= got.count {
-                return Turned::Done(Took::All(next));
-            }
-            turn_page(next, got.count, &mut *piece)
-        }
+        _ => Came::To(next),
     }
-}
-
-// The first byte of a piece; 0 of none.
-fn first_of(piece: &[u8]) -> u8 {
-    if piece.len() == 0 {
-        return 0;
-    }
-    piece[0]
-}
-
-// Takes bases of the sequence of this name into the window, behind those that are there, until there are `most`. Nothing counts the
-// turns, so the loop counts down from a number that no run uses up.
-pub fn take_bases(
-    name: &[u8],
-    sequence: Sequence,
-    piece: &mut [u8],
-    window: &mut [u8],
-    count: usize,
-    most: usize,
-) -> Took {
-    let mut now = sequence;
-    let mut n = count;
-    let mut turns = u64::MAX;
-    while 0 < turns {
-        match turn(name, now, &mut *piece, &mut *window, n, most) {
-            Turned::Done(took) => {
-                return took;
-            }
-            Turned::Again {
-                sequence: next,
-                count: more,
-            } => {
-                now = next;
-                n = more;
-                turns -= 1;
-            }
-        }
-    }
-    Took::Stop
 }

@@ -1,15 +1,8 @@
 // A file that is read in pieces.
 
-// Where the reading of a file stands: its descriptor, the place in the piece that is held, and that piece's length.
-pub struct Source {
-    pub fd: i32,
-    pub at: usize,
-    pub end: usize,
-}
-
-// The next piece is there, the file has ended, or could not be read, which is said.
+// The next piece is there, of so many bytes; the file has ended; or it could not be read, which is said.
 pub enum Next {
-    Piece(Source),
+    Piece(usize),
     End,
     Stop,
 }
@@ -38,5 +31,5 @@ pub fn next_piece(fd: i32, word: usize, piece: &mut [u8]) -> Next {
     if end == 0 {
         return Next::End;
     }
-    Next::Piece(Source { fd, at: 0, end })
+    Next::Piece(end)
 }

@@ -2,50 +2,87 @@
 // comes next. So every stretch is as full as it can be, and no record lies across a cut.
 use crate::files::make_stretch;
 use crate::records::HEADING;
-use crate::sequence::Sequence;
-use crate::sequence::Took;
+use crate::records::Records;
+use crate::sequence::Spot;
 use crate::sequence::take_bases;
+use crate::sequence::turn_page;
 use crate::words::REFERENCE;
 use crate::words::say;
 use crate::words::say_number;
 use crate::words::tell;
-use clinic::Fit;
+use braces::Place;
 use clinic::Held;
+use clinic::Reading;
 use stretch::Written;
+use text::Refusal;
+use text::refusal;
 use vcf::build;
 use withheld::part;
 
-// How far the chromosome has come: the position of the window's first base, how many bases it has, what its stretch holds, the place
-// behind its records' lines in short, and how many stretches are written.
+// One buffer has the window's bases and, from this place on, the heading and its records' lines in short.
+pub const LINES: usize = refusal::GREATEST_STRETCH;
+
+// Room for the lines of every window too: a stretch of the most bytes has at most 8,191 records, and a record of so few bytes has a line
+// of 20.
+pub const ROOM: usize = LINES + 196608;
+
+// What comes next: the next record is read; the bases before it are taken; those of its REF; or the rest of them, behind the last record.
+pub const NEXT: u64 = 0;
+
+pub const BEFORE: u64 = 1;
+
+pub const INSIDE: u64 = 2;
+
+pub const REST: u64 = 3;
+
+// How far both files have come.
 pub struct Walk {
+    // The position of the window's first base, how many bases it has, what its stretch holds, and the place behind its lines.
     pub first: usize,
     pub count: usize,
     pub held: Held,
     pub lines: usize,
+    // How many stretches are written.
     pub stretches: u64,
+    // The reference's file, how far the piece that is held is read, its length, and where in the file it stands.
+    pub fd: i32,
+    pub at: usize,
+    pub end: usize,
+    pub spot: Spot,
+    // What comes next, the position before which bases are taken for it, and the bytes of the record's segment.
+    pub aim: u64,
+    pub until: usize,
+    pub segment: usize,
+    // The variant file.
+    pub records: Records,
 }
 
-// The walk, and how far the reference has come with it.
-pub struct State {
-    pub walk: Walk,
-    pub sequence: Sequence,
-}
-
-// Behind what was asked for; behind the chromosome's last base; or not further, and it is said why.
+// One turn further; behind the chromosome's last base; or not further, and it is said why.
 pub enum Came {
-    To(State),
-    Over(State),
+    To(Walk),
+    Over(Walk),
     Stop,
 }
 
-// A window that begins.
-pub fn window_at(first: usize, stretches: u64) -> Walk {
+// Before the first base: nothing of the reference is read yet.
+pub fn start(fd: i32, records: Records) -> Walk {
     Walk {
-        first,
+        first: 1,
         count: 0,
         held: Held::NOTHING,
-        lines: HEADING,
-        stretches,
+        lines: LINES + HEADING,
+        stretches: 0,
+        fd,
+        at: 0,
+        end: 0,
+        spot: Spot {
+            reading: Reading::Start,
+            place: Place::first(),
+        },
+        aim: NEXT,
+        until: 0,
+        segment: 0,
+        records,
     }
 }
 
@@ -63,53 +100,38 @@ fn tell_done(stretches: u64, bases: usize) {
     }
 }
 
-// Whether the window is written, and the next one begins. A window that cannot be built ends the walk, and that is said.
-pub enum Cut {
-    Next(Walk),
-    Stop,
+// Why a window could not be built.
+fn tell_window(wrong: Refusal) {
+    tell(REFERENCE, b"a window could not be built");
+    say_number(b"refused ", wrong.number);
+    say_number(b" at ", wrong.place as u64);
+    say(b"\n");
 }
 
-// Builds the window's stretch and writes it.
-pub fn cut_window(walk: Walk, window: &[u8], lines: &[u8], out: &mut [u8]) -> Cut {
-    let first = walk.first;
-    match build(
-        part(lines, 0, walk.lines),
-        part(window, 0, walk.count),
-        first,
-        b"",
-        &mut *out,
-    ) {
+// Builds the window's stretch and writes it, and the next window begins.
+pub fn cut_window(walk: Walk, window: &[u8]) -> Came {
+    let mut out = [0u8; refusal::GREATEST_STRETCH];
+    let lines = part(window, LINES, walk.lines);
+    let bases = part(window, 0, walk.count);
+    match build(lines, bases, walk.first, b"", &mut out) {
         Written::Refused(wrong) => {
-            tell(REFERENCE, b"a window could not be built");
-            say_number(b"refused ", wrong.number);
-            say_number(b" at ", wrong.place as u64);
-            say(b"\n");
-            Cut::Stop
+            tell_window(wrong);
+            Came::Stop
         }
         Written::Bytes(n) => {
-            let number = std::num::wrapping_add_u64(walk.stretches, 1);
-            if !make_stretch(number, part(out, 0, n)) {
-                return Cut::Stop;
+            let nothing = Held::NOTHING;
+            let mut next = walk;
+            next.first = next_position(walk);
+            next.count = 0;
+            next.held = nothing;
+            next.lines = LINES + HEADING;
+            next.stretches = std::num::wrapping_add_u64(walk.stretches, 1);
+            if !make_stretch(next.stretches, part(&out, 0, n)) {
+                return Came::Stop;
             }
-            let next = next_position(walk);
-            tell_done(number, std::num::wrapping_sub_usize(next, 1));
-            Cut::Next(window_at(next, number))
+            tell_done(next.stretches, std::num::wrapping_sub_usize(next.first, 1));
+            Came::To(next)
         }
-    }
-}
-
-// The walk with n bases more; these had room.
-fn with_bases(walk: Walk, n: usize) -> Walk {
-    let held = walk.held;
-    match held.bases(n) {
-        Fit::Full => walk,
-        Fit::Fits(more) => Walk {
-            first: walk.first,
-            count: std::num::wrapping_add_usize(walk.count, n),
-            held: more,
-            lines: walk.lines,
-            stretches: walk.stretches,
-        },
     }
 }
 
@@ -118,94 +140,25 @@ fn least(a: usize, b: usize) -> usize {
     if a < b { a } else { b }
 }
 
-// Takes n bases into the window, for which there is room.
-fn take_some(state: State, n: usize, name: &[u8], piece: &mut [u8], window: &mut [u8]) -> Came {
-    let walk = state.walk;
-    let sequence = state.sequence;
-    let count = walk.count;
-    match take_bases(
-        name,
-        sequence,
-        &mut *piece,
-        &mut *window,
-        count,
-        std::num::wrapping_add_usize(count, n),
-    ) {
-        Took::Stop => Came::Stop,
-        Took::All(next) => Came::To(State {
-            walk: with_bases(walk, n),
-            sequence: next,
-        }),
-        Took::Over(some) => Came::Over(State {
-            walk: with_bases(walk, std::num::wrapping_sub_usize(some, count)),
-            sequence,
-        }),
+// How many bases more there is room for. Those of a record's REF have room, since its segment has.
+fn room(walk: Walk) -> usize {
+    if walk.aim == INSIDE {
+        return usize::MAX;
     }
-}
-
-// One step towards a position: as many bases as there is room for, or a cut where there is none.
-fn step(
-    state: State,
-    until: usize,
-    name: &[u8],
-    piece: &mut [u8],
-    window: &mut [u8],
-    lines: &[u8],
-    out: &mut [u8],
-) -> Came {
-    let walk = state.walk;
-    let sequence = state.sequence;
     let held = walk.held;
-    let room = held.room();
-    if room == 0 {
-        return match cut_window(walk, window, lines, &mut *out) {
-            Cut::Stop => Came::Stop,
-            Cut::Next(next) => Came::To(State {
-                walk: next,
-                sequence,
-            }),
-        };
-    }
-    let wanted = std::num::wrapping_sub_usize(until, next_position(walk));
-    take_some(state, least(wanted, room), name, &mut *piece, &mut *window)
+    held.room()
 }
 
-// Takes the bases before a position. Nothing counts the steps, so the loop counts down from a number that no run uses up.
-pub fn go_to(
-    state: State,
-    until: usize,
-    name: &[u8],
-    piece: &mut [u8],
-    window: &mut [u8],
-    lines: &[u8],
-    out: &mut [u8],
-) -> Came {
-    let mut now = state;
-    let mut turns = u64::MAX;
-    while 0 < turns {
-        if until <= next_position(now.walk) {
-            return Came::To(now);
-        }
-        match step(
-            now,
-            until,
-            name,
-            &mut *piece,
-            &mut *window,
-            lines,
-            &mut *out,
-        ) {
-            Came::Stop => {
-                return Came::Stop;
-            }
-            Came::Over(last) => {
-                return Came::Over(last);
-            }
-            Came::To(next) => {
-                now = next;
-                turns -= 1;
-            }
-        }
+// One step towards the position that is aimed at: a cut where there is no room, the next piece behind one that is used up, or bases of the
+// one that is held.
+pub fn step(name: &[u8], walk: Walk, piece: &mut [u8], window: &mut [u8]) -> Came {
+    let most = room(walk);
+    if most == 0 {
+        cut_window(walk, window)
+    } else if walk.at == walk.end {
+        turn_page(walk, &mut *piece)
+    } else {
+        let wanted = std::num::wrapping_sub_usize(walk.until, next_position(walk));
+        take_bases(name, walk, least(wanted, most), piece, &mut *window)
     }
-    Came::Stop
 }
