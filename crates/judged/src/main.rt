@@ -7,23 +7,16 @@ mod judging;
 mod lists;
 mod words;
 
-use judging::headings;
 use judging::judged;
 use straight::part;
 use tally::report;
 
 fn main() {
-    let mut input = [0u8; 65536];
+    let mut input = [0u8; 40000];
     let n = io::read_full(0, &mut input);
-    let examples = part(&input, 0, n);
     let mut names = [0u8; 1024];
-    let k = headings(&mut names, examples);
+    let tally = judged(part(&input, 0, n), &mut names);
     let mut out = [0u8; 4096];
-    let end = report(
-        judged(examples),
-        part(&names, 0, k),
-        b" examples, ",
-        &mut out,
-    );
+    let end = report(tally, &names, b" examples, ", &mut out);
     io::write_all(1, part(&out, 0, end));
 }

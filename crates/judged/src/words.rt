@@ -19,9 +19,10 @@ pub fn find(line: &[u8], from: usize, byte: u8) -> usize {
     at
 }
 
-// What stands from a place on.
-pub fn rest(line: &[u8], from: usize) -> &[u8] {
-    part(line, from, wrapping_sub_usize(line.len(), from))
+// What stands behind the first such byte.
+pub fn behind(line: &[u8], byte: u8) -> &[u8] {
+    let at = wrapping_add_usize(find(line, 0, byte), 1);
+    part(line, at, wrapping_sub_usize(line.len(), at))
 }
 
 // The place of the word of that number.
@@ -53,7 +54,7 @@ fn is_turned(line: &[u8]) -> bool {
 pub fn pattern(line: &[u8]) -> &[u8] {
     let first = word(line, 1);
     if is_turned(line) {
-        return rest(first, 1);
+        return behind(first, b'~');
     }
     first
 }
@@ -66,25 +67,17 @@ pub fn strand(line: &[u8]) -> Strand {
     Strand::Given
 }
 
-// Ten times as much, and a digit.
-fn appended(number: u64, digit: u8) -> u64 {
-    let ten = wrapping_add_u64(number << 3, number << 1);
-    wrapping_add_u64(ten, (digit % 16) as u64)
-}
-
-// The number that digits spell, up to the first other byte.
+// The number that digits spell, up to the first byte that is less than a digit.
 pub fn spelt(word: &[u8]) -> u64 {
     let mut number = 0;
     let mut i = 0;
     while i < word.len() {
         let byte = word[i];
-        match byte {
-            b'0'..=b'9' => {}
-            _ => {
-                return number;
-            }
+        if byte < b'0' {
+            return number;
         }
-        number = appended(number, byte);
+        let ten = wrapping_add_u64(number << 3, number << 1);
+        number = wrapping_add_u64(ten, (byte % 16) as u64);
         i += 1;
     }
     number
@@ -97,8 +90,8 @@ pub fn number(line: &[u8], k: usize) -> usize {
 
 // The wanted answer: behind = up to three results, behind ! the refusal's number and place and what goes with them.
 pub fn wanted(line: &[u8]) -> Answer {
-    let refusal = rest(line, find(line, 0, b'!'));
-    let results = rest(line, find(line, 0, b'='));
+    let refusal = behind(line, b'!');
+    let results = behind(line, b'=');
     if refusal.len() == 0 {
         return Answer::told(number(results, 1), number(results, 2), number(results, 3));
     }

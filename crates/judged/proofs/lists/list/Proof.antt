@@ -5,10 +5,10 @@ use Rattle.judged.proofs.lists.list.Statement.{statement}
 use Rattle.judged.proofs.lists.list.Tie as tie
 
 abbrev Inv-loop : tie.InvT-loop
-Inv-loop line from n list₀ k₀ list k = k ≤ n
+Inv-loop line len n list₀ k₀ list k = k ≤ n
 
 abbrev μ-loop : tie.MeasureT-loop
-μ-loop line from n list₀ k₀ list k = n - k
+μ-loop line len n list₀ k₀ list k = n - k
 
 pub list-spec : {M : Type 1} → statement M
 list-spec =
@@ -17,11 +17,12 @@ list-spec =
     Inv-loop
     μ-loop
     (λ c κs. search needs)
+    (λ c κs. search needs)
+    (λ c. search needs)
     (λ c. search needs)
     (λ c κs. search needs)
     (λ c κs. search needs)
     (λ c κs. search needs)
-    (λ c. search needs)
     (λ c. search needs)
     (λ c. search needs)
     (λ c. search needs))
