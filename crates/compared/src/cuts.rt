@@ -4,94 +4,62 @@ use crate::groups::CUTS;
 use search::Sought;
 use search::State;
 use std::num::wrapping_add_usize;
-use std::num::wrapping_sub_usize;
 use straight::Ran;
 use straight::Verdict;
 use straight::part;
 use straight::put_part;
-use straight::segment_at;
 use tally::Answer;
 use tally::Tally;
 use tally::held;
 use text::strand::Strand;
 
-// The second stretch, from the state behind the first, which has so many segments and ends: its marks go behind those of the first.
-fn onward(
-    state: State,
-    p: &[u8],
-    strand: Strand,
-    right: &[u8],
-    marks: &mut [u8],
-    before: usize,
-    ends: usize,
-) -> Answer {
-    let mut own = [7u8; 40];
-    match state.through(p, strand, right, &mut own) {
-        Sought::Refused(wrong) => Answer::refused(wrong.number, wrong.place),
-        Sought::Marked {
-            segments,
-            size: _,
-            ends: more,
-            state: last,
-        } => {
-            put_part(&mut *marks, before, part(&own, 0, segments));
-            Answer::told(
-                wrapping_add_usize(before, segments),
-                last.bits as usize,
-                wrapping_add_usize(ends, more),
-            )
-        }
+// One stretch more, behind those that told so many segments, the bits of a state, and so many ends: its marks go behind theirs.
+fn onward(before: Answer, p: &[u8], strand: Strand, stretch: &[u8], marks: &mut [u8]) -> Answer {
+    let from = before.first;
+    if marks.len() < from {
+        return before;
     }
-}
-
-// Both stretches, one after the other, where they leave these marks.
-fn both(p: &[u8], strand: Strand, left: &[u8], right: &[u8], wanted: &[u8]) -> Answer {
-    let mut marks = [7u8; 40];
-    let fresh = State::FRESH;
-    match fresh.through(p, strand, left, &mut marks) {
+    let state = State {
+        bits: before.second as u64,
+    };
+    match state.through(p, strand, stretch, &mut marks[from..]) {
         Sought::Refused(wrong) => Answer::refused(wrong.number, wrong.place),
         Sought::Marked {
             segments,
             size: _,
             ends,
-            state,
-        } => {
-            let answer = onward(state, p, strand, right, &mut marks, segments, ends);
-            held(answer, &marks, wanted)
-        }
+            state: last,
+        } => Answer::told(
+            wrapping_add_usize(from, segments),
+            last.bits as usize,
+            wrapping_add_usize(before.third, ends),
+        ),
     }
 }
 
-// A text whose first stretch is this one, and whose other stretch follows behind so many segments.
-fn back(
-    p: &[u8],
-    strand: Strand,
-    bytes: &[u8],
-    verdict: Verdict,
-    left: &[u8],
-    cut: usize,
-    wanted: &[u8],
-) -> Answer {
-    let at = segment_at(bytes, cut);
-    let rest = part(bytes, at, wrapping_sub_usize(bytes.len(), at));
-    let mut right = [0u8; 2048];
-    let n = drawn::stretch(&mut right, wrapping_sub_usize(verdict.segments, cut), rest);
-    both(p, strand, left, part(&right, 0, n), wanted)
-}
-
-// A text cut behind so many of its segments.
+// A text cut behind so many of its segments, where its stretches leave these marks.
 fn parted(
     p: &[u8],
     strand: Strand,
     bytes: &[u8],
-    verdict: Verdict,
+    segments: usize,
     cut: usize,
-    wanted: &[u8],
+    left: &[u8],
 ) -> Answer {
-    let at = segment_at(bytes, cut);
-    let mut left = [0u8; 2048];
-    let n = drawn::stretch(&mut left, cut, part(bytes, 2, wrapping_sub_usize(at, 2)));
-    back(p, strand, bytes, verdict, part(&left, 0, n), cut, wanted)
+    let mut front = [0u8; 2048];
+    let n = drawn::stretch(&mut front, bytes, 0, cut);
+    let mut back = [0u8; 2048];
+    let m = drawn::stretch(&mut back, bytes, cut, segments);
+    let mut marks = [7u8; 40];
+    let first = onward(
+        Answer::told(0, 1, 0),
+        p,
+        strand,
+        part(&front, 0, n),
+        &mut marks,
+    );
+    let both = onward(first, p, strand, part(&back, 0, m), &mut marks);
+    held(both, &marks, left)
 }
 
 // A text cut behind each of its segments, and before the first, compared with what is found in the whole.
@@ -103,15 +71,17 @@ pub fn compare(
     verdict: Verdict,
     found: Ran,
 ) -> Tally {
-    let mut left = [7u8; 40];
+    let segments = verdict.segments;
     let marks = found.marks;
-    put_part(&mut left, 0, part(&marks, 0, verdict.segments));
-    let wanted = Answer::told(verdict.segments, found.bits as usize, found.ends);
+    let mut left = [7u8; 40];
+    put_part(&mut left, 0, part(&marks, 0, segments));
+    let wanted = Answer::told(segments, found.bits as usize, found.ends);
+    let cuts = wrapping_add_usize(segments, 1);
     let mut t = tally;
     let mut cut = 0;
-    while cut < verdict.segments {
-        t = t.compare(CUTS, parted(p, strand, bytes, verdict, cut, &left), wanted);
+    while cut < cuts {
+        t = t.compare(CUTS, parted(p, strand, bytes, segments, cut, &left), wanted);
         cut += 1;
     }
-    t.compare(CUTS, parted(p, strand, bytes, verdict, cut, &left), wanted)
+    t
 }

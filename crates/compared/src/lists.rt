@@ -13,16 +13,8 @@ use tally::found;
 use tally::held;
 use tally::listed;
 
-// No record is wrong, or none ends.
+// The first ending segment where no record ends.
 const NONE: usize = 4294967295;
-
-// A list, and what is found of its records: the first wrong one, and the first that ends, with its label.
-struct Sought {
-    list: List,
-    wrong: usize,
-    label: usize,
-    segment: usize,
-}
 
 // How many records: mostly a few, at times as many as there may be, or one more.
 fn records(seed: u64) -> usize {
@@ -34,124 +26,53 @@ fn records(seed: u64) -> usize {
     }
 }
 
-// Whether a pattern is refused.
-fn is_wrong(p: &[u8], alone: Verdict) -> bool {
-    let verdict = straight::pattern(p, alone);
-    verdict.number != alone.number
-}
-
-// One record more, whose label is 100 more than its number, and its mark.
-fn with(sought: Sought, p: &[u8], bytes: &[u8], alone: Verdict, marks: &mut [u8]) -> Sought {
-    let list = sought.list;
-    let k = list.n;
-    let label = wrapping_add_usize(100, k);
-    let ran = straight::run(p, bytes, straight::pattern(p, alone), 1);
-    let ends = ran.ends != 0;
-    put(&mut *marks, k, ends as u8);
-    let is_first = if ends { sought.segment == NONE } else { false };
-    let is_first_wrong = if is_wrong(p, alone) {
-        sought.wrong == NONE
-    } else {
-        false
-    };
-    Sought {
-        list: list.with(p, label as u64),
-        wrong: if is_first_wrong { k } else { sought.wrong },
-        label: if is_first { label } else { sought.label },
-        segment: if is_first { ran.first } else { sought.segment },
-    }
-}
-
-// One record more, of a pattern that may be spoilt, in one list of three.
-fn spoilt(
-    sought: Sought,
-    p: &[u8],
-    bytes: &[u8],
-    alone: Verdict,
-    marks: &mut [u8],
-    seed: u64,
-    own: u64,
-) -> Sought {
-    let mut bases = [0u8; 65];
-    if below(seed, 802, 3) != 0 {
-        return with(sought, p, bytes, alone, &mut *marks);
-    }
-    let m = drawn::spoil(&mut bases, p, own);
-    with(sought, part(&bases, 0, m), bytes, alone, &mut *marks)
-}
-
-// One record more, of a random pattern for a text.
-fn draw(
-    sought: Sought,
-    text: &[u8],
-    bytes: &[u8],
-    alone: Verdict,
-    marks: &mut [u8],
-    seed: u64,
-) -> Sought {
-    let list = sought.list;
-    let own = drawn::seed(seed, wrapping_add_usize(900, list.n));
-    let mut bases = [0u8; 64];
-    let m = drawn::pattern(&mut bases, text, own);
-    spoilt(
-        sought,
-        part(&bases, 0, m),
-        bytes,
-        alone,
-        &mut *marks,
-        seed,
-        own,
-    )
-}
-
-// A list of so many patterns for a text, searched in a stretch, and the marks.
-fn seek(
-    text: &[u8],
-    bytes: &[u8],
-    alone: Verdict,
-    marks: &mut [u8],
-    n: usize,
-    seed: u64,
-) -> Sought {
-    let mut sought = Sought {
-        list: List::empty(),
-        wrong: NONE,
-        label: 0,
-        segment: NONE,
-    };
-    let mut k = 0;
-    while k < n {
-        sought = draw(sought, text, bytes, alone, &mut *marks, seed);
-        k += 1;
-    }
-    sought
-}
-
-// The refusal that is to come, number 0 where there is none.
-fn refusal(n: usize, wrong: usize, alone: Verdict, room: usize) -> Answer {
+// What is to be found before any record is looked at: too many records, a refusal of the stretch, or none that ends.
+fn none(n: usize, alone: Verdict) -> Answer {
     if 32 < n {
         return Answer::refused(20, 0);
-    }
-    if wrong != NONE {
-        return Answer::refused(21, wrong);
     }
     if alone.number != 0 {
         return Answer::refused(alone.number, alone.place);
     }
-    if room < n {
-        return Answer::refused(10, 0);
-    }
-    Answer::told(0, 0, 0)
+    Answer::told(0, NONE, 0)
 }
 
-// The first record that ends.
-fn first(sought: Sought, alone: Verdict) -> Answer {
-    let list = sought.list;
-    let refused = refusal(list.n, sought.wrong, alone, 33);
-    if refused.number != 0 {
-        return refused;
+// Puts the pattern of record k, random and for a text, and in one list of three one that may be spoilt. Tells how many bases it has.
+fn draw(out: &mut [u8], text: &[u8], k: usize, seed: u64) -> usize {
+    let own = drawn::seed(seed, wrapping_add_usize(900, k));
+    let m = drawn::pattern(&mut *out, text, own);
+    if below(seed, 802, 3) != 0 {
+        return m;
     }
-    Answer::told(sought.label, sought.segment, 0)
+    drawn::spoil(&mut *out, m, own)
+}
+
+// What is to be found once record k is looked at too, whose label is 100 more than its number, and its mark. The first that is wrong
+// comes before a refusal of the stretch, and behind too many records.
+fn with(
+    before: Answer,
+    k: usize,
+    p: &[u8],
+    bytes: &[u8],
+    alone: Verdict,
+    marks: &mut [u8],
+) -> Answer {
+    if 19 < before.number {
+        return before;
+    }
+    let verdict = straight::pattern(p, alone);
+    if verdict.number != alone.number {
+        return Answer::refused(21, k);
+    }
+    let ran = straight::run(p, bytes, verdict, 1);
+    if ran.ends == 0 {
+        return before;
+    }
+    put(&mut *marks, k, 1);
+    if before.second != NONE {
+        return before;
+    }
+    Answer::told(wrapping_add_usize(100, k), ran.first, 0)
 }
 
 // Marks into the first so many bytes of a buffer.
@@ -162,40 +83,49 @@ fn mark_into(marks: &mut [u8], room: usize, list: List, bytes: &[u8]) -> Answer 
     listed(list.mark(bytes, &mut marks[0..room]))
 }
 
-// Marks into so many bytes, each 7 before, where they leave these.
-fn mark_held(list: List, bytes: &[u8], room: usize, left: &[u8]) -> Answer {
-    let mut marks = [7u8; 40];
-    let answer = mark_into(&mut marks, room, list, bytes);
-    held(answer, &marks, left)
+// What the marks are to answer where that is to be found, in so much room.
+fn marked(first: Answer, n: usize, room: usize) -> Answer {
+    if first.number != 0 {
+        return first;
+    }
+    if room < n {
+        return Answer::refused(10, 0);
+    }
+    Answer::told(0, 0, 0)
 }
 
-// The marks: where they are refused, nothing changes.
-fn compare_marks(
-    tally: Tally,
-    list: List,
-    bytes: &[u8],
-    room: usize,
-    marks: &[u8],
-    wanted: Answer,
-) -> Tally {
-    let n = if wanted.number == 0 { list.n } else { 0 };
-    let mut left = [7u8; 40];
-    put_part(&mut left, 0, part(marks, 0, n));
-    tally.compare(LISTS, mark_held(list, bytes, room, &left), wanted)
-}
-
-// Both calls, with a list of patterns for a text, on that text or on what it is damaged to.
-pub fn compare(tally: Tally, text: &[u8], bytes: &[u8], seed: u64) -> Tally {
-    let alone = straight::stretch(bytes);
-    let mut marks = [0u8; 40];
-    let sought = seek(text, bytes, alone, &mut marks, records(seed), seed);
-    let list = sought.list;
+// Both calls: that is to be found, and these marks are to be left, or nothing where they are refused.
+fn both(tally: Tally, list: List, bytes: &[u8], seed: u64, first: Answer, ones: &[u8]) -> Tally {
     let room = if below(seed, 803, 4) == 0 {
         below(seed, 804, 41)
     } else {
         40
     };
-    let t = tally.compare(LISTS, found(list.first(bytes)), first(sought, alone));
-    let wanted = refusal(list.n, sought.wrong, alone, room);
-    compare_marks(t, list, bytes, room, &marks, wanted)
+    let wanted = marked(first, list.n, room);
+    let n = if wanted.number == 0 { list.n } else { 0 };
+    let mut left = [7u8; 40];
+    put_part(&mut left, 0, part(ones, 0, n));
+    let mut marks = [7u8; 40];
+    let answer = mark_into(&mut marks, room, list, bytes);
+    let t = tally.compare(LISTS, found(list.first(bytes)), first);
+    t.compare(LISTS, held(answer, &marks, &left), wanted)
+}
+
+// A list of patterns for a text, on that text or on what it is damaged to.
+pub fn compare(tally: Tally, text: &[u8], bytes: &[u8], seed: u64) -> Tally {
+    let alone = straight::stretch(bytes);
+    let n = records(seed);
+    let mut first = none(n, alone);
+    let mut list = List::empty();
+    let mut ones = [0u8; 40];
+    let mut k = 0;
+    while k < n {
+        let mut bases = [0u8; 65];
+        let m = draw(&mut bases, text, k, seed);
+        let p = part(&bases, 0, m);
+        list = list.with(p, wrapping_add_usize(100, k) as u64);
+        first = with(first, k, p, bytes, alone, &mut ones);
+        k += 1;
+    }
+    both(tally, list, bytes, seed, first, &ones)
 }

@@ -21,38 +21,23 @@ const TEXTS: u64 = 5000;
 // Where the random numbers start.
 const SEED: u64 = 0x2545_f491_4f6c_dd1d;
 
-// The text of a tally's number, with a pattern for it.
+// The text of a tally's number, compared with a pattern for it, and then damaged, with one that may be spoilt.
 fn text(tally: Tally) -> Tally {
     let seed = drawn::seed(SEED, tally.at as usize);
     let mut bytes = [0u8; 2048];
     let n = drawn::text(&mut bytes, seed);
-    searched(tally, part(&bytes, 0, n), seed)
-}
-
-// The text and a pattern, compared as they are, and then damaged.
-fn searched(tally: Tally, text: &[u8], seed: u64) -> Tally {
-    let mut bases = [0u8; 64];
-    let m = drawn::pattern(&mut bases, text, seed);
-    let pattern = part(&bases, 0, m);
-    let whole = stretches::compare(tally, groups::WHOLE, pattern, text);
-    let listed = lists::compare(whole, text, text, seed);
-    spoilt(listed, pattern, text, seed)
-}
-
-// The text damaged, with a pattern that may be spoilt.
-fn spoilt(tally: Tally, pattern: &[u8], text: &[u8], seed: u64) -> Tally {
+    let text = part(&bytes, 0, n);
     let mut bases = [0u8; 65];
-    let m = drawn::spoil(&mut bases, pattern, seed);
-    damaged(tally, part(&bases, 0, m), text, seed)
-}
-
-// The text damaged, and a pattern.
-fn damaged(tally: Tally, pattern: &[u8], text: &[u8], seed: u64) -> Tally {
-    let mut bytes = [0u8; 2048];
-    let n = drawn::damage(&mut bytes, text, seed);
-    let stretch = part(&bytes, 0, n);
-    let damaged = stretches::compare(tally, groups::DAMAGED, pattern, stretch);
-    lists::compare(damaged, text, stretch, drawn::seed(seed, 805))
+    let m = drawn::pattern(&mut bases, text, seed);
+    let whole = stretches::compare(tally, groups::WHOLE, part(&bases, 0, m), text);
+    let listed = lists::compare(whole, text, text, seed);
+    let spoilt = drawn::spoil(&mut bases, m, seed);
+    let pattern = part(&bases, 0, spoilt);
+    let mut damaged = [0u8; 2048];
+    let k = drawn::damage(&mut damaged, text, seed);
+    let stretch = part(&damaged, 0, k);
+    let t = stretches::compare(listed, groups::DAMAGED, pattern, stretch);
+    lists::compare(t, text, stretch, drawn::seed(seed, 805))
 }
 
 // All texts.

@@ -11,25 +11,9 @@ use tally::Tally;
 use tally::held;
 use tally::written;
 
-// What a write answers, where it leaves these bytes in front of its buffer.
-fn rewritten(letters: &[u8], lengths: &[u16], counts: &[u8], wanted: &[u8]) -> Answer {
-    let mut out = [7u8; 2048];
-    let answer = written(write(letters, lengths, counts, &mut out));
-    let mut left = [7u8; 2048];
-    put_part(&mut left, 0, wanted);
-    held(answer, &out, &left)
-}
-
-// The first so many lengths.
-fn lengths_part(lengths: &[u16], n: usize) -> &[u16] {
-    if lengths.len() < n {
-        return &lengths[..0];
-    }
-    &lengths[0..n]
-}
-
-// The parts of a text, written again.
-fn again(bytes: &[u8], segments: usize, wanted: &[u8]) -> Answer {
+// The parts of a text, written again, where that leaves these bytes in front of its buffer.
+fn again(bytes: &[u8], wanted: &[u8]) -> Answer {
+    let segments = word_at(bytes, 0);
     let variants = variants_before(bytes, segments);
     let mut letters = [0u8; 2048];
     let n = straight::letters(&mut letters, bytes, segments, variants);
@@ -37,13 +21,17 @@ fn again(bytes: &[u8], segments: usize, wanted: &[u8]) -> Answer {
     straight::lengths(&mut lengths, bytes, segments);
     let mut counts = [0u8; 32];
     straight::counts(&mut counts, bytes);
-    let long = lengths_part(&lengths, variants);
-    rewritten(
+    let long = variants % 65;
+    let mut out = [7u8; 2048];
+    let answer = written(write(
         part(&letters, 0, n),
-        long,
+        &lengths[0..long],
         part(&counts, 0, segments),
-        wanted,
-    )
+        &mut out,
+    ));
+    let mut left = [7u8; 2048];
+    put_part(&mut left, 0, wanted);
+    held(answer, &out, &left)
 }
 
 // A text that is accepted, and written as it was with its letters in upper case; or refused for a variant that is repeated, at its
@@ -56,7 +44,6 @@ pub fn compare(tally: Tally, bytes: &[u8], verdict: Verdict) -> Tally {
         verdict.segments,
         verdict.variants,
     );
-    let got = again(bytes, word_at(bytes, 0), part(&raised, 0, n));
     let answer = Answer {
         number: verdict.number,
         place: verdict.before,
@@ -64,5 +51,5 @@ pub fn compare(tally: Tally, bytes: &[u8], verdict: Verdict) -> Tally {
         second: 0,
         third: 0,
     };
-    tally.compare(WRITES, got, answer)
+    tally.compare(WRITES, again(bytes, part(&raised, 0, n)), answer)
 }

@@ -11,5 +11,6 @@ pub use numbers::below;
 pub use numbers::seed;
 pub use patterns::pattern;
 pub use patterns::spoil;
+pub use texts::segments;
 pub use texts::stretch;
 pub use texts::text;

@@ -109,9 +109,9 @@ fn no_base(seed: u64) -> u8 {
     stray(seed, 611)
 }
 
-// Puts a pattern again, in one case of eight spoilt: none of it, one base too many, or a byte that is no base.
-pub fn spoil(out: &mut [u8], p: &[u8], seed: u64) -> usize {
-    let m = put_part(&mut *out, 0, p);
+// Spoils a pattern of m bases where it stands, in one case of eight, and tells how many it has then: none of it, one base too many, or a
+// byte that is no base.
+pub fn spoil(out: &mut [u8], m: usize, seed: u64) -> usize {
     let kind = below(seed, 607, 32);
     match kind {
         0 => 0,

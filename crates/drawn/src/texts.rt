@@ -6,9 +6,12 @@ use crate::numbers::seed;
 use crate::puts::put_letters;
 use crate::puts::put_word;
 use std::num::wrapping_add_usize;
+use std::num::wrapping_sub_usize;
+use straight::part;
 use straight::put;
 use straight::put_part;
 use straight::repeats;
+use straight::segment_at;
 
 // The place behind what was put, and how many variants or segments there are.
 struct Made {
@@ -98,8 +101,14 @@ pub fn text(out: &mut [u8], from: u64) -> usize {
     made.at
 }
 
-// Puts a stretch of so many segments, whose bytes are these, and tells how many it has.
-pub fn stretch(out: &mut [u8], segments: usize, bytes: &[u8]) -> usize {
-    put_word(&mut *out, 0, segments);
-    put_part(&mut *out, 2, bytes)
+// The bytes of the segments of a text from one on and before another.
+pub fn segments(bytes: &[u8], from: usize, to: usize) -> &[u8] {
+    let at = segment_at(bytes, from);
+    part(bytes, at, wrapping_sub_usize(segment_at(bytes, to), at))
+}
+
+// Puts these segments as a stretch of their own, and tells how many bytes it has.
+pub fn stretch(out: &mut [u8], bytes: &[u8], from: usize, to: usize) -> usize {
+    put_word(&mut *out, 0, wrapping_sub_usize(to, from));
+    put_part(&mut *out, 2, segments(bytes, from, to))
 }

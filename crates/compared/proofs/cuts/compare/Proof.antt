@@ -1,14 +1,14 @@
--- `compared::cuts::compare` is safe and ends. The measure is the number of segments left.
+-- `compared::cuts::compare` is safe and ends. The measure is the number of cuts left.
 use Prim.Native.Nat.{_-_, _≤_}
 use borrow.Author.Needs.{needs}
 use Rattle.compared.proofs.cuts.compare.Statement.{statement}
 use Rattle.compared.proofs.cuts.compare.Tie as tie
 
 abbrev Inv-loop : tie.InvT-loop
-Inv-loop p strand bytes verdict left wanted t₀ cut₀ t cut = cut ≤ verdict .segments
+Inv-loop p strand bytes segments left wanted cuts t₀ cut₀ t cut = cut ≤ cuts
 
 abbrev μ-loop : tie.MeasureT-loop
-μ-loop p strand bytes verdict left wanted t₀ cut₀ t cut = verdict .segments - cut
+μ-loop p strand bytes segments left wanted cuts t₀ cut₀ t cut = cuts - cut
 
 pub compare-spec : {M : Type 1} → statement M
 compare-spec =
@@ -21,6 +21,7 @@ compare-spec =
     (λ c κs. search needs)
     (λ c κs. search needs)
     (λ c κs. search needs)
+    (λ c κs. search needs)
     (λ c. search needs)
     (λ c. search needs)
     (λ c κs. search needs)
@@ -28,7 +29,4 @@ compare-spec =
     (λ c. search needs)
     (λ c. search needs)
     (λ c. search needs)
-    (λ c. search needs)
-    (λ c κs. search needs)
-    (λ c κs. search needs)
     (λ c. search needs))
