@@ -75,14 +75,6 @@ fn with(
     Answer::told(wrapping_add_usize(100, k), ran.first, 0)
 }
 
-// Marks into the first so many bytes of a buffer.
-fn mark_into(marks: &mut [u8], room: usize, list: List, bytes: &[u8]) -> Answer {
-    if marks.len() < room {
-        return Answer::refused(101, 0);
-    }
-    listed(list.mark(bytes, &mut marks[0..room]))
-}
-
 // What the marks are to answer where that is to be found, in so much room.
 fn marked(first: Answer, n: usize, room: usize) -> Answer {
     if first.number != 0 {
@@ -106,7 +98,7 @@ fn both(tally: Tally, list: List, bytes: &[u8], seed: u64, first: Answer, ones: 
     let mut left = [7u8; 40];
     put_part(&mut left, 0, part(ones, 0, n));
     let mut marks = [7u8; 40];
-    let answer = mark_into(&mut marks, room, list, bytes);
+    let answer = listed(list.mark(bytes, &mut marks, room));
     let t = tally.compare(LISTS, found(list.first(bytes)), first);
     t.compare(LISTS, held(answer, &marks, &left), wanted)
 }

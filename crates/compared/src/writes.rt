@@ -11,7 +11,16 @@ use tally::Tally;
 use tally::held;
 use tally::written;
 
-// The parts of a text, written again, where that leaves these bytes in front of its buffer.
+// What a write answers, where it leaves these bytes in front of its buffer.
+fn rewritten(letters: &[u8], lengths: &[u16], counts: &[u8], wanted: &[u8]) -> Answer {
+    let mut out = [7u8; 2048];
+    let answer = written(write(letters, lengths, counts, &mut out));
+    let mut left = [7u8; 2048];
+    put_part(&mut left, 0, wanted);
+    held(answer, &out, &left)
+}
+
+// The parts of a text, written again.
 fn again(bytes: &[u8], wanted: &[u8]) -> Answer {
     let segments = word_at(bytes, 0);
     let variants = variants_before(bytes, segments);
@@ -22,16 +31,12 @@ fn again(bytes: &[u8], wanted: &[u8]) -> Answer {
     let mut counts = [0u8; 32];
     straight::counts(&mut counts, bytes);
     let long = variants % 65;
-    let mut out = [7u8; 2048];
-    let answer = written(write(
+    rewritten(
         part(&letters, 0, n),
         &lengths[0..long],
         part(&counts, 0, segments),
-        &mut out,
-    ));
-    let mut left = [7u8; 2048];
-    put_part(&mut left, 0, wanted);
-    held(answer, &out, &left)
+        wanted,
+    )
 }
 
 // A text that is accepted, and written as it was with its letters in upper case; or refused for a variant that is repeated, at its

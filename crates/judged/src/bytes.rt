@@ -19,27 +19,32 @@ fn digit(byte: u8) -> usize
     low + 9
 }
 
-// Puts raw characters, up to a parenthesis or a star, behind so many half bytes, and tells how many there are then.
+// Puts a raw character behind so many half bytes, and tells how many there are then.
+fn raw_one(out: &mut [u8], halves: usize, byte: u8) -> usize {
+    let at = halves / 2;
+    match byte {
+        b'A'..=b'Z' => {
+            put(&mut *out, at, byte);
+            wrapping_add_usize(halves, 2)
+        }
+        _ => {
+            let value = (number_at(out, at) * 16 + digit(byte)) % 256;
+            put(&mut *out, at, value as u8);
+            wrapping_add_usize(halves, 1)
+        }
+    }
+}
+
+// Puts raw characters, up to a parenthesis or a star.
 fn raw_row(out: &mut [u8], from: usize, row: &[u8]) -> usize {
     let mut halves = from;
     let mut i = 0;
     while i < row.len() {
         let byte = row[i];
-        let at = halves / 2;
-        match byte {
-            b'('..=b'*' => {
-                return halves;
-            }
-            b'A'..=b'Z' => {
-                put(&mut *out, at, byte);
-                halves = wrapping_add_usize(halves, 2);
-            }
-            _ => {
-                let value = (number_at(out, at) * 16 + digit(byte)) % 256;
-                put(&mut *out, at, value as u8);
-                halves = wrapping_add_usize(halves, 1);
-            }
+        if byte < b'0' {
+            return halves;
         }
+        halves = raw_one(&mut *out, halves, byte);
         i += 1;
     }
     halves

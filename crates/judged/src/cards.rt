@@ -85,7 +85,9 @@ pub fn broken(tally: Tally, group: usize, sound: Card, card: Card) -> Tally {
 }
 
 // put m segments COUNT, put base i BASE, put row q exit first: the card with other fields.
-pub fn put(card: Card, line: &[u8]) -> Card {
+pub fn put(made: Made, line: &[u8]) -> Made {
+    let refusal = made.refusal;
+    let card = made.card;
     let mut pattern = card.pattern;
     let mut m = card.m;
     let mut segments = card.segments;
@@ -108,11 +110,15 @@ pub fn put(card: Card, line: &[u8]) -> Card {
             firsts[place] = (number(line, 4) % 4294967296) as u32;
         }
     }
-    Card {
+    let other = Card {
         pattern,
         m,
         segments,
         exits,
         firsts,
+    };
+    Made {
+        refusal,
+        card: other,
     }
 }

@@ -72,6 +72,26 @@ fn put_stretch(out: &mut [u8], line: &[u8]) -> usize {
     }
 }
 
+// The right card behind a line: `make` and `put` change it.
+fn changed(right: Made, line: &[u8], text: &[u8]) -> Made {
+    let call = number_at(line, 0);
+    match call {
+        109 => cards::of(line, text),
+        112 => cards::put(right, line),
+        _ => right,
+    }
+}
+
+// Puts the name of a heading, if the line is one, and tells the place behind it.
+fn put_name(out: &mut [u8], at: usize, line: &[u8]) -> usize {
+    if number_at(line, 0) != 61 {
+        return at;
+    }
+    let end = put_part(&mut *out, at, behind(line, b' '));
+    put(&mut *out, end, b'\n');
+    wrapping_add_usize(end, 1)
+}
+
 // Every line, known by its number from 1 on, in the group of the heading above it; the names of the groups are put, a line each.
 pub fn judged(input: &[u8], names: &mut [u8]) -> Tally {
     let mut tally = Tally::NONE;
@@ -85,29 +105,19 @@ pub fn judged(input: &[u8], names: &mut [u8]) -> Tally {
     while k < input.len() {
         let end = find(input, at, b'\n');
         let line = part(input, at, wrapping_sub_usize(end, at));
+        at = wrapping_add_usize(end, 1);
+        k += 1;
         let mut bytes = [0u8; 40000];
         let n = put_stretch(&mut bytes, line);
         let text = part(&bytes, 0, n);
-        at = wrapping_add_usize(end, 1);
-        k += 1;
+        named = put_name(&mut *names, named, line);
         let call = number_at(line, 0);
         match call {
-            61 => {
-                group = wrapping_add_usize(group, 1);
-                named = put_part(&mut *names, named, behind(line, b' '));
-                put(&mut *names, named, b'\n');
-                named = wrapping_add_usize(named, 1);
-            }
-            109 => {
-                left = right.card;
-                right = cards::of(line, text);
-            }
-            112 => {
-                let card = cards::put(right.card, line);
-                right.card = card;
-            }
+            61 => group = wrapping_add_usize(group, 1),
+            109 => left = right.card,
             _ => {}
         }
+        right = changed(right, line, text);
         tally = judge(tally.next(k as u64), group, left, right, line, text);
     }
     tally

@@ -35,19 +35,11 @@ pub fn known(line: &[u8], text: &[u8]) -> Answer {
     found(list(line, 2).first(text))
 }
 
-// Marks into the first so many bytes of a buffer.
-fn mark_into(marks: &mut [u8], room: usize, list: List, text: &[u8]) -> Answer {
-    if marks.len() < room {
-        return Answer::refused(101, 0);
-    }
-    listed(list.mark(text, &mut marks[0..room]))
-}
-
 // ticked STRETCH room MARKS n PATTERNS = : a mark for each of n records, into forty bytes, each 7 before, of which so many are lent.
 pub fn ticked(line: &[u8], text: &[u8]) -> Answer {
     let mut left = [7u8; 40];
     raw(&mut left, word(line, 3));
     let mut marks = [7u8; 40];
-    let answer = mark_into(&mut marks, number(line, 2), list(line, 4), text);
-    held(answer, &marks, &left)
+    let answer = list(line, 4).mark(text, &mut marks, number(line, 2));
+    held(listed(answer), &marks, &left)
 }

@@ -2,6 +2,7 @@
 use crate::lending::first_in;
 use crate::lending::mark_in;
 use straight::put_part;
+use text::refusal::Refusal;
 use watch::Found;
 use watch::Listed;
 use watch::Watched;
@@ -53,13 +54,19 @@ impl List {
         first_in(records, n, stretch)
     }
 
-    // A mark for each record.
-    pub fn mark(self, stretch: &[u8], marks: &mut [u8]) -> Listed {
+    // A mark for each record, into the first so many bytes; a refusal that no call gives where there are fewer.
+    pub fn mark(self, stretch: &[u8], marks: &mut [u8], room: usize) -> Listed {
         let n = self.n;
         if MOST < n {
             return Listed::Marked;
         }
+        if marks.len() < room {
+            return Listed::Refused(Refusal {
+                number: 101,
+                place: 0,
+            });
+        }
         let records = self.records;
-        mark_in(records, n, stretch, &mut *marks)
+        mark_in(records, n, stretch, &mut marks[0..room])
     }
 }

@@ -1,7 +1,6 @@
 -- `judged::bytes::raw_row` is safe and ends: the buffer keeps its length. The measure is the number of characters left.
 use Prim.Native.Nat.{_-_}
-use mathlib.Core.Path.{_≡_, ap, _∙_}
-use mathlib.Core.Logic.{⊎-elim}
+use mathlib.Core.Path.{_≡_}
 use lib.ListN.{length}
 use borrow.Author.Needs.{needs}
 use Rattle.judged.proofs.bytes.raw_row.Statement.{statement}
@@ -12,14 +11,6 @@ Inv-loop out₀ from row halves₀ i₀ out halves i = length out ≡ length out
 
 abbrev μ-loop : tie.MeasureT-loop
 μ-loop out₀ from row halves₀ i₀ out halves i = length row - i
-
-loop-again : tie.Need-loop-again Inv-loop μ-loop
-loop-again c =
-    let i = c .before .before .before .loop .inv in
-    ⊎-elim
-    (λ w. ap length (w .9) ∙ w .5 .kept .0 ∙ i)
-    (λ w. ap length (w .9) ∙ w .5 .kept .0 ∙ i)
-    (c .if1 .came)
 
 pub raw-row-spec : {M : Type 1} → statement M
 raw-row-spec =
@@ -32,16 +23,8 @@ raw-row-spec =
     (λ c. search needs)
     (λ c. search needs)
     (λ c κs. search needs)
-    (λ c κs. search needs)
-    (λ c κs. search needs)
-    (λ c. search needs)
-    (λ c κs. search needs)
     (λ c. search needs)
     (λ c. search needs)
-    (λ c κs. search needs)
-    (λ c κs. search needs)
     (λ c. search needs)
-    (λ c. search needs)
-    loop-again
     (λ c. search needs)
     (λ c. search needs))
