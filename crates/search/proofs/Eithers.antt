@@ -8,26 +8,30 @@ use mathlib.Core.List.{List, [], _∷_, _++_}
 use lib.Dec.{eqb}
 use lib.ListN.{length, getD, take, set}
 use Rattle.text.specs.Text.{Segment, Text, segment, total, size}
-use Rattle.text.specs.State.{fresh, next, ends, run, marksFrom, marks}
-use Rattle.text.specs.Refusal.{Outcome, ok, refused, after}
+use Rattle.text.specs.State.{isState, fresh, next, ends, run, marksFrom, marks}
+use Rattle.text.specs.Refusal.{Outcome, ok, refused, demand, after, pattern}
 use Rattle.text.specs.Strand.{opposite}
+use Rattle.stretch.specs.Pieces.{fitsAt}
 use Rattle.text.proofs.Outcomes.{ok-inj, told-met, told-refused}
+use Rattle.text.proofs.Outcomes.{after-after, after-demand, after-met, demand-met}
 use Rattle.text.proofs.Marks.{marks-length, mark-at}
 use Rattle.text.proofs.Folds.{run-snoc, marks-snoc}
+use Rattle.text.proofs.Patterns.{SoundPattern, pattern-sound, sound-pattern}
 use Rattle.stretch.specs.Reading.{Taken, segmentAt, many}
 use Rattle.search.specs.Masks.{StateOf}
 use Rattle.search.specs.Step.{Pass, toldPassed, segmentPass}
-use Rattle.search.specs.Answers.{MarksFrom, RoomyFrom, Sums}
-use Rattle.search.specs.Either.{united, eitherMarks, eitherSums, CourseBoth, eitherCourse, passedGiven, passedOpposite}
+use Rattle.search.specs.Answers.{entering, stretchInto, searching, seeking, MarksFrom, RoomyFrom, Sums}
+use Rattle.search.specs.Either.{united, eitherMarks, eitherSums, eitherFrom, enteringBoth, seekingBoth, SeenBoth, seenBoth, sumsBoth}
+use Rattle.search.specs.Either.{CourseBoth, eitherCourse, passedGiven, passedOpposite}
 use Rattle.text.specs.declared.refusal.Refusal.{Refusal}
 use Rattle.search.specs.declared.both.words.Pair.{Pair}
 use Rattle.search.specs.declared.both.segment.PassedBoth.{PassedBoth}
 use Rattle.search.specs.declared.both.segment.PassedBoth.the-variants.{To, Refused}
-use Rattle.search.proofs.Entries.{state-of, fresh-state}
+use Rattle.search.proofs.Entries.{Entered, entering-after, entering-refused, entering-sound, entering-pattern, entered, fresh-state}
 use Rattle.search.proofs.Passes.{Stepped, segment-met, segment-not}
 use Rattle.search.proofs.Markings.{Marking, marking-none, marking-room, marking-more, marking-refused, marking-all, marking-marks}
-use Rattle.search.proofs.Markings.{run-marks-not}
-use Rattle.search.proofs.Searches.{run-state}
+use Rattle.search.proofs.Markings.{run-marks-not, Told}
+use Rattle.search.proofs.Searches.{run-state, fresh-searching}
 
 -- 1 for a mark of 1, and 0 for every other
 abbrev pub one : ℕ → ℕ
@@ -88,46 +92,55 @@ united-ones P Q st re (g ∷ T) = ap₂ _+_ (itself (ends P st g) (ends Q re g))
     itself : (a b : Bool) → max (cond a 1 0) (cond b 1 0) ≡ one (max (cond a 1 0) (cond b 1 0))
     itself a b = rw (either-one a b) (lone (a || b))
 
--- the union of what the two strands mark
+-- the union of what the two strands mark, from a state of each on
+module _ (P : List ℕ) (st re : ℕ) where
+  same-length : (t : Text) → length (marksFrom P st t) ≡ length (marksFrom (opposite P) re t)
+  same-length t = marks-length P st t ∙ sym (marks-length (opposite P) re t)
+
+  pub from-length : (t : Text) → length (eitherFrom P st re t) ≡ length t
+  unfolding eitherFrom
+  from-length t = united-length (marksFrom P st t) (marksFrom (opposite P) re t) (same-length t) ∙ marks-length P st t
+
+  from-none : eitherFrom P st re [] ≡ []
+  unfolding eitherFrom united marksFrom
+  from-none = refl
+
+  from-snoc : (T : Text) (g : Segment)
+      → eitherFrom P st re (T ++ (g ∷ []))
+      ≡ eitherFrom P st re T ++ (cond (ends P (run P st T) g || ends (opposite P) (run (opposite P) re T) g) 1 0 ∷ [])
+  unfolding eitherFrom
+  from-snoc T g =
+      let a : Bool = ends P (run P st T) g in
+      let b : Bool = ends (opposite P) (run (opposite P) re T) g in
+      let k : List ℕ = marksFrom P st T in
+      let l : List ℕ = marksFrom (opposite P) re T in
+      ap₂ united (marks-snoc P st T g) (marks-snoc (opposite P) re T g) ∙ united-snoc k l (cond a 1 0) (cond b 1 0) (same-length T)
+      ∙ ap (λ (x : ℕ). united k l ++ (x ∷ [])) (either-one a b)
+
+  pub from-ones : (t : Text) → total (λ x. x) (eitherFrom P st re t) ≡ total one (eitherFrom P st re t)
+  unfolding eitherFrom
+  from-ones t = united-ones P (opposite P) st re t
+
+-- from the fresh states
 module _ (P : List ℕ) where
-  same-length : (t : Text) → length (marks P t) ≡ length (marks (opposite P) t)
-  unfolding marks
-  same-length t = marks-length P fresh t ∙ sym (marks-length (opposite P) fresh t)
+  pub from-fresh : (t : Text) → eitherFrom P fresh fresh t ≡ eitherMarks P t
+  unfolding eitherFrom eitherMarks marks
+  from-fresh t = refl
 
   pub either-length : (t : Text) → length (eitherMarks P t) ≡ length t
-  unfolding marks eitherMarks
-  either-length t = united-length (marks P t) (marks (opposite P) t) (same-length t) ∙ marks-length P fresh t
-
-  either-none : eitherMarks P [] ≡ []
-  unfolding eitherMarks united marks marksFrom
-  either-none = refl
-
-  either-snoc : (T : Text) (g : Segment)
-      → eitherMarks P (T ++ (g ∷ []))
-      ≡ eitherMarks P T ++ (cond (ends P (run P fresh T) g || ends (opposite P) (run (opposite P) fresh T) g) 1 0 ∷ [])
-  unfolding eitherMarks marks
-  either-snoc T g =
-      let a : Bool = ends P (run P fresh T) g in
-      let b : Bool = ends (opposite P) (run (opposite P) fresh T) g in
-      ap₂ united (marks-snoc P fresh T g) (marks-snoc (opposite P) fresh T g)
-      ∙ united-snoc (marks P T) (marks (opposite P) T) (cond a 1 0) (cond b 1 0) (same-length T)
-      ∙ ap (λ (x : ℕ). united (marks P T) (marks (opposite P) T) ++ (x ∷ [])) (either-one a b)
+  either-length t = ap length (sym (from-fresh t)) ∙ from-length P fresh fresh t
 
   pub either-ones : (t : Text) → total (λ x. x) (eitherMarks P t) ≡ total one (eitherMarks P t)
-  unfolding eitherMarks marks
-  either-ones t = united-ones P (opposite P) fresh fresh t
+  either-ones t = rw (from-fresh t) at (from-ones P fresh fresh t)
 
   -- segment j is marked where one of the two strands marks it
   pub either-at : (t : Text) (j : ℕ) → j < length t
       → (getD (eitherMarks P t) j 0 ≡ 1) ↔ ((getD (marks P t) j 0 ≡ 1) ⊎ (getD (marks (opposite P) t) j 0 ≡ 1))
   unfolding eitherMarks marks
   either-at t j l =
-      rw (united-at (marks P t) (marks (opposite P) t) j (same-length t), mark-at P fresh t j l, mark-at (opposite P) fresh t j l)
+      rw (united-at (marks P t) (marks (opposite P) t) j (same-length P fresh fresh t), mark-at P fresh t j l,
+        mark-at (opposite P) fresh t j l)
       (one-of (ends P (run P fresh (take j t)) (segment t j)) (ends (opposite P) (run (opposite P) fresh (take j t)) (segment t j)))
-
--- a run from the fresh state leads to a state
-fresh-run : (P : List ℕ) (T : Text) → 0 < length P → StateOf P (run P fresh T)
-fresh-run P T some = run-state P fresh T some (state-of P fresh (fresh-state P some))
 
 -- what a step over a segment answers, strand by strand
 module _ {r : PassedBoth} {x y : Outcome Pass} (own : toldPassed (passedGiven r) ≡ x) (turned : toldPassed (passedOpposite r) ≡ y) where
@@ -141,26 +154,27 @@ module _ {r : PassedBoth} {x y : Outcome Pass} (own : toldPassed (passedGiven r)
     pub passed-turned : y ≡ ok (record { next = behind; size = more; state = state .opposite; ends = back })
     passed-turned = sym turned ∙ ap (λ (z : PassedBoth). toldPassed (passedOpposite z)) e
 
--- k segments from `from` on have been searched on both strands, from the fresh states on
-pub record Uniting (P s : List ℕ) (from : ℕ) (buffer : List ℕ) (k at size ends given other : ℕ) : Type 0 where
+-- k segments from `from` on have been searched on both strands, from the states st and re on
+pub record Uniting (P : List ℕ) (st re : ℕ) (s : List ℕ) (from : ℕ) (buffer : List ℕ) (k at size ends given other : ℕ) : Type 0 where
   pub seen : Text
-  pub walk : Marking false (eitherMarks P) s from buffer seen k at size ends
-  pub own : given ≡ run P fresh seen
-  pub turned : other ≡ run (opposite P) fresh seen
+  pub walk : Marking false (eitherFrom P st re) s from buffer seen k at size ends
+  pub own : given ≡ run P st seen
+  pub turned : other ≡ run (opposite P) re seen
 
-pub uniting-none : (P s : List ℕ) (from : ℕ) (buffer : List ℕ) → from ≤ length s → Uniting P s from buffer 0 from 0 0 fresh fresh
+pub uniting-none : (P : List ℕ) (st re : ℕ) (s : List ℕ) (from : ℕ) (buffer : List ℕ) → from ≤ length s
+    → Uniting P st re s from buffer 0 from 0 0 st re
 unfolding run
-uniting-none P s from buffer l =
-    record { seen = []; walk = marking-none false (eitherMarks P) s from buffer (either-none P) l; own = refl; turned = refl }
+uniting-none P st re s from buffer l =
+    record { seen = []; walk = marking-none false (eitherFrom P st re) s from buffer (from-none P st re) l; own = refl; turned = refl }
 
-module _ {P s : List ℕ} {from : ℕ} {buffer : List ℕ} {k at size ones given other : ℕ}
-    (q : Uniting P s from buffer k at size ones given other) where
+module _ {P : List ℕ} {st re : ℕ} {s : List ℕ} {from : ℕ} {buffer : List ℕ} {k at size ones given other : ℕ}
+    (q : Uniting P st re s from buffer k at size ones given other) where
   -- the states are those of the two strands
-  pub uniting-own : 0 < length P → StateOf P given
-  uniting-own some = rw (q .own) (fresh-run P (q .seen) some)
+  pub uniting-own : 0 < length P → StateOf P st → StateOf P given
+  uniting-own some h = rw (q .own) (run-state P st (q .seen) some h)
 
-  pub uniting-turned : 0 < length (opposite P) → StateOf (opposite P) other
-  uniting-turned some = rw (q .turned) (fresh-run (opposite P) (q .seen) some)
+  pub uniting-turned : 0 < length (opposite P) → StateOf (opposite P) re → StateOf (opposite P) other
+  uniting-turned some h = rw (q .turned) (run-state (opposite P) re (q .seen) some h)
 
   module _ {behind more reached further : ℕ} {hit back : Bool}
       (e : segmentPass P given s at ≡ ok (record { next = behind; size = more; state = reached; ends = hit }))
@@ -183,76 +197,156 @@ module _ {P s : List ℕ} {from : ℕ} {buffer : List ℕ} {k at size ones given
     pub uniting-room : (n : ℕ) → k < n → RoomyFrom s from n buffer → k < length buffer
     uniting-room = marking-room (q .walk) (met .read) (met .size)
 
-    last : eitherMarks P (q .seen ++ (g ∷ [])) ≡ eitherMarks P (q .seen) ++ (cond (hit || back) 1 0 ∷ [])
+    last : eitherFrom P st re (q .seen ++ (g ∷ [])) ≡ eitherFrom P st re (q .seen) ++ (cond (hit || back) 1 0 ∷ [])
     unfolding g
     last =
-        let here : ends P (run P fresh (q .seen)) g ≡ hit = ap (λ (n : ℕ). ends P n g) (sym (q .own)) ∙ met .end in
-        let there : ends (opposite P) (run (opposite P) fresh (q .seen)) g ≡ back =
+        let here : ends P (run P st (q .seen)) g ≡ hit = ap (λ (n : ℕ). ends P n g) (sym (q .own)) ∙ met .end in
+        let there : ends (opposite P) (run (opposite P) re (q .seen)) g ≡ back =
         ap₂ (λ (n : ℕ) (h : Segment). ends (opposite P) n h) (sym (q .turned)) (sym same) ∙ faced .end in
-        either-snoc P (q .seen) g ∙ ap₂ (λ (a b : Bool). eitherMarks P (q .seen) ++ (cond (a || b) 1 0 ∷ [])) here there
+        from-snoc P st re (q .seen) g ∙ ap₂ (λ (a b : Bool). eitherFrom P st re (q .seen) ++ (cond (a || b) 1 0 ∷ [])) here there
 
     -- the mark that the code writes for the segment
     pub uniting-more : (mark : ℕ) → mark ≡ cond (hit || back) 1 0 → k < length buffer
-        → Uniting P s from (set buffer k mark) (k + 1) behind (size + more) (ones + mark) reached further
+        → Uniting P st re s from (set buffer k mark) (k + 1) behind (size + more) (ones + mark) reached further
     unfolding g
     uniting-more mark is room =
         record {
           seen = q .seen ++ (g ∷ []);
           walk = marking-more (q .walk) (met .read) (met .size) (hit || back) last mark is (λ _. room);
-          own = sym (met .state) ∙ ap (λ (n : ℕ). next P n g) (q .own) ∙ sym (run-snoc P fresh (q .seen) g);
+          own = sym (met .state) ∙ ap (λ (n : ℕ). next P n g) (q .own) ∙ sym (run-snoc P st (q .seen) g);
           turned =
               sym (faced .state) ∙ ap₂ (λ (n : ℕ) (h : Segment). next (opposite P) n h) (q .turned) same
-              ∙ sym (run-snoc (opposite P) fresh (q .seen) g);
+              ∙ sym (run-snoc (opposite P) re (q .seen) g);
         }
 
   module _ (n : ℕ) where
     -- what a run tells of n segments, and the marks that it leaves
     abbrev Run : Outcome CourseBoth → Type 0
     Run told =
-        (told ≡ after (many (λ _. segmentAt s) n [] from) (λ x. ok (eitherCourse P x)))
-        × MarksFrom (eitherMarks P) (many (λ _. segmentAt s) n [] from) buffer
+        (told ≡ after (many (λ _. segmentAt s) n [] from) (λ x. ok (eitherCourse P st re x)))
+        × MarksFrom (eitherFrom P st re) (many (λ _. segmentAt s) n [] from) buffer
 
     pub uniting-refused : k < n → (j p : ℕ) → segmentPass P given s at ≡ refused j p → Run (refused j p)
     uniting-refused l j p e =
         let none = marking-refused (q .walk) n l j p (segment-not P given s at j p e) in
-        (rw none, run-marks-not (eitherMarks P) _ j p buffer none)
+        (rw none, run-marks-not (eitherFrom P st re) _ j p buffer none)
 
-    pub uniting-ran : k ≡ n → Run (ok (record { next = at; size = size; ends = ones }))
+    pub uniting-ran : k ≡ n → Run (ok (record { next = at; size = size; ends = ones; given = given; opposite = other }))
     unfolding eitherCourse size
-    uniting-ran done = (rw (marking-all (q .walk) n done, q .walk .sum .sum, q .walk .ones), marking-marks (q .walk) n done refl)
+    uniting-ran done =
+        (rw (marking-all (q .walk) n done, q .walk .sum .sum, q .walk .ones, q .own, q .turned), marking-marks (q .walk) n done refl)
 
 -- from what a run over segments tells
-module _ (P s : List ℕ) (n from : ℕ) where
-  pub both-not : (j p : ℕ) → after (many (λ _. segmentAt s) n [] from) (λ x. ok (eitherCourse P x)) ≡ refused j p
+module _ (P : List ℕ) (st re : ℕ) (s : List ℕ) (n from : ℕ) where
+  pub both-not : (j p : ℕ) → after (many (λ _. segmentAt s) n [] from) (λ x. ok (eitherCourse P st re x)) ≡ refused j p
       → many (λ _. segmentAt s) n [] from ≡ refused j p
-  both-not j p e = told-refused (many (λ _. segmentAt s) n [] from) (eitherCourse P) j p e
+  both-not j p e = told-refused (many (λ _. segmentAt s) n [] from) (eitherCourse P st re) j p e
 
-  pub both-met : (at sum ones : ℕ)
-      → after (many (λ _. segmentAt s) n [] from) (λ x. ok (eitherCourse P x)) ≡ ok (record { next = at; size = sum; ends = ones })
+  pub both-met : (at sum ones given other : ℕ)
+      → after (many (λ _. segmentAt s) n [] from) (λ x. ok (eitherCourse P st re x))
+      ≡ ok (record { next = at; size = sum; ends = ones; given = given; opposite = other })
       → (t : Text) × (many (λ _. segmentAt s) n [] from ≡ ok (record { value = t; next = at }))
-      × (record { segments = length t; size = sum; ends = ones } ≡ eitherSums P t)
-  unfolding eitherCourse eitherSums
-  both-met at sum ones e =
-      let m = told-met (many (λ _. segmentAt s) n [] from) (eitherCourse P) (record { next = at; size = sum; ends = ones }) e in
+      × (record { segments = length t; size = sum; ends = ones; given = given; opposite = other } ≡ seenBoth P st re t)
+  unfolding eitherCourse seenBoth
+  both-met at sum ones given other e =
+      let m = told-met (many (λ _. segmentAt s) n [] from) (eitherCourse P st re)
+      (record { next = at; size = sum; ends = ones; given = given; opposite = other }) e in
       let t = m .0 .value in
       let q = sym (m .2) in (
         t,
         m .1 ∙ ap (λ (i : ℕ). ok (record { value = t; next = i })) (ap (λ (x : CourseBoth). x .next) (m .2)),
-        λ i. record { segments = length t; size = q i .size; ends = q i .ends },
+        λ i. record { segments = length t; size = q i .size; ends = q i .ends; given = q i .given; opposite = q i .opposite },
       )
 
 -- what the search tells of a text
-module _ (P : List ℕ) where
-  pub sums-segments : (x : Sums) (t : Text) → eitherSums P t ≡ x → length t ≡ x .segments
-  unfolding eitherSums
-  sums-segments x t e = ap (λ (y : Sums). y .segments) e
+module _ (P : List ℕ) (st re : ℕ) where
+  pub both-segments : (x : SeenBoth) (t : Text) → seenBoth P st re t ≡ x → length t ≡ x .segments
+  unfolding seenBoth
+  both-segments x t e = ap (λ (y : SeenBoth). y .segments) e
 
   module _ (o : Outcome Text) where
-    pub either-not : (j p : ℕ) → o ≡ refused j p → after o (λ t. ok (eitherSums P t)) ≡ refused j p
+    pub either-not : (j p : ℕ) → o ≡ refused j p → after o (λ t. ok (seenBoth P st re t)) ≡ refused j p
     either-not j p e = rw e
 
-    pub either-seen : (t : Text) → o ≡ ok t → (n sum ones : ℕ) → length t ≡ n
-        → record { segments = length t; size = sum; ends = ones } ≡ eitherSums P t
-        → after o (λ t. ok (eitherSums P t)) ≡ ok (record { segments = n; size = sum; ends = ones })
-    either-seen t e n sum ones count is =
-        rw e (ap ok (sym is) ∙ ap (λ (m : ℕ). ok (record { segments = m; size = sum; ends = ones })) count)
+    pub either-seen : (t : Text) → o ≡ ok t → (n sum ones given other : ℕ) → length t ≡ n
+        → record { segments = length t; size = sum; ends = ones; given = given; opposite = other } ≡ seenBoth P st re t
+        → after o (λ t. ok (seenBoth P st re t))
+        ≡ ok (record { segments = n; size = sum; ends = ones; given = given; opposite = other })
+    either-seen t e n sum ones given other count is =
+        rw e (ap ok (sym is)
+        ∙ ap (λ (m : ℕ). ok (record { segments = m; size = sum; ends = ones; given = given; opposite = other })) count)
+
+-- a call from a state of each strand that may go on
+pub record EnteredBoth (P : List ℕ) (st re : ℕ) (s : List ℕ) : Type 0 where
+  pub own : Entered P st s
+  pub turned : isState (length P) re ≡ true
+
+module _ (P : List ℕ) (st re : ℕ) (s : List ℕ) where
+  -- what is asked first is asked before all else
+  pub both-after : {A : Type 0} (o : Outcome A) → enteringBoth P st re s o ≡ after (enteringBoth P st re s (ok (tt {0}))) (λ _. o)
+  unfolding enteringBoth entering pattern fitsAt
+  both-after o = simp after-demand
+
+  pub both-entered : enteringBoth P st re s (ok (tt {0})) ≡ ok tt → EnteredBoth P st re s
+  unfolding enteringBoth
+  both-entered e =
+      let a = after-met (entering P st s (ok (tt {0}))) (λ _. demand (isState (length P) re) 17 0 (ok tt)) tt
+      (sym (entering-after P st s (demand (isState (length P) re) 17 0 (ok (tt {0})))) ∙ e) in
+      record { own = entered P st s (a .1); turned = demand-met (isState (length P) re) 17 0 (ok tt) tt (a .2) .0 }
+
+  pub both-refused : (j p : ℕ) → entering P st s (ok (tt {0})) ≡ refused j p → {A : Type 0} (o : Outcome A)
+      → enteringBoth P st re s o ≡ refused j p
+  unfolding enteringBoth
+  both-refused j p e o = entering-refused P st s j p e (demand (isState (length P) re) 17 0 o)
+
+  module _ (y : Entered P st s) where
+    pub both-wrong : isState (length P) re ≡ false → {A : Type 0} (o : Outcome A) → enteringBoth P st re s o ≡ refused 17 0
+    unfolding enteringBoth
+    both-wrong e o = entering-sound P st s y (demand (isState (length P) re) 17 0 o) ∙ rw e
+
+    pub both-sound : isState (length P) re ≡ true → {A : Type 0} (o : Outcome A) → enteringBoth P st re s o ≡ o
+    unfolding enteringBoth
+    both-sound e o = entering-sound P st s y (demand (isState (length P) re) 17 0 o) ∙ rw e
+
+  -- what a search from a state of each strand answers
+  module _ (out : List ℕ) where
+    pub both-seek-not : (j p : ℕ) → enteringBoth P st re s (ok (tt {0})) ≡ refused j p
+        → Told (seenBoth P st re) (eitherFrom P st re) out (seekingBoth P st re s (length out)) (refused j p) out
+    unfolding seekingBoth
+    both-seek-not j p e =
+        let none : enteringBoth P st re s (stretchInto s (length out)) ≡ refused j p = both-after (stretchInto s (length out)) ∙ rw e in
+        rw none (refl, refl)
+
+    pub both-seek-sound : EnteredBoth P st re s → (told : Outcome SeenBoth) (left : List ℕ)
+        → Told (seenBoth P st re) (eitherFrom P st re) out (stretchInto s (length out)) told left
+        → Told (seenBoth P st re) (eitherFrom P st re) out (seekingBoth P st re s (length out)) told left
+    unfolding seekingBoth
+    both-seek-sound y told left h = rw (both-sound (y .own) (y .turned) (stretchInto s (length out))) h
+
+-- a search from the fresh states is a search
+module _ (P s out : List ℕ) where
+  fresh-both : seekingBoth P fresh fresh s (length out) ≡ seeking P fresh s (length out)
+  unfolding seekingBoth enteringBoth seeking
+  fresh-both = go (pattern P (ok (tt {0}))) refl
+    where
+      go : (o : Outcome (Unit {0})) → pattern P (ok (tt {0})) ≡ o
+          → entering P fresh s (demand (isState (length P) fresh) 17 0 (stretchInto s (length out)))
+          ≡ entering P fresh s (stretchInto s (length out))
+      go (ok t) e = rw (fresh-state P (pattern-sound P e .some))
+      go (refused j p) e =
+          entering-pattern P fresh s j p e (demand (isState (length P) fresh) 17 0 (stretchInto s (length out)))
+          ∙ sym (entering-pattern P fresh s j p e (stretchInto s (length out)))
+
+  pub both-fresh : (told : Outcome SeenBoth) (said : Outcome Sums) (left : List ℕ)
+      → Told (seenBoth P fresh fresh) (eitherFrom P fresh fresh) out (seekingBoth P fresh fresh s (length out)) told left
+      → said ≡ after told (λ x. ok (sumsBoth x))
+      → Told (eitherSums P) (eitherMarks P) out (searching P s (length out)) said left
+  unfolding eitherSums eitherMarks seenBoth eitherFrom marks
+  both-fresh told said left h e =
+      let o : Outcome Text = seekingBoth P fresh fresh s (length out) in
+      let same : o ≡ searching P s (length out) = fresh-both ∙ fresh-searching P P s out in
+      let sums : said ≡ after o (λ t. ok (sumsBoth (seenBoth P fresh fresh t))) =
+      e ∙ ap (λ (k : Outcome SeenBoth). after k (λ x. ok (sumsBoth x))) (h .0)
+      ∙ after-after o (λ t. ok (seenBoth P fresh fresh t)) (λ x. ok (sumsBoth x)) in
+      let all : Told (λ t. sumsBoth (seenBoth P fresh fresh t)) (eitherFrom P fresh fresh) out o said left = (sums, h .1) in
+      rw same at all

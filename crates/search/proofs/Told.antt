@@ -6,10 +6,12 @@ use Rattle.text.specs.declared.refusal.Refusal.{Refusal}
 use Rattle.text.proofs.Outcomes.{refused-ok, refused-inj, ok-inj}
 use Rattle.search.specs.Answers.{Next, zeroNext, toldFed, answerFed, Seen, zeroSeen, toldSought, answerSought}
 use Rattle.search.specs.Answers.{Sums, zeroSums, toldSearched, answerSearched}
+use Rattle.search.specs.Either.{SeenBoth, toldBoth, zeroBoth, answerBoth}
 use Rattle.search.specs.First.{Hit, toldFirst, answerFirst, stopOf, zeroStop}
 use Rattle.search.specs.declared.first.First.{First}
 use Rattle.search.specs.declared.state.Fed.{Fed}
 use Rattle.search.specs.declared.state.Sought.{Sought}
+use Rattle.search.specs.declared.both.SoughtBoth.{SoughtBoth}
 use Rattle.search.specs.declared.searching.Searched.{Searched}
 
 same-refusal : {A : Type 0} (r s : Refusal) → _≡_ {A = Outcome A} (refused (r .number) (r .place)) (refused (s .number) (s .place)) → r ≡ s
@@ -44,6 +46,25 @@ pub sought-both :
 unfolding answerSought
 sought-both (Sought.Marked n z m s) e = (e .0, (ap (answer zeroSeen) (e .0), e .1))
 sought-both (Sought.Refused r) e = (e .0, (ap (answer zeroSeen) (e .0), e .1))
+
+pub both-once : (a b : SoughtBoth) → toldBoth a ≡ toldBoth b → a ≡ b
+both-once (SoughtBoth.Marked n z m s) (SoughtBoth.Marked n′ z′ m′ s′) e =
+    let p : n ≡ n′ = ap (λ (x : SeenBoth). x .segments) (ok-inj e) in
+    let q : z ≡ z′ = ap (λ (x : SeenBoth). x .size) (ok-inj e) in
+    let r : m ≡ m′ = ap (λ (x : SeenBoth). x .ends) (ok-inj e) in
+    let b : s .given ≡ s′ .given = ap (λ (x : SeenBoth). x .given) (ok-inj e) in
+    let d : s .opposite ≡ s′ .opposite = ap (λ (x : SeenBoth). x .opposite) (ok-inj e) in
+    λ i. SoughtBoth.Marked (p i) (q i) (r i) (record { given = b i; opposite = d i })
+both-once (SoughtBoth.Marked n z m s) (SoughtBoth.Refused r) e = absurd (refused-ok (r .number) (r .place) _ (sym e))
+both-once (SoughtBoth.Refused r) (SoughtBoth.Marked n z m s) e = absurd (refused-ok (r .number) (r .place) _ e)
+both-once (SoughtBoth.Refused r) (SoughtBoth.Refused s) e = ap SoughtBoth.Refused (same-refusal r s e)
+
+pub both-both :
+    (r : SoughtBoth) {o : Outcome SeenBoth} {B : Type 0} → (toldBoth r ≡ o) × B
+    → (toldBoth r ≡ o) × ((answerBoth r ≡ answer zeroBoth o) × B)
+unfolding answerBoth
+both-both (SoughtBoth.Marked n z m s) e = (e .0, (ap (answer zeroBoth) (e .0), e .1))
+both-both (SoughtBoth.Refused r) e = (e .0, (ap (answer zeroBoth) (e .0), e .1))
 
 pub searched-once : (a b : Searched) → toldSearched a ≡ toldSearched b → a ≡ b
 searched-once (Searched.Marked n z m) (Searched.Marked n′ z′ m′) e =

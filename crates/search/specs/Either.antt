@@ -3,17 +3,19 @@ use Prim.Native.Nat.{ℕ, max}
 use mathlib.Core.List.{List, [], _∷_}
 use lib.ListN.{length, drop}
 use Rattle.text.specs.Text.{Text, total, size}
-use Rattle.text.specs.State.{marks}
-use Rattle.text.specs.Refusal.{Outcome, ok, refused}
+use Rattle.text.specs.State.{isState, run, marksFrom, marks}
+use Rattle.text.specs.Refusal.{Outcome, ok, refused, demand, Answer}
 use Rattle.text.specs.Strand.{opposite}
 use Rattle.stretch.specs.Reading.{Taken}
-use Rattle.search.specs.Answers.{Sums}
+use Rattle.search.specs.Answers.{Sums, entering, stretchInto}
 use Rattle.search.specs.Masks.{Ready}
 use Rattle.search.specs.Method.{Founded, Tools}
 use Rattle.search.specs.Words.{SweptAt}
 use Rattle.search.specs.declared.method.Method.the-variants.{Bits}
 use Rattle.search.specs.declared.segment.Passed.{Passed}
 use Rattle.search.specs.declared.segment.Swept.{Swept}
+use Rattle.search.specs.declared.both.SoughtBoth.{SoughtBoth}
+use Rattle.search.specs.declared.both.SoughtBoth.the-variants.{Marked}
 use Rattle.search.specs.declared.both.run.RanBoth.{RanBoth}
 use Rattle.search.specs.declared.both.run.RanBoth.the-variants.{To, Refused}
 use Rattle.search.specs.declared.both.segment.PassedBoth.{PassedBoth}
@@ -32,6 +34,58 @@ eitherMarks P t = united (marks P t) (marks (opposite P) t)
 -- what it tells of a text: a segment in which both strands end is one of the ones
 unfoldable pub eitherSums : List ℕ → Text → Sums
 eitherSums P t = record { segments = length t; size = size t; ends = total (λ x. x) (eitherMarks P t) }
+
+-- from a state of each strand on, segment by segment: 1 where an occurrence ends on either
+unfoldable pub eitherFrom : List ℕ → ℕ → ℕ → Text → List ℕ
+eitherFrom P st re t = united (marksFrom P st t) (marksFrom (opposite P) re t)
+
+-- what is asked before o of a pattern, of the bytes that are searched, and of a state of each strand: 1, 2, 3, 4, 17
+unfoldable pub enteringBoth : {A : Type 0} → List ℕ → ℕ → ℕ → List ℕ → Outcome A → Outcome A
+enteringBoth P st re s o = entering P st s (demand (isState (length P) re) 17 0 o)
+
+-- a search on both strands from a state of each: 1, 2, 3, 4, 17, those of the stretch, then 10
+unfoldable pub seekingBoth : List ℕ → ℕ → ℕ → List ℕ → ℕ → Outcome Text
+seekingBoth P st re s room = enteringBoth P st re s (stretchInto s room)
+
+-- what it tells of a text: its segment count, its size, the number of ones among its marks, and the states behind it
+pub record SeenBoth : Type 0 where
+  pub segments : ℕ
+  pub size : ℕ
+  pub ends : ℕ
+  pub given : ℕ
+  pub opposite : ℕ
+
+unfoldable pub seenBoth : List ℕ → ℕ → ℕ → Text → SeenBoth
+seenBoth P st re t =
+    record {
+      segments = length t;
+      size = size t;
+      ends = total (λ x. x) (eitherFrom P st re t);
+      given = run P st t;
+      opposite = run (opposite P) re t;
+    }
+
+abbrev pub toldBoth : SoughtBoth → Outcome SeenBoth
+toldBoth (Marked segments size ends state) =
+    ok (record { segments = segments; size = size; ends = ends; given = state .given; opposite = state .opposite })
+toldBoth (SoughtBoth.Refused r) = refused (r .number) (r .place)
+
+-- the same in numbers
+abbrev pub zeroBoth : SeenBoth
+zeroBoth = record { segments = 0; size = 0; ends = 0; given = 0; opposite = 0 }
+
+unfoldable pub answerBoth : SoughtBoth → Answer SeenBoth
+answerBoth (Marked segments size ends state) =
+    record {
+      number = 0;
+      place = 0;
+      value = record { segments = segments; size = size; ends = ends; given = state .given; opposite = state .opposite };
+    }
+answerBoth (SoughtBoth.Refused r) = record { number = r .number; place = r .place; value = zeroBoth }
+
+-- without the states
+abbrev pub sumsBoth : SeenBoth → Sums
+sumsBoth x = record { segments = x .segments; size = x .size; ends = x .ends }
 
 -- every second entry of a list, from the first on
 unfoldable pub evens : List ℕ → List ℕ
@@ -73,15 +127,26 @@ abbrev pub passedOpposite : PassedBoth → Passed
 passedOpposite (PassedBoth.To next size state given opposite) = Passed.To next size (record { bits = state .opposite }) opposite
 passedOpposite (PassedBoth.Refused r) = Passed.Refused r
 
--- what a run over segments on both strands tells: the place behind them, their size, and the number of ones among their marks
+-- what a run over segments on both strands tells: the place behind them, their size, the number of ones among their marks, and the
+-- states there
 pub record CourseBoth : Type 0 where
   pub next : ℕ
   pub size : ℕ
   pub ends : ℕ
+  pub given : ℕ
+  pub opposite : ℕ
 
-unfoldable pub eitherCourse : List ℕ → Taken Text ℕ → CourseBoth
-eitherCourse P x = record { next = x .next; size = size (x .value); ends = total (λ x. x) (eitherMarks P (x .value)) }
+unfoldable pub eitherCourse : List ℕ → ℕ → ℕ → Taken Text ℕ → CourseBoth
+eitherCourse P st re x =
+    record {
+      next = x .next;
+      size = size (x .value);
+      ends = total (λ x. x) (eitherFrom P st re (x .value));
+      given = run P st (x .value);
+      opposite = run (opposite P) re (x .value);
+    }
 
 abbrev pub toldRanBoth : RanBoth → Outcome CourseBoth
-toldRanBoth (To next size ends) = ok (record { next = next; size = size; ends = ends })
+toldRanBoth (To next size ends state) =
+    ok (record { next = next; size = size; ends = ends; given = state .given; opposite = state .opposite })
 toldRanBoth (Refused r) = refused (r .number) (r .place)

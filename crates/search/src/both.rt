@@ -2,15 +2,17 @@
 // only one. It is one walk over the bytes with a word for each strand, and marks what the searches of the two strands mark together.
 use crate::both::run::stretch_both;
 use crate::both::words::masks_both;
+use crate::entry::Entry;
+use crate::entry::enter;
 use crate::marking::MOST_IN_SMALL;
 use crate::marking::SMALL_STRETCH;
 use crate::marking::handed;
 use crate::searching::Searched;
+use crate::state::State;
 use text::Refusal;
-use text::pattern::PatternIs;
-use text::pattern::check;
 use text::refusal;
 use text::spelling::classes;
+use text::state::is_state;
 use text::strand::Strand;
 use text::strand::read_on;
 ghost use mathlib.Core.Path.{_≡_};
@@ -19,46 +21,66 @@ ghost use lib.ListN.{length};
 ghost use Rattle.text.specs.Refusal.{ok, after, answer};
 ghost use Rattle.text.specs.Strand.{opposite};
 ghost use Rattle.stretch.specs.Answers.{leftBy};
-ghost use Rattle.search.specs.Answers.{searching, stretchInto, toldSearched, answerSearched, zeroSums, Roomy};
-ghost use Rattle.search.specs.Either.{evens, odds, Founds, eitherMarks, eitherSums};
+ghost use Rattle.search.specs.Answers.{searching, stretchInto, toldEntry, toldSearched, answerSearched, zeroSums, Roomy};
+ghost use Rattle.search.specs.Masks.{StateOf};
+ghost use Rattle.search.specs.Either.{evens, odds, Founds, eitherMarks, eitherSums, eitherFrom, enteringBoth, seekingBoth};
+ghost use Rattle.search.specs.Either.{seenBoth, toldBoth, zeroBoth, answerBoth, sumsBoth};
 
 mod run;
 mod segment;
 mod words;
 
+pub use words::Pair;
+
+// What a search from a state of each strand answers: the segment count, the size, the number of ones among the marks, and the states
+// behind the stretch.
+pub enum SoughtBoth {
+    Marked {
+        segments: usize,
+        size: usize,
+        ends: usize,
+        state: Pair,
+    },
+    Refused(Refusal),
+}
+
 // Runs over the stretch into `found`, and hands the marks over once all is accepted: refusal 10.
 fn mark_both_by_way_of(
     pattern: &[u8],
     table: &[u64; 512],
+    state: Pair,
     stretch: &[u8],
     found: &mut [u8],
     marks: &mut [u8],
-) -> Searched
+) -> SoughtBoth
     requires { ⌜ Founds (now pattern) (evens (now table)) × Founds (opposite (now pattern)) (odds (now table)) ⌝ }
+    requires { ⌜ StateOf (now pattern) (state .given) × StateOf (opposite (now pattern)) (state .opposite) ⌝ }
     requires { ⌜ Roomy (now stretch) (now found) ⌝ }
-    ensures { λ r. ⌜ toldSearched r ≡ after (stretchInto (now (stretch .entry)) (length (now (marks .entry))))
-        (λ t. ok (eitherSums (now (pattern .entry)) t)) ⌝ }
-    ensures { λ r. ⌜ now (marks .exit) ≡ leftBy (eitherMarks (now (pattern .entry)))
+    ensures { λ r. ⌜ toldBoth r ≡ after (stretchInto (now (stretch .entry)) (length (now (marks .entry))))
+        (λ t. ok (seenBoth (now (pattern .entry)) (state .given) (state .opposite) t)) ⌝ }
+    ensures { λ r. ⌜ now (marks .exit) ≡ leftBy (eitherFrom (now (pattern .entry)) (state .given) (state .opposite))
         (stretchInto (now (stretch .entry)) (length (now (marks .entry)))) (now (marks .entry)) ⌝ }
 {
     let letters = classes();
-    match stretch_both(pattern, table, &letters, stretch, &mut *found) {
-        Searched::Refused(refused) => Searched::Refused(refused),
-        Searched::Marked {
+    match stretch_both(pattern, table, &letters, state, stretch, &mut *found) {
+        SoughtBoth::Refused(refused) => SoughtBoth::Refused(refused),
+        SoughtBoth::Marked {
             segments,
             size,
             ends,
+            state: reached,
         } => {
             if !handed(segments, found, &mut *marks) {
-                return Searched::Refused(Refusal {
+                return SoughtBoth::Refused(Refusal {
                     number: refusal::BUFFER_SHORT,
                     place: 0,
                 });
             }
-            Searched::Marked {
+            SoughtBoth::Marked {
                 segments,
                 size,
                 ends,
+                state: reached,
             }
         }
     }
@@ -66,19 +88,89 @@ fn mark_both_by_way_of(
 
 // Marks the segments of a stretch on both strands: the refusals of the stretch, then 10. A small stretch takes a small buffer, as in
 // the search of one strand.
-fn mark_both(pattern: &[u8], table: &[u64; 512], stretch: &[u8], marks: &mut [u8]) -> Searched
+fn mark_both(
+    pattern: &[u8],
+    table: &[u64; 512],
+    state: Pair,
+    stretch: &[u8],
+    marks: &mut [u8],
+) -> SoughtBoth
     requires { ⌜ Founds (now pattern) (evens (now table)) × Founds (opposite (now pattern)) (odds (now table)) ⌝ }
-    ensures { λ r. ⌜ toldSearched r ≡ after (stretchInto (now (stretch .entry)) (length (now (marks .entry))))
-        (λ t. ok (eitherSums (now (pattern .entry)) t)) ⌝ }
-    ensures { λ r. ⌜ now (marks .exit) ≡ leftBy (eitherMarks (now (pattern .entry)))
+    requires { ⌜ StateOf (now pattern) (state .given) × StateOf (opposite (now pattern)) (state .opposite) ⌝ }
+    ensures { λ r. ⌜ toldBoth r ≡ after (stretchInto (now (stretch .entry)) (length (now (marks .entry))))
+        (λ t. ok (seenBoth (now (pattern .entry)) (state .given) (state .opposite) t)) ⌝ }
+    ensures { λ r. ⌜ now (marks .exit) ≡ leftBy (eitherFrom (now (pattern .entry)) (state .given) (state .opposite))
         (stretchInto (now (stretch .entry)) (length (now (marks .entry)))) (now (marks .entry)) ⌝ }
 {
     if stretch.len() <= SMALL_STRETCH {
         let mut found = [0u8; MOST_IN_SMALL];
-        return mark_both_by_way_of(pattern, table, stretch, &mut found, &mut *marks);
+        return mark_both_by_way_of(pattern, table, state, stretch, &mut found, &mut *marks);
     }
     let mut found = [0u8; refusal::MOST_IN_STRETCH];
-    mark_both_by_way_of(pattern, table, stretch, &mut found, &mut *marks)
+    mark_both_by_way_of(pattern, table, state, stretch, &mut found, &mut *marks)
+}
+
+// Refusals 1, 2, 3 of the pattern, 4 of the bytes, and 17 of the states.
+fn enter_both(pattern: &[u8], state: Pair, bytes: &[u8]) -> Entry
+    ensures { λ r. ⌜ toldEntry r
+        ≡ enteringBoth (now (pattern .entry)) (state .given) (state .opposite) (now (bytes .entry)) (ok tt) ⌝ }
+{
+    let given = State { bits: state.given };
+    if let Entry::Refused(refused) = enter(pattern, given, bytes) {
+        return Entry::Refused(refused);
+    }
+    if !is_state(pattern.len(), state.opposite) {
+        return Entry::Refused(Refusal {
+            number: refusal::STATE_WRONG,
+            place: 0,
+        });
+    }
+    Entry::Open
+}
+
+impl Pair {
+    // The search of a whole stretch on both strands at once, each from its state: refusals 1, 2, 3 of the pattern as given, 4, 17,
+    // those of the stretch, then 10. It writes 1 for each segment in which an occurrence ends on either strand, else 0; further bytes
+    // stay, and a refusal changes nothing. The states behind the stretch are where the search of the next one begins.
+    pub fn through(self, pattern: &[u8], stretch: &[u8], marks: &mut [u8]) -> SoughtBoth
+        ensures { λ r. ⌜ toldBoth r ≡ after (seekingBoth (now (pattern .entry)) (self .given) (self .opposite) (now (stretch .entry))
+            (length (now (marks .entry)))) (λ t. ok (seenBoth (now (pattern .entry)) (self .given) (self .opposite) t)) ⌝ }
+        ensures { λ r. ⌜ answerBoth r ≡ answer zeroBoth (after (seekingBoth (now (pattern .entry)) (self .given) (self .opposite)
+            (now (stretch .entry)) (length (now (marks .entry))))
+            (λ t. ok (seenBoth (now (pattern .entry)) (self .given) (self .opposite) t))) ⌝ }
+        ensures { λ r. ⌜ now (marks .exit) ≡ leftBy (eitherFrom (now (pattern .entry)) (self .given) (self .opposite))
+            (seekingBoth (now (pattern .entry)) (self .given) (self .opposite) (now (stretch .entry)) (length (now (marks .entry))))
+            (now (marks .entry)) ⌝ }
+    {
+        match enter_both(pattern, self, stretch) {
+            Entry::Refused(refused) => SoughtBoth::Refused(refused),
+            Entry::Open => {
+                let m = pattern.len();
+                let bytes = read_on(Strand::Opposite, pattern);
+                let table = masks_both(pattern, &bytes[..m]);
+                mark_both(pattern, &table, self, stretch, &mut *marks)
+            }
+        }
+    }
+}
+
+// What a search from the fresh states tells, without the states behind the stretch.
+fn summed_both(sought: SoughtBoth) -> Searched
+    ensures { λ r. ⌜ toldSearched r ≡ after (toldBoth sought) (λ x. ok (sumsBoth x)) ⌝ }
+{
+    match sought {
+        SoughtBoth::Refused(refused) => Searched::Refused(refused),
+        SoughtBoth::Marked {
+            segments,
+            size,
+            ends,
+            state: _,
+        } => Searched::Marked {
+            segments,
+            size,
+            ends,
+        },
+    }
 }
 
 // The search that marks a segment when an occurrence of the pattern as given or of its opposite ends there: refusals 1, 2, 3 of the
@@ -93,13 +185,7 @@ pub fn either(pattern: &[u8], stretch: &[u8], marks: &mut [u8]) -> Searched
     ensures { λ r. ⌜ now (marks .exit) ≡ leftBy (eitherMarks (now (pattern .entry)))
         (searching (now (pattern .entry)) (now (stretch .entry)) (length (now (marks .entry)))) (now (marks .entry)) ⌝ }
 {
-    match check(pattern) {
-        PatternIs::Refused(refused) => Searched::Refused(refused),
-        PatternIs::Sound => {
-            let m = pattern.len();
-            let bytes = read_on(Strand::Opposite, pattern);
-            let table = masks_both(pattern, &bytes[..m]);
-            mark_both(pattern, &table, stretch, &mut *marks)
-        }
-    }
+    let fresh = Pair::FRESH;
+    let sought = fresh.through(pattern, stretch, &mut *marks);
+    summed_both(sought)
 }

@@ -13,6 +13,8 @@ mod segment;
 mod state;
 mod vectors;
 
+pub use both::Pair;
+pub use both::SoughtBoth;
 pub use both::either;
 pub use first::First;
 pub use letter_vectors::masks;

@@ -1,8 +1,8 @@
 // The run over segments that stand one after another, on both strands at once: a segment is marked when an occurrence ends in it on
 // either.
+use crate::both::SoughtBoth;
 use crate::both::segment::PassedBoth;
 use crate::both::words::Pair;
-use crate::searching::Searched;
 use stretch::pieces::FIRST_SEGMENT;
 use stretch::pieces::Opened;
 use stretch::pieces::Verdict;
@@ -16,24 +16,27 @@ ghost use lib.ListN.{length};
 ghost use Rattle.text.specs.Refusal.{ok, after};
 ghost use Rattle.text.specs.Strand.{opposite};
 ghost use Rattle.stretch.specs.Reading.{segmentAt, many, stretchOf};
-ghost use Rattle.search.specs.Answers.{toldSearched, MarksFrom, RoomyFrom, MarksOf, Roomy};
-ghost use Rattle.search.specs.Either.{evens, odds, Vectors, eitherMarks, eitherSums, eitherCourse, toldRanBoth};
+ghost use Rattle.search.specs.Answers.{MarksFrom, RoomyFrom, MarksOf, Roomy};
+ghost use Rattle.search.specs.Masks.{StateOf};
+ghost use Rattle.search.specs.Either.{evens, odds, Vectors, eitherFrom, eitherCourse, toldRanBoth, seenBoth, toldBoth};
 
-// The place behind the segments, their size, and the number of ones among their marks.
+// The place behind the segments, their size, the number of ones among their marks, and the states there.
 pub enum RanBoth {
     To {
         next: usize,
         size: usize,
         ends: usize,
+        state: Pair,
     },
     Refused(Refusal),
 }
 
-// Goes from the fresh states over so many segments from `at` on, and puts their marks into `marks`. A refusal may leave some there.
+// Takes the states over so many segments from `at` on, and puts their marks into `marks`. A refusal may leave some there.
 fn run_both(
     pattern: &[u8],
     table: &[u64; 512],
     classes: &[u8; 256],
+    state: Pair,
     stretch: &[u8],
     at: usize,
     segments: usize,
@@ -41,16 +44,17 @@ fn run_both(
 ) -> RanBoth
     requires { ⌜ Vectors (now pattern) (evens (now table)) (now classes)
         × Vectors (opposite (now pattern)) (odds (now table)) (now classes) ⌝ }
+    requires { ⌜ StateOf (now pattern) (state .given) × StateOf (opposite (now pattern)) (state .opposite) ⌝ }
     requires { ⌜ (at ≤ length (now stretch)) × RoomyFrom (now stretch) at segments (now marks) ⌝ }
-    ensures { λ r. ⌜ toldRanBoth r
-        ≡ after (many (λ _. segmentAt (now (stretch .entry))) segments [] at) (λ x. ok (eitherCourse (now (pattern .entry)) x)) ⌝ }
-    ensures { λ r. ⌜ MarksFrom (eitherMarks (now (pattern .entry)))
+    ensures { λ r. ⌜ toldRanBoth r ≡ after (many (λ _. segmentAt (now (stretch .entry))) segments [] at)
+        (λ x. ok (eitherCourse (now (pattern .entry)) (state .given) (state .opposite) x)) ⌝ }
+    ensures { λ r. ⌜ MarksFrom (eitherFrom (now (pattern .entry)) (state .given) (state .opposite))
         (many (λ _. segmentAt (now (stretch .entry))) segments [] at) (now (marks .exit)) ⌝ }
 {
     let mut next = at;
     let mut size = 0;
     let mut ends = 0;
-    let mut reached = Pair::FRESH;
+    let mut reached = state;
     let mut k = 0;
     while k < segments {
         match reached.over(pattern, table, classes, stretch, next) {
@@ -75,27 +79,36 @@ fn run_both(
             }
         }
     }
-    RanBoth::To { next, size, ends }
+    RanBoth::To {
+        next,
+        size,
+        ends,
+        state: reached,
+    }
 }
 
-// Goes over a whole stretch: its count, its segments, and what may be wrong behind them. A refusal may leave some marks in `marks`, so
-// they are not the caller's yet.
+// Takes the states over a whole stretch: its count, its segments, and what may be wrong behind them. A refusal may leave some marks in
+// `marks`, so they are not the caller's yet.
 pub fn stretch_both(
     pattern: &[u8],
     table: &[u64; 512],
     classes: &[u8; 256],
+    state: Pair,
     stretch: &[u8],
     marks: &mut [u8],
-) -> Searched
+) -> SoughtBoth
     requires { ⌜ Vectors (now pattern) (evens (now table)) (now classes)
         × Vectors (opposite (now pattern)) (odds (now table)) (now classes) ⌝ }
+    requires { ⌜ StateOf (now pattern) (state .given) × StateOf (opposite (now pattern)) (state .opposite) ⌝ }
     requires { ⌜ Roomy (now stretch) (now marks) ⌝ }
-    ensures { λ r. ⌜ toldSearched r ≡ after (stretchOf (now (stretch .entry))) (λ t. ok (eitherSums (now (pattern .entry)) t)) ⌝ }
-    ensures { λ r. ⌜ MarksOf (eitherMarks (now (pattern .entry))) (stretchOf (now (stretch .entry))) (now (marks .exit)) ⌝ }
+    ensures { λ r. ⌜ toldBoth r ≡ after (stretchOf (now (stretch .entry)))
+        (λ t. ok (seenBoth (now (pattern .entry)) (state .given) (state .opposite) t)) ⌝ }
+    ensures { λ r. ⌜ MarksOf (eitherFrom (now (pattern .entry)) (state .given) (state .opposite))
+        (stretchOf (now (stretch .entry))) (now (marks .exit)) ⌝ }
 {
     let segments = match open(stretch) {
         Opened::Refused(wrong) => {
-            return Searched::Refused(wrong);
+            return SoughtBoth::Refused(wrong);
         }
         Opened::Segments(segments) => segments,
     };
@@ -103,18 +116,25 @@ pub fn stretch_both(
         pattern,
         table,
         classes,
+        state,
         stretch,
         FIRST_SEGMENT,
         segments,
         &mut *marks,
     ) {
-        RanBoth::Refused(wrong) => Searched::Refused(wrong),
-        RanBoth::To { next, size, ends } => match closed(stretch, next, segments) {
-            Verdict::Refused(wrong) => Searched::Refused(wrong),
-            Verdict::Sound => Searched::Marked {
+        RanBoth::Refused(wrong) => SoughtBoth::Refused(wrong),
+        RanBoth::To {
+            next,
+            size,
+            ends,
+            state: reached,
+        } => match closed(stretch, next, segments) {
+            Verdict::Refused(wrong) => SoughtBoth::Refused(wrong),
+            Verdict::Sound => SoughtBoth::Marked {
                 segments,
                 size,
                 ends,
+                state: reached,
             },
         },
     }

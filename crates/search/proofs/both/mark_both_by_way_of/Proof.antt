@@ -6,10 +6,9 @@ use mathlib.Core.Path.{_≡_, sym, ap, _∙_}
 use mathlib.Core.List.{List}
 use Rattle.text.specs.Refusal.{ok, after}
 use Rattle.stretch.specs.Reading.{stretchOf}
-use Rattle.search.specs.Answers.{toldSearched}
-use Rattle.search.specs.Either.{eitherSums}
+use Rattle.search.specs.Either.{seenBoth, toldBoth}
 use Rattle.search.proofs.Markings.{into-not, into-short, into-marked, few-found}
-use Rattle.search.proofs.Eithers.{either-length, sums-segments}
+use Rattle.search.proofs.Eithers.{from-length, both-segments}
 use Rattle.search.proofs.both.mark_both_by_way_of.Statement.{statement}
 use Rattle.search.proofs.both.mark_both_by_way_of.Tie as tie
 
@@ -20,35 +19,42 @@ out a = a .before .before .before .before .before .before .before .before .befor
 -- what the run told
 told : (a : tie.After-segments)
     → let p = a .before .before .before .before .before .before .before .before .before .before .before .before .args in
-    after (stretchOf (p .stretch .now)) (λ t. ok (eitherSums (p .pattern .now) t))
-    ≡ ok (record { segments = a .segments .given .0 .0; size = a .segments .given .0 .1 .0; ends = a .segments .given .0 .1 .1 .0 })
-told a = sym (a .before .before .before .before .stretch-both .ensures .0) ∙ ap toldSearched (a .segments .given .1)
+    let x = a .segments .given .0 in
+    after (stretchOf (p .stretch .now)) (λ t. ok (seenBoth (p .pattern .now) (p .state .given) (p .state .opposite) t))
+    ≡ ok (record {
+      segments = x .0;
+      size = x .1 .0;
+      ends = x .1 .1 .0;
+      given = x .1 .1 .1 .0 .given;
+      opposite = x .1 .1 .1 .0 .opposite;
+    })
+told a = sym (a .before .before .before .before .stretch-both .ensures .0) ∙ ap toldBoth (a .segments .given .1)
 
 handed-requires : tie.Need-handed-requires
 handed-requires c κs =
     let a = c .before .before .before in
     let d = a .before .before .before .before in
-    few-found _ _ (out a) _ _ _ (told a) (sums-segments _ _) _ (d .stretch-both .ensures .1) (either-length _)
+    few-found _ _ (out a) _ _ _ (told a) (both-segments _ _ _ _) _ (d .stretch-both .ensures .1) (from-length _ _ _)
 
 returns : tie.Need-returns
 returns c =
     let h = c .before .before .before in
     let a = h .before .before .before .before in
     let d = a .before .before .before .before in
-    into-short _ _ (out a) _ _ _ (told a) (sums-segments _ _) _ (d .stretch-both .ensures .1) _ (h .handed .ensures .1) _
+    into-short _ _ (out a) _ _ _ (told a) (both-segments _ _ _ _) _ (d .stretch-both .ensures .1) _ (h .handed .ensures .1) _
     (h .handed .ensures .0) (c .if1 .taken)
 
 returns-2 : tie.Need-returns-2
 returns-2 c =
     let d = c .before .before .before .before .before in
-    into-not _ _ _ _ _ _ (sym (d .stretch-both .ensures .0) ∙ ap toldSearched (c .before .refused .given .1))
+    into-not _ _ _ _ _ _ (sym (d .stretch-both .ensures .0) ∙ ap toldBoth (c .before .refused .given .1))
 
 returns-3 : tie.Need-returns-3
 returns-3 c =
     let h = c .before .before .before in
     let a = h .before .before .before .before in
     let d = a .before .before .before .before in
-    into-marked _ _ (out a) _ _ _ (told a) (sums-segments _ _) _ (d .stretch-both .ensures .1) _ (h .handed .ensures .1) _
+    into-marked _ _ (out a) _ _ _ (told a) (both-segments _ _ _ _) _ (d .stretch-both .ensures .1) _ (h .handed .ensures .1) _
     (h .handed .ensures .0) (c .if1 .left)
 
 pub mark-both-by-way-of-spec : {M : Type 1} → statement M

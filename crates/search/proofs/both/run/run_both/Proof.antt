@@ -19,20 +19,23 @@ use Rattle.search.proofs.both.run.run_both.Tie as tie
 
 abbrev Inv-loop : tie.InvT-loop
 Inv-loop pattern table classes stretch at segments marks₀ next₀ size₀ ends₀ reached₀ k₀ marks next size ends reached k =
-    Uniting pattern stretch at marks k next size ends (reached .given) (reached .opposite) × (k ≤ segments) × (length marks ≡ length marks₀)
+    Uniting pattern (reached₀ .given) (reached₀ .opposite) stretch at marks k next size ends (reached .given) (reached .opposite)
+    × (k ≤ segments) × (length marks ≡ length marks₀)
 
 abbrev μ-loop : tie.MeasureT-loop
 μ-loop pattern table classes stretch at segments marks₀ next₀ size₀ ends₀ reached₀ k₀ marks next size ends reached k = segments - k
 
 loop-holds : tie.Need-loop-holds Inv-loop μ-loop
-loop-holds c = (uniting-none _ _ _ _ (c .before .before .before .pre .1 .0), omega arith, refl)
+loop-holds c = (uniting-none _ _ _ _ _ _ (c .before .before .before .pre .1 .1 .0), omega arith, refl)
 
 over-requires : tie.Need-over-requires Inv-loop μ-loop
 over-requires c κs =
     let a = c .before in
-    let p = a .before .before .before .before .pre .0 in
-    let q = a .loop .inv .0 in
-    ((p .0, uniting-own q (p .0 .founded .some)), (p .1, uniting-turned q (p .1 .founded .some)))
+    let p = a .before .before .before .before .pre in
+    let q = a .loop .inv .0 in (
+      (p .0 .0, uniting-own q (p .0 .0 .founded .some) (p .1 .0 .0)),
+      (p .0 .1, uniting-turned q (p .0 .1 .founded .some) (p .1 .0 .1)),
+    )
 
 same-length : tie.Need-same-length Inv-loop μ-loop
 same-length c = c .before .before .before .before .before .loop .inv .2
@@ -55,7 +58,7 @@ slice-write-marks c =
     roomy : (a : tie.At-loop Inv-loop μ-loop)
         → RoomyFrom (a .before .before .before .before .args .stretch .now) (a .before .before .before .before .args .at)
         (a .before .before .before .before .args .segments) (a .loop .marks)
-    roomy a = let room = a .before .before .before .before .pre .1 .1 in omega (arith, a .loop .inv .2)
+    roomy a = let room = a .before .before .before .before .pre .1 .1 .1 in omega (arith, a .loop .inv .2)
 
 loop-again : tie.Need-loop-again Inv-loop μ-loop
 loop-again c =
