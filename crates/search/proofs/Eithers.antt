@@ -121,6 +121,18 @@ module _ (P : List ℕ) (st re : ℕ) where
   unfolding eitherFrom
   from-ones t = united-ones P (opposite P) st re t
 
+  -- segment j is marked where one of the two strands marks it
+  pub from-at : (t : Text) (j : ℕ) → j < length t
+      → (getD (eitherFrom P st re t) j 0 ≡ 1) ↔ ((getD (marksFrom P st t) j 0 ≡ 1) ⊎ (getD (marksFrom (opposite P) re t) j 0 ≡ 1))
+  unfolding eitherFrom
+  from-at t j l =
+      rw (
+        united-at (marksFrom P st t) (marksFrom (opposite P) re t) j (same-length t),
+        mark-at P st t j l,
+        mark-at (opposite P) re t j l,
+      )
+      (one-of (ends P (run P st (take j t)) (segment t j)) (ends (opposite P) (run (opposite P) re (take j t)) (segment t j)))
+
 -- from the fresh states
 module _ (P : List ℕ) where
   pub from-fresh : (t : Text) → eitherFrom P fresh fresh t ≡ eitherMarks P t
@@ -133,14 +145,10 @@ module _ (P : List ℕ) where
   pub either-ones : (t : Text) → total (λ x. x) (eitherMarks P t) ≡ total one (eitherMarks P t)
   either-ones t = rw (from-fresh t) at (from-ones P fresh fresh t)
 
-  -- segment j is marked where one of the two strands marks it
   pub either-at : (t : Text) (j : ℕ) → j < length t
       → (getD (eitherMarks P t) j 0 ≡ 1) ↔ ((getD (marks P t) j 0 ≡ 1) ⊎ (getD (marks (opposite P) t) j 0 ≡ 1))
-  unfolding eitherMarks marks
-  either-at t j l =
-      rw (united-at (marks P t) (marks (opposite P) t) j (same-length P fresh fresh t), mark-at P fresh t j l,
-        mark-at (opposite P) fresh t j l)
-      (one-of (ends P (run P fresh (take j t)) (segment t j)) (ends (opposite P) (run (opposite P) fresh (take j t)) (segment t j)))
+  unfolding eitherFrom eitherMarks marks
+  either-at t j l = from-at P fresh fresh t j l
 
 -- what a step over a segment answers, strand by strand
 module _ {r : PassedBoth} {x y : Outcome Pass} (own : toldPassed (passedGiven r) ≡ x) (turned : toldPassed (passedOpposite r) ≡ y) where
@@ -307,6 +315,18 @@ module _ (P : List ℕ) (st re : ℕ) (s : List ℕ) where
     pub both-sound : isState (length P) re ≡ true → {A : Type 0} (o : Outcome A) → enteringBoth P st re s o ≡ o
     unfolding enteringBoth
     both-sound e o = entering-sound P st s y (demand (isState (length P) re) 17 0 o) ∙ rw e
+
+  -- where it accepts, the searches of the two strands accept, with the same text
+  pub both-strands : (room : ℕ) (t : Text) → seekingBoth P st re s room ≡ ok t
+      → (seeking P st s room ≡ ok t) × (seeking P re s room ≡ ok t)
+  unfolding seekingBoth seeking
+  both-strands room t e =
+      let (_, f, g) = after-met (enteringBoth P st re s (ok (tt {0}))) (λ _. stretchInto s room) t (sym (both-after (stretchInto s room)) ∙ e) in
+      let y = both-entered f in
+      let turned : Entered P re s = record { sound = y .own .sound; short = y .own .short; state = y .turned } in (
+        entering-sound P st s (y .own) (stretchInto s room) ∙ g,
+        entering-sound P re s turned (stretchInto s room) ∙ g,
+      )
 
   -- what a search from a state of each strand answers
   module _ (out : List ℕ) where

@@ -25,14 +25,14 @@ use Rattle.stretch.specs.Bytes.{over}
 use Rattle.stretch.specs.Pieces.{mostInStretch}
 use Rattle.stretch.specs.Answers.{leftBy}
 use Rattle.stretch.specs.Reading.{segmentAt, stretchOf}
-use Rattle.search.specs.Answers.{Next, sumsOf, searching, toldSearched}
-use Rattle.search.specs.Either.{eitherMarks, eitherSums}
+use Rattle.search.specs.Answers.{Next, sumsOf, searching, seeking, Seen, seenFrom, toldSearched}
+use Rattle.search.specs.Either.{eitherMarks, eitherSums, eitherFrom, seekingBoth, SeenBoth, seenBoth}
 use Rattle.search.specs.First.{endsIn, clear, firsting}
 use Rattle.search.specs.Chain.{segmentsText, feeds, markOf, stretchesText, Trail, seeks, asks}
 use Rattle.search.specs.declared.searching.Searched.{Searched}
 use Rattle.search.proofs.Entries.{Entered, entering-sound, fresh-state}
 use Rattle.search.proofs.Told.{searched-once}
-use Rattle.search.proofs.Eithers.{one, either-length, either-ones, either-at}
+use Rattle.search.proofs.Eithers.{one, either-length, either-ones, either-at, from-length, from-at, both-strands}
 use Rattle.search.proofs.Chains.{steps, feeds-steps, steps-marks, steps-states, seeks-text}
 use Rattle.search.proofs.FirstHits.{hitOf, Reads, hit-first, hit-fault, first-sound, asks-clear, asks-ends, zeros-at, ones-none}
 use Rattle.search.proofs.FirstHits.{ends-clear}
@@ -119,6 +119,29 @@ either-marks P s out t j some e l =
 pub either-ends : (P : List ℕ) (t : Text) → eitherSums P t .ends ≡ total one (eitherMarks P t)
 unfolding eitherSums
 either-ends P t = either-ones P t
+
+-- from a state of each strand: the marks that it leaves are the union of those that the searches of the strands leave from these states
+pub both-unites : (P s out : List ℕ) (st re : ℕ) (t : Text) → seekingBoth P st re s (length out) ≡ ok t → (j : ℕ) → j < length t
+    → (getD (leftBy (eitherFrom P st re) (seekingBoth P st re s (length out)) out) j 0 ≡ 1)
+    ↔ ((getD (leftBy (marksFrom P st) (seeking P st s (length out)) out) j 0 ≡ 1)
+    ⊎ (getD (leftBy (marksFrom (opposite P) re) (seeking P re s (length out)) out) j 0 ≡ 1))
+both-unites P s out st re t e j l =
+    let (own, turned) = both-strands P st re s (length out) t e in
+    let here : j < length (marksFrom P st t) = rw (marks-length P st t) l in
+    let there : j < length (marksFrom (opposite P) re t) = rw (marks-length (opposite P) re t) l in
+    let all : j < length (eitherFrom P st re t) = rw (from-length P st re t) l in
+    rw (
+      left-at (eitherFrom P st re) (seekingBoth P st re s (length out)) out t j e all,
+      left-at (marksFrom P st) (seeking P st s (length out)) out t j own here,
+      left-at (marksFrom (opposite P) re) (seeking P re s (length out)) out t j turned there,
+    )
+    (from-at P st re t j l)
+
+-- and so are the states that it tells
+pub both-states : (P : List ℕ) (st re : ℕ) (t : Text)
+    → (seenBoth P st re t .given ≡ seenFrom P st t .state) × (seenBoth P st re t .opposite ≡ seenFrom (opposite P) re t .state)
+unfolding seenBoth seenFrom
+both-states P st re t = (refl, refl)
 
 -- what feeding lone segments one by one from the fresh state gives, for a text T of any length
 pub record Feeds (P : List ℕ) (strand : Strand) (ss : List (List ℕ)) (T : Text) : Type 0 where

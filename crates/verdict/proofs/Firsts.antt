@@ -28,12 +28,12 @@ use Rattle.stretch.specs.declared.pieces.Opened.{Opened}
 use Rattle.stretch.specs.Reading.{segmentAt, many, stretchOf}
 use Rattle.stretch.proofs.Walks.{many-length}
 use Rattle.stretch.proofs.Stretches.{stretch-most}
-use Rattle.search.specs.Answers.{entering, into, stretchInto, seeking}
-use Rattle.search.specs.Either.{united}
+use Rattle.search.specs.Answers.{entering, into, stretchInto}
+use Rattle.search.specs.Either.{united, eitherFrom, seekingBoth}
 use Rattle.search.specs.declared.state.State.{State}
 use Rattle.search.specs.First.{Hit, endsIn, clear, whole, wholeOf, firstIn, hitting, firsting}
 use Rattle.search.proofs.Entries.{Entered, entered, entering-after, entering-sound, entering-over}
-use Rattle.search.proofs.Eithers.{united-length}
+use Rattle.search.proofs.Eithers.{from-length, both-sound}
 use Rattle.search.proofs.Stops.{whole-walk}
 use Rattle.lines.specs.Answer.{markedFrom}
 use Rattle.lines.proofs.Named.{is-named}
@@ -43,7 +43,7 @@ use Rattle.verdict.specs.First.{Halt, at, goes, reached, ended, gone, ha
 use Rattle.verdict.specs.First.{ends as endsOn}
 use Rattle.verdict.specs.declared.first.Heard.{Heard}
 use Rattle.verdict.specs.declared.standing.Standing.{Standing}
-use Rattle.verdict.proofs.Standings.{sought-sound}
+use Rattle.verdict.proofs.Standings.{both-sought}
 
 -- a sound stretch: all of it reads whole, and its count is what it opens with
 pub record Reads (s : List ℕ) (t : Text) : Type 0 where
@@ -221,9 +221,7 @@ goes-inj e = cc
 -- a mark for each segment
 both-long : (P : List ℕ) (x : Standing) (t : Text) → length (bothMarks P x t) ≡ length t
 unfolding bothMarks
-both-long P x t =
-    let own = marks-length P (x .given .bits) t in
-    united-length _ _ (own ∙ sym (marks-length (opposite P) (x .opposite .bits) t)) ∙ own
+both-long P x t = from-length P (x .given .bits) (x .opposite .bits) t
 
 -- where a sequence stands, from the sums of its segments
 pub ended-is : (x : Standing) (k read all : ℕ) → read ≡ plus k 1 → all ≡ plus (x .segments) read
@@ -278,7 +276,7 @@ module _ (P : List ℕ) (x : Standing) (s : List ℕ) where
       (turned : firsting P Opposite (x .opposite .bits) s ≡ ok (clear b)) where
     pub nothing-ends : (y : Standing) → x .ends ≡ 0 → after (openAt s) (λ n. ok (goes (gone x a b n))) ≡ ok (goes y)
         → (t : Text) × (passing P x s mostInStretch ≡ ok t) × (y ≡ stood P x t) × (y .ends ≡ 0)
-    unfolding passing seeking into stood bothMarks plus firstIn
+    unfolding passing seekingBoth into stood bothMarks eitherFrom plus firstIn
     nothing-ends y e rest =
         let (t, sound, state) = said-clear P Given (x .given .bits) s a own in
         let (u, again, back) = said-clear P Opposite (x .opposite .bits) s b turned in
@@ -287,8 +285,7 @@ module _ (P : List ℕ) (x : Standing) (s : List ℕ) where
         let room : leb (length t) mostInStretch ≡ true = le-leb (length t) mostInStretch (stretch-most s t sound) in
         let x1 = said-entered P Given (x .given .bits) s (clear a) own .0 in
         let x2 = said-entered P Opposite (x .opposite .bits) s (clear b) turned .0 in
-        let open1 = entering-sound P (x .given .bits) s x1 (stretchInto s mostInStretch) in
-        let open2 = entering-sound P (x .opposite .bits) s x2 (stretchInto s mostInStretch) in
+        let opens = both-sound P (x .given .bits) (x .opposite .bits) s x1 (x2 .state) (stretchInto s mostInStretch) in
         let n1 : firstEnd (marksFrom P (x .given .bits) t) ≡ none =
         ap (λ (T : Text). firstEnd (marksFrom P (x .given .bits) T)) (sym (r .all))
         ∙ sym (said-end P Given (x .given .bits) s x1) ∙ ap endOf own in
@@ -303,7 +300,7 @@ module _ (P : List ℕ) (x : Standing) (s : List ℕ) where
         let is : gone x a b (length t) ≡ y = goes-inj (ok-inj (sym count ∙ rest)) in
         let other : run (opposite P) (x .opposite .bits) t ≡ b = ap (run (opposite P) (x .opposite .bits)) (sym same) ∙ back in (
           t,
-          rw (open2, open1, sound, room) refl,
+          rw (opens, sound, room) refl,
           sym is
               ∙ (λ i.
               record {
@@ -333,12 +330,9 @@ module _ (P : List ℕ) (x : Standing) (s : List ℕ) where
   -- where the plain search finds nothing, nothing ends
   pub stood-goes : (t : Text) → passing P x s mostInStretch ≡ ok t → x .ends ≡ 0 → stood P x t .ends ≡ 0
       → halting P x s ≡ ok (goes (stood P x t))
-  unfolding passing stood plus bothMarks onBoth firstIn
+  unfolding passing stood plus bothMarks eitherFrom onBoth firstIn
   stood-goes t met e zero-ends =
-      let (u, turned, own) =
-      after-met (seeking P (x .opposite .bits) s mostInStretch) (λ _. seeking P (x .given .bits) s mostInStretch) t met in
-      let (x1, sound, _) = sought-sound P (x .given .bits) s mostInStretch t own in
-      let x2 = sought-sound P (x .opposite .bits) s mostInStretch u turned .0 in
+      let (x1, x2, sound, _) = both-sought P (x .given .bits) (x .opposite .bits) s mostInStretch t met in
       let r = reads-whole s t sound in
       let count : length (markedFrom 0 (bothMarks P x t)) ≡ 0 = omega (arith, zero-ends) in
       let both : min (firstEnd (marksFrom P (x .given .bits) t)) (firstEnd (marksFrom (opposite P) (x .opposite .bits) t)) ≡ none =
@@ -382,7 +376,7 @@ module _ (P : List ℕ) (x : Standing) (s : List ℕ) where
   -- and it is the first of what reads whole
   pub at-first : SoundPattern P → isState (length P) (x .given .bits) ≡ true → isState (length P) (x .opposite .bits) ≡ true
       → (k : ℕ) → onBoth P x s ≡ ok (endsOn k) → (k ≡ firstEnd (bothMarks P x (wholeOf s))) × (k < none)
-  unfolding onBoth bothMarks firstIn firsting
+  unfolding onBoth bothMarks eitherFrom firstIn firsting
   at-first sound i j k heard =
       by-cases (decLt greatestStretch (length s))
       (λ (long : greatestStretch < length s).

@@ -1,6 +1,6 @@
 -- Laws of the definitions in specs/.
 pub mod Saying
-pub mod Uniting
+pub mod NextMarked
 pub mod Standings
 pub mod Firsts
 pub mod Rows

@@ -28,11 +28,10 @@ use Rattle.text.proofs.Ends.{firstEnd-least, firstEnd-within, firstEnd-mark}
 use Rattle.text.proofs.Marks.{marks-length, run-append, marks-append}
 use Rattle.stretch.specs.Pieces.{mostInStretch}
 use Rattle.stretch.specs.Reading.{stretchOf}
-use Rattle.search.specs.Answers.{seeking}
 use Rattle.search.specs.Chain.{stretchesText}
 use Rattle.search.specs.First.{wholeOf}
 use Rattle.search.proofs.Entries.{fresh-state}
-use Rattle.search.specs.Either.{united, eitherMarks}
+use Rattle.search.specs.Either.{united, eitherMarks, eitherFrom}
 use Rattle.search.proofs.Eithers.{united-length}
 use Rattle.lines.specs.Answer.{markedFrom}
 use Rattle.lines.specs.declared.strands.Strands.the-variants.{Either}
@@ -42,7 +41,7 @@ use Rattle.verdict.specs.Standing.{plus, passing, bothMarks, stood, begu
 use Rattle.verdict.specs.First.{at, ended, halting, halts, firstNight}
 use Rattle.verdict.specs.Said.{clearLine, heldLine, lastLine, nightLine}
 use Rattle.verdict.specs.declared.standing.Standing.{Standing}
-use Rattle.verdict.proofs.Standings.{sought-sound}
+use Rattle.verdict.proofs.Standings.{both-sought}
 use Rattle.verdict.proofs.Firsts.{some-named, at-heard, at-first, halts-stands, stands-halts}
 use Rattle.verdict.proofs.Rows.{united-append, count-append, getD-behind, plus-cut}
 
@@ -72,7 +71,7 @@ module _ (P : List ℕ) (T t : Text) where
 
   -- the marks behind T are those of the search from where P stands
   pub marks-behind : (x : Standing) → At P T x → eitherMarks P (T ++ t) ≡ eitherMarks P T ++ bothMarks P x t
-  unfolding eitherMarks bothMarks marks
+  unfolding eitherMarks bothMarks eitherFrom marks
   marks-behind x a =
       rw (a .own, a .turned)
       (ap₂ united (marks-append P fresh T t) (marks-append (opposite P) fresh T t)
@@ -99,9 +98,7 @@ module _ (P : List ℕ) (T t : Text) where
 -- an accepted stretch is one that means a text
 passing-means : (P : List ℕ) (x : Standing) (s : List ℕ) (room : ℕ) (t : Text) → passing P x s room ≡ ok t → stretchOf s ≡ ok t
 unfolding passing
-passing-means P x s room t e =
-    let (u, _, own) = after-met (seeking P (x .opposite .bits) s mostInStretch) (λ _. seeking P (x .given .bits) s room) t e in
-    sought-sound P (x .given .bits) s room t own .1
+passing-means P x s room t e = both-sought P (x .given .bits) (x .opposite .bits) s room t e .2
 
 -- stretches of any number, taken one after another: all of them are accepted, and P stands where it stands behind their text
 pub record Stood (P : List ℕ) (T : Text) (ss : List (List ℕ)) (y : Standing) : Type 0 where
@@ -198,14 +195,14 @@ night-clear Ps ss e P m sound =
 module _ (P : List ℕ) (T t U : Text) (x : Standing) (a : At P T x) where
   both-append : bothMarks P x (t ++ U) ≡ bothMarks P x t ++ united (marksFrom P (run P (x .given .bits) t) U)
       (marksFrom (opposite P) (run (opposite P) (x .opposite .bits) t) U)
-  unfolding bothMarks
+  unfolding bothMarks eitherFrom
   both-append =
       let same : length (marksFrom P (x .given .bits) t) ≡ length (marksFrom (opposite P) (x .opposite .bits) t) =
       marks-length P (x .given .bits) t ∙ sym (marks-length (opposite P) (x .opposite .bits) t) in
       ap₂ united (marks-append P (x .given .bits) t U) (marks-append (opposite P) (x .opposite .bits) t U) ∙ united-append _ _ _ _ same
 
   both-length : length (bothMarks P x t) ≡ length t
-  unfolding bothMarks
+  unfolding bothMarks eitherFrom
   both-length =
       let same : length (marksFrom P (x .given .bits) t) ≡ length (marksFrom (opposite P) (x .opposite .bits) t) =
       marks-length P (x .given .bits) t ∙ sym (marks-length (opposite P) (x .opposite .bits) t) in

@@ -1,17 +1,16 @@
 -- Where a withheld sequence stands behind the stretches of a text, searched one after another on both strands.
 use Prim.Native.Nat.{ℕ, _+_, min}
-use mathlib.Core.Bool.{Bool, not, cond}
+use mathlib.Core.Bool.{not}
 use mathlib.Core.List.{List, [], _∷_}
 use lib.Dec.{eqb}
 use lib.ListN.{length, drop}
 use Rattle.text.specs.Letter.{firstNot}
 use Rattle.text.specs.Text.{Text}
-use Rattle.text.specs.State.{run, marksFrom}
+use Rattle.text.specs.State.{run}
 use Rattle.text.specs.Strand.{opposite}
 use Rattle.text.specs.Refusal.{Outcome, ok, refused, after}
 use Rattle.stretch.specs.Pieces.{mostInStretch}
-use Rattle.search.specs.Answers.{seeking}
-use Rattle.search.specs.Either.{united}
+use Rattle.search.specs.Either.{eitherFrom, seekingBoth}
 use Rattle.lines.specs.Answer.{markedFrom}
 use Rattle.verdict.specs.declared.standing.Standing.{Standing}
 use Rattle.verdict.specs.declared.standing.Passed.{Passed}
@@ -21,21 +20,17 @@ use Rattle.verdict.specs.declared.standing.Passed.the-variants.{To, Refu
 unfoldable pub plus : ℕ → ℕ → ℕ
 plus a b = min (a + b) 0xffffffffffffffff
 
--- 1 for a mark of 1, and 0 for every other
-abbrev pub one : ℕ → ℕ
-one x = cond (eqb x 1) 1 0
-
 -- the first place from `from` on whose mark is 1
 unfoldable pub nextMarked : List ℕ → ℕ → ℕ
 nextMarked marks from = from + firstNot (λ x. not (eqb x 1)) (drop from marks)
 
 -- a stretch that is searched on both strands, each from where it stands: the refusals of the search
 unfoldable pub passing : List ℕ → Standing → List ℕ → ℕ → Outcome Text
-passing P x s room = after (seeking P (x .opposite .bits) s mostInStretch) λ _. seeking P (x .given .bits) s room
+passing P x s room = seekingBoth P (x .given .bits) (x .opposite .bits) s room
 
 -- the segments of a text in which an occurrence ends on either strand
 unfoldable pub bothMarks : List ℕ → Standing → Text → List ℕ
-bothMarks P x t = united (marksFrom P (x .given .bits) t) (marksFrom (opposite P) (x .opposite .bits) t)
+bothMarks P x t = eitherFrom P (x .given .bits) (x .opposite .bits) t
 
 -- where the sequence stands behind a text
 unfoldable pub stood : List ℕ → Standing → Text → Standing

@@ -1,11 +1,9 @@
 // Where a withheld sequence stands behind the stretches of a text that were searched so far, and how one more stretch moves it.
 use crate::sum::plus;
-use crate::unite::unite;
-use search::Sought;
+use search::Pair;
+use search::SoughtBoth;
 use search::State;
 use text::Refusal;
-use text::refusal;
-use text::strand::Strand;
 ghost use mathlib.Core.Path.{_≡_};
 ghost use lib.ListN.{length};
 ghost use Rattle.text.specs.Refusal.{ok, after};
@@ -37,46 +35,42 @@ pub enum Passed {
     Refused(Refusal),
 }
 
-// Searches one more stretch on both strands, each from where it stands, and marks the segments in which the sequence ends on either. A
-// refusal is that of the search; the marks are then of no meaning.
+// Searches one more stretch on both strands at once, each from where it stands, and marks the segments in which the sequence ends on
+// either. A refusal is that of the search; the marks are then of no meaning.
 pub fn pass(pattern: &[u8], standing: Standing, stretch: &[u8], marks: &mut [u8]) -> Passed
     ensures { λ r. ⌜ toldPassed r ≡ after (passing (now (pattern .entry)) standing (now (stretch .entry)) (length (now (marks .entry))))
         (λ t. ok (behind (now (pattern .entry)) standing t)) ⌝ }
     ensures { λ r. ⌜ MarksOf (bothMarks (now (pattern .entry)) standing)
         (passing (now (pattern .entry)) standing (now (stretch .entry)) (length (now (marks .entry)))) (now (marks .exit)) ⌝ }
 {
-    let mut other = [0u8; refusal::MOST_IN_STRETCH];
+    let own = standing.given;
     let turned = standing.opposite;
-    match turned.through(pattern, Strand::Opposite, stretch, &mut other) {
-        Sought::Refused(refused) => Passed::Refused(refused),
-        Sought::Marked {
-            segments: _,
+    let states = Pair {
+        given: own.bits,
+        opposite: turned.bits,
+    };
+    match states.through(pattern, stretch, &mut *marks) {
+        SoughtBoth::Refused(refused) => Passed::Refused(refused),
+        SoughtBoth::Marked {
+            segments,
             size: _,
-            ends: _,
-            state: opposite,
+            ends,
+            state,
         } => {
-            let own = standing.given;
-            match own.through(pattern, Strand::Given, stretch, &mut *marks) {
-                Sought::Refused(refused) => Passed::Refused(refused),
-                Sought::Marked {
-                    segments,
-                    size: _,
-                    ends: _,
-                    state: given,
-                } => {
-                    let marked = unite(&other[..segments], &mut *marks);
-                    let all = plus(standing.segments, segments as u64);
-                    let ends = plus(standing.ends, marked as u64);
-                    Passed::To {
-                        segments,
-                        standing: Standing {
-                            given,
-                            opposite,
-                            segments: all,
-                            ends,
-                        },
-                    }
-                }
+            let given = State { bits: state.given };
+            let opposite = State {
+                bits: state.opposite,
+            };
+            let all = plus(standing.segments, segments as u64);
+            let marked = plus(standing.ends, ends as u64);
+            Passed::To {
+                segments,
+                standing: Standing {
+                    given,
+                    opposite,
+                    segments: all,
+                    ends: marked,
+                },
             }
         }
     }

@@ -96,7 +96,7 @@ fn variant_both(
 
 impl Pair {
     // The states behind the segment at `at`: refusals 5 to 8.
-    pub fn over(
+    pub(crate) fn over(
         self,
         pattern: &[u8],
         table: &[u64; 512],

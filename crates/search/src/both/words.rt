@@ -21,7 +21,7 @@ impl Pair {
     };
 
     // The bits that both words have with those of another pair.
-    pub fn and(self, more: Pair) -> Pair
+    pub(crate) fn and(self, more: Pair) -> Pair
         ensures { λ r. ⌜ (r .given ≡ bitAnd (self .given) (more .given)) × (r .opposite ≡ bitAnd (self .opposite) (more .opposite)) ⌝ }
     {
         Pair {

@@ -1,11 +1,11 @@
--- `verdict::unite::next_marked` meets its contract. The loop's invariant, `Passing`: no segment before j is marked. The measure
+-- `verdict::marked::next_marked` meets its contract. The loop's invariant, `Passing`: no segment before j is marked. The measure
 -- is the number of marks left.
 use Prim.Native.Nat.{_-_}
 use lib.ListN.{length}
 use borrow.Author.Needs.{needs}
-use Rattle.verdict.proofs.Uniting.{Passing, passing-none, passing-more, passing-marked, passing-end}
-use Rattle.verdict.proofs.unite.next_marked.Statement.{statement}
-use Rattle.verdict.proofs.unite.next_marked.Tie as tie
+use Rattle.verdict.proofs.NextMarked.{Passing, passing-none, passing-more, passing-marked, passing-end}
+use Rattle.verdict.proofs.marked.next_marked.Statement.{statement}
+use Rattle.verdict.proofs.marked.next_marked.Tie as tie
 
 abbrev Inv-loop : tie.InvT-loop
 Inv-loop marks from j₀ j = Passing marks from j
