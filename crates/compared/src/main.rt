@@ -6,6 +6,7 @@ mod feeds;
 mod groups;
 mod joins;
 mod lists;
+mod pairs;
 mod reads;
 mod searches;
 mod stretches;

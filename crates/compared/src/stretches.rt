@@ -4,10 +4,12 @@ use crate::cuts;
 use crate::feeds;
 use crate::groups;
 use crate::joins;
+use crate::pairs;
 use crate::reads;
 use crate::searches;
 use crate::writes;
 use card::Card;
+use search::Pair;
 use straight::Ran;
 use straight::Verdict;
 use straight::part;
@@ -77,7 +79,15 @@ fn opposite(tally: Tally, p: &[u8], bytes: &[u8], alone: Verdict) -> Tally {
         ends,
         marks,
     };
-    searches::compare(t, 2, given, Strand::Given, bytes, verdict, found)
+    let either = searches::compare(t, 2, given, Strand::Given, bytes, verdict, found);
+    if verdict.number != 0 {
+        return either;
+    }
+    let states = Pair {
+        given: other.bits,
+        opposite: own.bits,
+    };
+    pairs::compare(either, given, bytes, verdict.segments, states, &marks)
 }
 
 // Everything. `kind` says which groups count what was seen.

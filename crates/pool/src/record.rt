@@ -21,6 +21,7 @@ use withheld::part;
 
 // A line of so few bytes needs a stretch of fewer than these: an allele has two bytes more than letters, and at least one.
 const SHORT_LINE: usize = 256;
+
 const SHORT_STRETCH: usize = 1024;
 
 // The bytes of the segment of a record alone; 0 of a record that is refused, which is said. The buffer has room for every stretch, or for

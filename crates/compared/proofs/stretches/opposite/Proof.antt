@@ -19,4 +19,7 @@ opposite-spec =
     (λ c. search (needs, c .before .before .before .before .run2 .ok))
     (λ c κs. search needs)
     (λ c κs. search needs)
+    (λ c. search needs)
+    (λ c. search needs)
+    (λ c κs. search needs)
     (λ c. search needs))
