@@ -321,7 +321,8 @@ module _ (P : List ℕ) (st re : ℕ) (s : List ℕ) where
       → (seeking P st s room ≡ ok t) × (seeking P re s room ≡ ok t)
   unfolding seekingBoth seeking
   both-strands room t e =
-      let (_, f, g) = after-met (enteringBoth P st re s (ok (tt {0}))) (λ _. stretchInto s room) t (sym (both-after (stretchInto s room)) ∙ e) in
+      let (_, f, g) = after-met (enteringBoth P st re s (ok (tt {0}))) (λ _. stretchInto s room) t
+      (sym (both-after (stretchInto s room)) ∙ e) in
       let y = both-entered f in
       let turned : Entered P re s = record { sound = y .own .sound; short = y .own .short; state = y .turned } in (
         entering-sound P st s (y .own) (stretchInto s room) ∙ g,

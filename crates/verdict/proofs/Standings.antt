@@ -61,7 +61,7 @@ counted-one true j l e = omega (arith, e)
 counted-one false j l e = omega (arith, e)
 
 counted-none : (P Q : List ℕ) (st re j : ℕ)
-    → total (λ x. x) (united (marksFrom P st []) (marksFrom Q re [])) ≡ length (markedFrom j (united (marksFrom P st []) (marksFrom Q re [])))
+    → let l = united (marksFrom P st []) (marksFrom Q re []) in total (λ x. x) l ≡ length (markedFrom j l)
 unfolding united marksFrom total markedFrom
 counted-none P Q st re j = refl
 
@@ -79,59 +79,61 @@ module _ (P : List ℕ) (x : Standing) (s : List ℕ) (room : ℕ) where
   Passes told out =
       (told ≡ after (passing P x s room) (λ t. ok (behind P x t))) × MarksOf (bothMarks P x) (passing P x s room) out
 
-  module _ (d left : List ℕ) (r : SoughtBoth)
-      (told : toldBoth r
-      ≡ after (seekingBoth P (x .given .bits) (x .opposite .bits) s room) (λ t. ok (seenBoth P (x .given .bits) (x .opposite .bits) t)))
-      (wrote : left ≡ leftBy (eitherFrom P (x .given .bits) (x .opposite .bits)) (seekingBoth P (x .given .bits) (x .opposite .bits) s room) d)
-    where
-      pub passes-not : (w : Refusal) → r ≡ Refused w → Passes (refused (w .number) (w .place)) left
-      unfolding passing
-      passes-not w e =
-          let none = told-refused (seekingBoth P (x .given .bits) (x .opposite .bits) s room) (seenBoth P (x .given .bits) (x .opposite .bits))
-          (w .number) (w .place) (sym told ∙ ap toldBoth e) in
-          (rw none refl, λ t f. absurd (refused-ok (w .number) (w .place) t (sym none ∙ f)))
+  -- what the search answers
+  abbrev sought : Outcome Text
+  sought = seekingBoth P (x .given .bits) (x .opposite .bits) s room
 
-      pub passes-to : (n z m : ℕ) (y : Pair) → r ≡ Marked n z m y → (all more : ℕ) → all ≡ plus (x .segments) n → more ≡ plus (x .ends) m
-          → Passes
-          (ok (record {
-            segments = n;
-            standing =
-                record { given = record { bits = y .given }; opposite = record { bits = y .opposite }; segments = all; ends = more };
-          })) left
-      unfolding passing stood bothMarks eitherFrom seenBoth over
-      passes-to n z m y e all more a b =
-          let st : ℕ = x .given .bits in
-          let re : ℕ = x .opposite .bits in
-          let f = told-met (seekingBoth P st re s room) (seenBoth P st re) _ (sym told ∙ ap toldBoth e) in
-          let t : Text = f .0 in
-          let marks : List ℕ = united (marksFrom P st t) (marksFrom (opposite P) re t) in
-          let count : length t ≡ n = ap (λ (v : SeenBoth). v .segments) (f .2) in
-          let ones : total (λ x. x) marks ≡ m = ap (λ (v : SeenBoth). v .ends) (f .2) in
-          let many : plus (x .segments) n ≡ plus (x .segments) (length t) = ap (plus (x .segments)) (sym count) in
-          let sum : plus (x .ends) m ≡ plus (x .ends) (length (markedFrom 0 marks)) =
-          ap (plus (x .ends)) (sym ones ∙ counted P (opposite P) st re 0 t) in
-          let own : y .given ≡ run P st t = sym (ap (λ (v : SeenBoth). v .given) (f .2)) in
-          let turned : y .opposite ≡ run (opposite P) re t = sym (ap (λ (v : SeenBoth). v .opposite) (f .2)) in
-          let is : record {
-            segments = n;
-            standing =
-                record { given = record { bits = y .given }; opposite = record { bits = y .opposite }; segments = all; ends = more };
-          } ≡ behind P x t =
-          λ i.
-          record {
-            segments = sym count i;
-            standing =
-                record {
-                  given = record { bits = own i };
-                  opposite = record { bits = turned i };
-                  segments = (a ∙ many) i;
-                  ends = (b ∙ sum) i;
-                };
-          } in
-          let there : left ≡ marks ++ drop (0 + length marks) d =
-          wrote ∙ ap (λ (o : Outcome Text). leftBy (eitherFrom P st re) o d) (f .1) in
-          let front : take (length t) left ≡ marks =
-          ap (take (length t)) there ∙ take-at marks (drop (0 + length marks) d) (length t) (from-length P st re t) in (
-            ap ok is ∙ sym (ap (λ (o : Outcome Text). after o (λ u. ok (behind P x u))) (f .1)),
-            λ u h. let same : t ≡ u = ok-inj (sym (f .1) ∙ h) in rw (← same) front,
-          )
+  module _ (d left : List ℕ) (r : SoughtBoth)
+      (told : toldBoth r ≡ after sought (λ t. ok (seenBoth P (x .given .bits) (x .opposite .bits) t)))
+      (wrote : left ≡ leftBy (eitherFrom P (x .given .bits) (x .opposite .bits)) sought d) where
+    pub passes-not : (w : Refusal) → r ≡ Refused w → Passes (refused (w .number) (w .place)) left
+    unfolding passing
+    passes-not w e =
+        let none = told-refused sought (seenBoth P (x .given .bits) (x .opposite .bits)) (w .number) (w .place)
+        (sym told ∙ ap toldBoth e) in
+        (rw none refl, λ t f. absurd (refused-ok (w .number) (w .place) t (sym none ∙ f)))
+
+    pub passes-to : (n z m : ℕ) (y : Pair) → r ≡ Marked n z m y → (all more : ℕ) → all ≡ plus (x .segments) n → more ≡ plus (x .ends) m
+        → Passes
+        (ok (record {
+          segments = n;
+          standing =
+              record { given = record { bits = y .given }; opposite = record { bits = y .opposite }; segments = all; ends = more };
+        })) left
+    unfolding passing stood bothMarks eitherFrom seenBoth over
+    passes-to n z m y e all more a b =
+        let st : ℕ = x .given .bits in
+        let re : ℕ = x .opposite .bits in
+        let f = told-met (seekingBoth P st re s room) (seenBoth P st re) _ (sym told ∙ ap toldBoth e) in
+        let t : Text = f .0 in
+        let marks : List ℕ = united (marksFrom P st t) (marksFrom (opposite P) re t) in
+        let count : length t ≡ n = ap (λ (v : SeenBoth). v .segments) (f .2) in
+        let ones : total (λ x. x) marks ≡ m = ap (λ (v : SeenBoth). v .ends) (f .2) in
+        let many : plus (x .segments) n ≡ plus (x .segments) (length t) = ap (plus (x .segments)) (sym count) in
+        let sum : plus (x .ends) m ≡ plus (x .ends) (length (markedFrom 0 marks)) =
+        ap (plus (x .ends)) (sym ones ∙ counted P (opposite P) st re 0 t) in
+        let own : y .given ≡ run P st t = sym (ap (λ (v : SeenBoth). v .given) (f .2)) in
+        let turned : y .opposite ≡ run (opposite P) re t = sym (ap (λ (v : SeenBoth). v .opposite) (f .2)) in
+        let is : record {
+          segments = n;
+          standing =
+              record { given = record { bits = y .given }; opposite = record { bits = y .opposite }; segments = all; ends = more };
+        } ≡ behind P x t =
+        λ i.
+        record {
+          segments = sym count i;
+          standing =
+              record {
+                given = record { bits = own i };
+                opposite = record { bits = turned i };
+                segments = (a ∙ many) i;
+                ends = (b ∙ sum) i;
+              };
+        } in
+        let there : left ≡ marks ++ drop (0 + length marks) d =
+        wrote ∙ ap (λ (o : Outcome Text). leftBy (eitherFrom P st re) o d) (f .1) in
+        let front : take (length t) left ≡ marks =
+        ap (take (length t)) there ∙ take-at marks (drop (0 + length marks) d) (length t) (from-length P st re t) in (
+          ap ok is ∙ sym (ap (λ (o : Outcome Text). after o (λ u. ok (behind P x u))) (f .1)),
+          λ u h. let same : t ≡ u = ok-inj (sym (f .1) ∙ h) in rw (← same) front,
+        )

@@ -12,9 +12,8 @@ returns c =
 returns-2 : tie.Need-returns-2
 returns-2 c =
     let s = c .before .before .before in
-    let d = s .before .before .before .before in
-    passes-to _ _ _ _ _ _ _ (d .through .ensures .0) (d .through .ensures .1 .1) _ _ _ _ (s .segments .given .1) _ _ (c .before .plus .ensures)
-    (c .plus2 .ensures)
+    let e = s .before .before .before .before .through .ensures in
+    passes-to _ _ _ _ _ _ _ (e .0) (e .1 .1) _ _ _ _ (s .segments .given .1) _ _ (c .before .plus .ensures) (c .plus2 .ensures)
 
 pub pass-spec : {M : Type 1} → statement M
 pass-spec =
