@@ -14,9 +14,10 @@ use Rattle.text.specs.Refusal.{Outcome, ok, demand, after}
 use Rattle.text.proofs.Truth.{and-left, and-right}
 use Rattle.text.proofs.Outcomes.{demand-met, after-met, ok-inj}
 use Rattle.stretch.specs.Putting.{putting}
-use Rattle.vcf.specs.Pieces.{lines}
-use Rattle.vcf.specs.Records.{position, reference, behind, comment, isRecord, passedOver, agrees, fitting, records}
-use Rattle.vcf.specs.Building.{heading, textFrom, placed, building}
+use Rattle.records.specs.Pieces.{lines}
+use Rattle.records.specs.Records.{position, reference, behind, comment, isRecord, passedOver, agrees, fitting, records}
+use Rattle.records.specs.Records.{heading, placed}
+use Rattle.survey.specs.Building.{textFrom, building}
 
 module _ (name w : List ℕ) (p : ℕ) where
   -- the records that lines keep are kept where they stand alone

@@ -9,6 +9,7 @@ use clinic::Line;
 use clinic::read_line;
 use lines::put_bytes;
 use text::compare::prefix;
+use vcf::heading;
 use withheld::part;
 
 // How many bytes the heading has, with its line feed.
@@ -52,7 +53,8 @@ pub fn first_records(fd: i32, end: usize) -> Records {
 
 // Puts the heading into a buffer, for lines in short to stand behind.
 pub fn put_heading(out: &mut [u8], at: usize) -> usize {
-    put_bytes(b"##fileformat=VCFv4.\n", &mut *out, at)
+    let end = put_bytes(&heading::HEADING, &mut *out, at);
+    put_bytes(b"\n", &mut *out, end)
 }
 
 // What is wrong with a file that does not begin as a variant file does.
@@ -74,7 +76,7 @@ pub fn begin(fd: i32, piece: &mut [u8]) -> Next {
         return next_piece(fd, VARIANTS, &mut *piece);
     }
     let first = part(piece, 0, n);
-    if prefix(b"##fileformat=VCFv4.", first) {
+    if heading::is_headed(first) {
         return Next::Piece(n);
     }
     tell_heading(first);

@@ -28,11 +28,12 @@ use Rattle.stretch.proofs.Encoding.{standing-encoded}
 use Rattle.stretch.proofs.ReadsOnward.{reads-as}
 use Rattle.stretch.proofs.RoundTrips.{as-written, putting-writable}
 use Rattle.stretch.proofs.Theorems.{writable-accepted}
-use Rattle.vcf.specs.Pieces.{lines}
-use Rattle.vcf.specs.Records.{records, touching, noted}
-use Rattle.vcf.specs.Building.{heading, placed, textFrom, windowText, building}
+use Rattle.records.specs.Pieces.{lines}
+use Rattle.records.specs.Records.{records, touching, noted}
+use Rattle.records.specs.Records.{heading, placed}
+use Rattle.survey.specs.Building.{textFrom, windowText, building}
 use Rattle.vcf.specs.Haplotypes.{Haplotype}
-use Rattle.vcf.proofs.Kept.{Kept, kept, kept-records, records-refused}
+use Rattle.records.proofs.Kept.{Kept, kept, kept-records, records-refused}
 use Rattle.vcf.proofs.Formed.{text-formed, formed-filled}
 use Rattle.vcf.proofs.Haplotypes.{spelt, reference-spelt}
 

@@ -8,9 +8,10 @@ use lib.ListN.{length, drop}
 use Rattle.text.specs.Text.{Variant, Text}
 use Rattle.text.specs.Refusal.{ok}
 use Rattle.stretch.specs.Encoding.{encode}
-use Rattle.vcf.specs.Pieces.{lines}
-use Rattle.vcf.specs.Records.{position, reference, alts, behind, idle, records, touching}
-use Rattle.vcf.specs.Building.{gap, windowText, placed}
+use Rattle.records.specs.Pieces.{lines}
+use Rattle.records.specs.Records.{position, reference, alts, behind, idle, records, touching}
+use Rattle.records.specs.Records.{placed}
+use Rattle.survey.specs.Building.{gap, windowText}
 
 -- bases as a segment of one variant, if there are any
 unfoldable pub gapOf : Variant → Text
@@ -39,15 +40,3 @@ pub record Lies (w : List ℕ) (p base left : ℕ) (l : List ℕ) : Type 0 where
 pub record Placing (w : List ℕ) (p base left : ℕ) (l : List ℕ) : Type 0 where
   pub put : placed w p ≡ true
   pub lies : idle w p l ≡ false → Lies w p base left l
-
--- the lines from place `start` on hold the records of the window, so many of them, and their text has so many segments and fits the room
-pub record Readable (w : List ℕ) (p : ℕ) (file : List ℕ) (start left segments room : ℕ) : Type 0 where
-  pub put : placed w p ≡ true
-  pub inside : start ≤ length file
-  pub name : List ℕ
-  pub number : ℕ
-  pub from : ℕ
-  pub accepted : records name w p number from (lines (drop start file)) ≡ ok (touching w p (lines file))
-  pub many : left ≡ length (touching w p (lines file))
-  pub count : segments ≡ length (windowText w p file)
-  pub fits : length (encode (windowText w p file)) ≤ room

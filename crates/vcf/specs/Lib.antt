@@ -1,8 +1,3 @@
 -- The stretch of a window, made from a variant file.
-pub mod Pieces
-pub mod Records
-pub mod Building
 pub mod Haplotypes
-pub mod Tallies
-pub mod Steps
 pub mod Emission

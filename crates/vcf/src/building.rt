@@ -1,21 +1,17 @@
 // The stretch of a window, made from a reference and a file in Variant Call Format 4. Two passes over the file: the first checks
 // and tallies, the second writes, so that a refused call changes nothing.
 use crate::put::put_text;
-use crate::scan::Scanned;
-use crate::scan::scan;
-use crate::tally::Tally;
-use crate::window::is_placed;
 use stretch::Written;
+use survey::Surveyed;
+use survey::survey;
 use text::Refusal;
-use text::compare::prefix;
-use text::letter::first_wrong;
 use text::refusal;
 ghost use mathlib.Core.Path.{_≡_};
 ghost use lib.ListN.{length};
 ghost use Rattle.text.specs.Refusal.{refused, answer};
 ghost use Rattle.stretch.specs.Encoding.{encode};
 ghost use Rattle.stretch.specs.Answers.{toldWritten, answerWritten, written, leftBy};
-ghost use Rattle.vcf.specs.Building.{building};
+ghost use Rattle.survey.specs.Building.{building};
 
 fn refused(number: u64, place: usize) -> Written
     ensures { λ r. ⌜ toldWritten r ≡ refused number place ⌝ }
@@ -34,32 +30,19 @@ pub fn build(file: &[u8], window: &[u8], first: usize, name: &[u8], out: &mut [u
         (building (now (file .entry)) (now (window .entry)) first (now (name .entry)) (length (now (out .entry))))
         (now (out .entry)) ⌝ }
 {
-    if !is_placed(window, first) {
-        return refused(refusal::WINDOW_PLACE, 0);
-    }
-    if !prefix(b"##fileformat=VCFv4.", file) {
-        return refused(refusal::FILE_HEADING, 0);
-    }
-    let wrong = first_wrong(window);
-    if wrong < window.len() {
-        return refused(refusal::WRONG_LETTER, wrong);
-    }
-    match scan(file, window, first, name) {
-        Scanned::Wrong(line) => refused(refusal::RECORD_WRONG, line),
-        Scanned::Needs { tally, start, kept } => match tally {
-            Tally::Long => refused(refusal::STRETCH_LONG, 0),
-            Tally::Repeated { bytes: _, number } => refused(refusal::REPEATED, number),
-            Tally::Fits {
-                bytes,
-                segments,
-                variants: _,
-            } => {
-                if out.len() < bytes {
-                    return refused(refusal::OUTPUT_SHORT, 0);
-                }
-                put_text(file, start, kept, window, first, segments, &mut *out);
-                Written::Bytes(bytes)
+    match survey(file, window, first, name) {
+        Surveyed::Refused(refusal) => Written::Refused(refusal),
+        Surveyed::Needs {
+            bytes,
+            segments,
+            start,
+            kept,
+        } => {
+            if out.len() < bytes {
+                return refused(refusal::OUTPUT_SHORT, 0);
             }
-        },
+            put_text(file, start, kept, window, first, segments, &mut *out);
+            Written::Bytes(bytes)
+        }
     }
 }

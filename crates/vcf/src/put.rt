@@ -1,16 +1,15 @@
 // The second pass: the text is put into a buffer that has room for it. Every line was checked before.
-use crate::pieces::COMMA;
-use crate::pieces::LINE_FEED;
-use crate::pieces::count;
-use crate::pieces::end_of;
-use crate::pieces::far_end;
-use crate::position::position;
-use crate::record::field;
-use crate::record::is_comment;
-use crate::record::is_none;
-use crate::scan::next_line;
-use crate::window::behind;
-use crate::window::is_outside;
+use records::pieces::COMMA;
+use records::pieces::LINE_FEED;
+use records::pieces::end_of;
+use records::pieces::far_end;
+use records::pieces::next_line;
+use records::position::position;
+use records::record::field;
+use records::record::is_comment;
+use records::record::is_none;
+use records::window::behind;
+use records::window::is_outside;
 use stretch::number::put_word;
 use stretch::put_variant;
 ghost use mathlib.Core.Path.{_≡_};
@@ -20,10 +19,11 @@ ghost use lib.ListN.{length};
 ghost use Rattle.text.specs.Letter.{meant};
 ghost use Rattle.stretch.specs.Bytes.{over};
 ghost use Rattle.stretch.specs.Encoding.{bytesOf, encodeVariant, encodeSegment, encode};
-ghost use Rattle.vcf.specs.Pieces.{pieces};
-ghost use Rattle.vcf.specs.Records.{alternates};
-ghost use Rattle.vcf.specs.Building.{windowText};
-ghost use Rattle.vcf.specs.Emission.{gapOf, Placing, lineText, lineBase, lineLeft, Readable};
+ghost use Rattle.records.specs.Pieces.{pieces};
+ghost use Rattle.records.specs.Records.{alternates};
+ghost use Rattle.survey.specs.Building.{windowText};
+ghost use Rattle.survey.specs.Surveys.{Readable};
+ghost use Rattle.vcf.specs.Emission.{gapOf, Placing, lineText, lineBase, lineLeft};
 
 // Bases as a segment of one variant, nothing where there are none. The place behind them.
 fn put_gap(bases: &[u8], out: &mut [u8], at: usize) -> usize
@@ -56,6 +56,23 @@ fn put_alleles(alt: &[u8], out: &mut [u8], at: usize) -> usize
             return next;
         }
         from = end + 1;
+    }
+}
+
+// The number of pieces.
+fn count(s: &[u8], mark: u8) -> usize
+    requires { ⌜ length (pieces mark (now s)) ≤ 254 ⌝ }
+    ensures { λ r. ⌜ r ≡ length (pieces mark (now (s .entry))) ⌝ }
+{
+    let mut n = 1;
+    let mut from = 0;
+    loop {
+        let end = end_of(s, mark, from);
+        if end == s.len() {
+            return n;
+        }
+        from = end + 1;
+        n += 1;
     }
 }
 

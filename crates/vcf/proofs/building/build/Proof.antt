@@ -1,101 +1,33 @@
--- `vcf::building::build` meets its contract: each test is one of the definition's, in its order.
-use mathlib.Core.Path.{_≡_, sym, ap, _∙_}
+-- `vcf::building::build` meets its contract: what the survey refuses, the room, and the text.
+use mathlib.Core.Path.{refl}
 use borrow.Author.Needs.{needs}
-use borrow.Author.Tests.{not-true, not-false}
-use mathlib.Core.Bool.{true}
-use Rattle.text.specs.Compare.{prefix}
 use Rattle.stretch.proofs.Writings.{refused-leaves}
 use Rattle.stretch.proofs.Told.{written-both}
-use Rattle.vcf.specs.Building.{heading, placed}
-use Rattle.vcf.specs.Steps.{toldScanned}
-use Rattle.vcf.proofs.Builds.{build-place, build-placed, build-heading, build-letter, build-record, build-long, build-repeated}
-use Rattle.vcf.proofs.Builds.{build-short, build-readable, build-leaves}
+use Rattle.vcf.proofs.Builds.{build-leaves}
 use Rattle.vcf.proofs.building.build.Statement.{statement}
 use Rattle.vcf.proofs.building.build.Tie as tie
 
--- what the tests that were passed say
-P1 : (e : tie.Else1) → placed (e .before .before .before .before .before .before .args .window .now)
-    (e .before .before .before .before .before .before .args .first) ≡ true
-P1 e = sym (e .before .is-placed .ensures) ∙ not-false _ (e .if1 .left)
-
-P2 : (e : tie.Else2) → prefix heading (e .before .before .before .before .before .before .before .before .before .args .file .now) ≡ true
-P2 e = sym (e .before .prefix .ensures) ∙ not-false _ (e .if2 .left)
-
-abbrev E2 : tie.After-scan → tie.Else2
-E2 s = s .before .before .before
-
-abbrev E1 : tie.After-scan → tie.Else1
-E1 s = E2 s .before .before .before
-
 returns : tie.Need-returns
-returns c = written-both _
-    (refused-leaves _ (c .refused .ensures)
-    (build-place _ _ _ _ _ (sym (c .before .before .is-placed .ensures) ∙ not-true _ (c .before .if1 .taken))))
-
-returns-2 : tie.Need-returns-2
-returns-2 c =
-    let q = c .before .before in
-    written-both _ (refused-leaves _ (c .refused2 .ensures)
-    (build-heading _ _ _ _ _ (P1 (q .before .before)) (sym (q .prefix .ensures) ∙ not-true _ (c .before .if2 .taken))))
-
-returns-3 : tie.Need-returns-3
-returns-3 c =
-    let f = c .before .before in
-    written-both _ (refused-leaves _ (c .refused3 .ensures)
-    (build-letter _ _ _ _ _ (P1 (f .before .before .before .before)) (P2 (f .before)) _ (f .first-wrong .ensures) (c .before .if3 .taken)))
-
-scan-requires : tie.Need-scan-requires
-scan-requires c κs =
-    let e = c .before .before .before .before .before in
-    build-placed (e .before .before .before .before .before .before .args .file .now) _ _
-    (e .before .before .before .before .before .before .args .name .now) 0 (P1 e)
-
-returns-4 : tie.Need-returns-4
-returns-4 c =
-    let s = c .before .before .before .before .before .before .before .before in
-    written-both _ (refused-leaves _ (c .refused7 .ensures)
-    (build-short _ _ _ _ _ (P1 (E1 s)) (P2 (E2 s)) _ (s .before .before .first-wrong .ensures) (s .before .if3 .left) _
-    (sym (s .scan .ensures .0) ∙ ap toldScanned (c .before .before .before .before .before .before .tally .given .1)) _ _ _
-    (c .before .before .before .tally3 .given .1) (c .before .if4 .taken)))
+returns c =
+    let k = c .before .before .before in
+    written-both _ (refused-leaves _ (c .refused .ensures)
+    ((rw (k .bytes .given .1) at (k .before .before .survey .ensures)) .short _ (c .before .if1 .taken)))
 
 put-text-requires : tie.Need-put-text-requires
 put-text-requires c κs =
-    let s = c .before .before .before .before .before .before .before .before in
-    let is = c .before .before .before .before .before .before .tally .given .1 in
-    build-readable _ _ _ _ _ (P1 (E1 s)) (P2 (E2 s)) _ (s .before .before .first-wrong .ensures) (s .before .if3 .left) _
-    (sym (s .scan .ensures .0) ∙ ap toldScanned is) _ _ _ (c .before .before .before .tally3 .given .1) (c .before .if4 .left)
-    (rw is at (s .scan .ensures .1))
+    let k = c .before .before .before in
+    (rw (k .bytes .given .1) at (k .before .before .survey .ensures)) .readable _ (c .before .if1 .left)
 
-returns-5 : tie.Need-returns-5
-returns-5 c =
-    let s = c .before .before .before .before in
-    written-both _ (refused-leaves _ (c .refused4 .ensures)
-    (build-record _ _ _ _ _ (P1 (E1 s)) (P2 (E2 s)) _ (s .before .before .first-wrong .ensures) (s .before .if3 .left) _
-    (sym (s .scan .ensures .0) ∙ ap toldScanned (c .before .before .line .given .1))))
+returns-2 : tie.Need-returns-2
+returns-2 c =
+    let k = c .before in
+    written-both _ (refused-leaves _ refl ((rw (k .refusal .given .1) at (k .before .before .survey .ensures)) .always _))
 
-returns-6 : tie.Need-returns-6
-returns-6 c =
-    let s = c .before .before .before .before .before .before in
-    written-both _ (refused-leaves _ (c .refused5 .ensures)
-    (build-long _ _ _ _ _ (P1 (E1 s)) (P2 (E2 s)) _ (s .before .before .first-wrong .ensures) (s .before .if3 .left) _
-    (sym (s .scan .ensures .0) ∙ ap toldScanned (c .before .before .before .before .tally .given .1)) (c .before .enum-told .given .1)))
-
-returns-7 : tie.Need-returns-7
-returns-7 c =
-    let s = c .before .before .before .before .before .before .before in
-    written-both _ (refused-leaves _ (c .refused6 .ensures)
-    (build-repeated _ _ _ _ _ (P1 (E1 s)) (P2 (E2 s)) _ (s .before .before .first-wrong .ensures) (s .before .if3 .left) _
-    (sym (s .scan .ensures .0) ∙ ap toldScanned (c .before .before .before .before .before .tally .given .1)) _ _
-    (c .before .before .tally2 .given .1)))
-
-returns-8 : tie.Need-returns-8
-returns-8 c =
-    let s = c .before .before .before .before .before .before .before .before .before .before .before in
+returns-3 : tie.Need-returns-3
+returns-3 c =
+    let k = c .before .before .before .before .before .before in
     written-both _
-    (build-leaves _ _ _ _ _ (P1 (E1 s)) (P2 (E2 s)) _ (s .before .before .first-wrong .ensures) (s .before .if3 .left) _
-    (sym (s .scan .ensures .0) ∙ ap toldScanned
-    (c .before .before .before .before .before .before .before .before .before .tally .given .1)) _ _ _
-    (c .before .before .before .before .before .before .tally3 .given .1) (c .before .before .before .before .if4 .left) _ _
+    (build-leaves (rw (k .bytes .given .1) at (k .before .before .survey .ensures)) _ _ (c .before .before .before .before .if1 .left)
     (c .before .before .put-text .ensures))
 
 pub build-spec : {M : Type 1} → statement M
@@ -103,29 +35,11 @@ build-spec =
     tie.close
     (tie.spec
     (λ c κs. search needs)
+    (λ c. search needs)
+    (λ c. search needs)
     (λ c κs. search needs)
     returns
-    (λ c. search needs)
-    (λ c κs. search needs)
-    (λ c κs. search needs)
-    returns-2
-    (λ c κs. search needs)
-    (λ c κs. search needs)
-    returns-3
-    scan-requires
-    (λ c. search needs)
-    (λ c κs. search needs)
-    (λ c. search needs)
-    (λ c. search needs)
-    (λ c κs. search needs)
-    (λ c. search needs)
-    (λ c κs. search needs)
-    (λ c. search needs)
-    (λ c κs. search needs)
-    returns-4
     put-text-requires
-    returns-5
-    returns-6
-    returns-7
+    returns-2
     (λ c. search needs)
-    returns-8)
+    returns-3)

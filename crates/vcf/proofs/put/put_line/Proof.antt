@@ -8,8 +8,7 @@ use Rattle.stretch.proofs.Raised.{part-meant}
 use Rattle.text.specs.Letter.{meant}
 use Rattle.text.proofs.Likes.{meant-length}
 use mathlib.Core.Bool.{true, false}
-use Rattle.vcf.specs.Records.{beyond, comment, field, position, positionOf}
-use Rattle.vcf.proofs.Digits.{position-small}
+use Rattle.records.specs.Records.{beyond, comment, position, positionOf}
 use Rattle.vcf.proofs.Lines.{idle-comment, idle-is, idle-line, busy-bounds, busy-few, busy-room, busy-line}
 use Rattle.vcf.proofs.put.put_line.Statement.{statement}
 use Rattle.vcf.proofs.put.put_line.Tie as tie
@@ -63,9 +62,6 @@ before c = let s = S (Q c) .args in part-meant (s .window .now) (s .put .base) (
 returns : tie.Need-returns
 returns c = idle-line _ _ _ _ (idle-comment _ _ (S1 (c .before) .args .put .base) _ (sym (c .before .is-comment .ensures) ∙ c .if1 .taken))
     _ _ _
-
-behind-requires : tie.Need-behind-requires
-behind-requires c κs = let q = c .before in omega (arith, stated q, position-small (field (S q .args .line .now) 1))
 
 returns-2 : tie.Need-returns-2
 returns-2 c =
@@ -146,7 +142,7 @@ put-line-spec =
     (λ c κs. search needs)
     (λ c κs. search needs)
     (λ c κs. search needs)
-    behind-requires
+    (λ c κs. search needs)
     (λ c κs. search needs)
     returns-2
     sub-start

@@ -1,0 +1,3 @@
+-- The records of a variant file.
+pub mod Pieces
+pub mod Records

@@ -1,0 +1,14 @@
+-- `survey::tally::fits` meets its contract.
+use mathlib.Core.Path.{sym}
+use Rattle.survey.proofs.Tallying.{fits-not, fits-is}
+use Rattle.survey.proofs.tally.fits.Statement.{statement}
+use Rattle.survey.proofs.tally.fits.Tie as tie
+
+returns : tie.Need-returns
+returns c = sym (fits-not _ _ (c .if1 .taken))
+
+returns-2 : tie.Need-returns-2
+returns-2 c = fits-is _ _ (c .if1 .left)
+
+pub fits-spec : {M : Type 1} → statement M
+fits-spec = tie.close (tie.spec returns returns-2)
