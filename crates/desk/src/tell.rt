@@ -1,14 +1,14 @@
 // What is written: lines on standard output, those that decide on descriptor 3 too, and words and progress on standard error.
+use said::put_done;
+use said::put_fault;
+use said::put_hit;
+use said::put_last;
+use said::put_refused;
+use said::put_standing;
+use said::put_unread;
 use text::Refusal;
 use verdict::Standing;
 use verdict::next_marked;
-use verdict::put_done;
-use verdict::put_fault;
-use verdict::put_hit;
-use verdict::put_last;
-use verdict::put_refused;
-use verdict::put_standing;
-use verdict::put_unread;
 use withheld::Fault;
 
 // Room for a line with a file's name, the longest of which has 4,096 bytes.

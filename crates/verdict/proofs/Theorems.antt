@@ -1,15 +1,15 @@
 -- What this crate proves of its calls, theorem by theorem: read this file first. `passing`, `stood` and `bothMarks` are what the contract
--- of `pass` says of its answer, `stands` is that call on one stretch after another, each from where the one before has led, and `night` is
--- that for each sequence of a list. `halting`, `halts` and `firstNight` are the same of `pass_first`.
-use Prim.Native.Nat.{ℕ, zero, suc, _+_, _≤_, _<_, _-_, _^_, min}
+-- of `pass` says of its answer, and `stands` is that call on one stretch after another, each from where the one before has led. `halting`
+-- and `halts` are the same of `pass_first`.
+use Prim.Native.Nat.{ℕ, _+_, _≤_, _<_, _-_, _^_, min}
 use native.Mathlib.Omega.{arith}
 use mathlib.Core.Path.{_≡_, refl, sym, ap, ap₂, _∙_}
-use mathlib.Core.Logic.{_⊎_, inl, inr, ⊎-elim, _↔_, by-cases}
-use mathlib.Core.Bool.{Bool, true, false, cond}
+use mathlib.Core.Logic.{_⊎_, _↔_, by-cases}
+use mathlib.Core.Bool.{true}
 use mathlib.Core.List.{List, [], _∷_, _++_, append-assoc, append-nil}
-use mathlib.Core.List.{List·Memᴰ, List·Memᴰ·head, List·Memᴰ·tail, List·Memᴰ·cases-cons, List·Memᴰ·not-nil, Memᴰ·cast}
+use mathlib.Core.List.{List·Memᴰ, Memᴰ·cast}
 use native.Mathlib.Decide.{decLt}
-use borrow.Author.Tests.{ne-eqb, lt-ltb}
+use borrow.Author.Tests.{lt-ltb}
 use lib.Dec.{ltb}
 use lib.ListN.{length, getD, length-append, List·getD-append}
 use Rattle.text.specs.Text.{Text}
@@ -18,8 +18,8 @@ use Rattle.text.specs.Bits.{bit}
 use Rattle.text.specs.State.{isState, fresh, next, run, marksFrom, marks}
 use Rattle.text.specs.Card.{none, firstEnd}
 use Rattle.text.specs.Strand.{opposite}
-use Rattle.text.specs.Refusal.{Outcome, ok, refused, after}
-use Rattle.text.proofs.Outcomes.{ok-inj, refused-ok, after-met}
+use Rattle.text.specs.Refusal.{ok, after}
+use Rattle.text.proofs.Outcomes.{ok-inj, after-met}
 use Rattle.text.proofs.Patterns.{SoundPattern}
 use Rattle.text.proofs.Truth.{and-left, and-both}
 use Rattle.text.proofs.Steps.{next-open, next-lt}
@@ -37,12 +37,11 @@ use Rattle.lines.specs.Answer.{markedFrom}
 use Rattle.lines.specs.declared.strands.Strands.the-variants.{Either}
 use Rattle.lines.proofs.Screens.{on-ends, on-length}
 use Rattle.lines.proofs.Named.{named-is, is-named}
-use Rattle.verdict.specs.Standing.{plus, passing, bothMarks, stood, begun, stands, allEnds, night}
-use Rattle.verdict.specs.First.{at, ended, halting, halts, firstNight}
-use Rattle.verdict.specs.Said.{clearLine, heldLine, lastLine, nightLine}
+use Rattle.verdict.specs.Standing.{plus, passing, bothMarks, stood, begun, stands}
+use Rattle.verdict.specs.First.{at, halting, halts}
 use Rattle.verdict.specs.declared.standing.Standing.{Standing}
 use Rattle.verdict.proofs.Standings.{both-sought}
-use Rattle.verdict.proofs.Firsts.{some-named, at-heard, at-first, halts-stands, stands-halts}
+use Rattle.verdict.proofs.Firsts.{some-named, at-heard, at-first, halts-stands}
 use Rattle.verdict.proofs.Rows.{united-append, count-append, getD-behind, plus-cut}
 
 -- an occurrence of P ends in segment j on the strand as given or on the opposite one
@@ -137,59 +136,6 @@ stands-clear P ss y sound e none =
     let z = stands-text P ss y e in
     (z .text, z .accepted, λ j h. (let c : ⊥ = omega (arith, none, z .at .ends, ends-some P (z .text) j sound h) in c))
 
--- a line that says `clear` says it of a whole text in which nothing ends
-line-clear : (whole : Bool) (ends : ℕ) → lastLine whole ends ≡ clearLine → (whole ≡ true) × (ends ≡ 0)
-unfolding lastLine
-line-clear false ends e = absurd (let z : ⊥ = omega (arith, ap (λ (l : List ℕ). getD l 0 0) e) in z)
-line-clear true zero e = (refl, refl)
-line-clear true (suc n) e =
-    let some : suc n ≡ 0 → ⊥ = λ h. (let z : ⊥ = omega arith in z) in
-    let held : lastLine true (suc n) ≡ heldLine = rw (ne-eqb (suc n) 0 some) refl in
-    absurd (let z : ⊥ = omega (arith, ap (λ (l : List ℕ). getD l 0 0) (sym held ∙ e)) in z)
-
--- a sequence that is accepted, and ends nowhere
-abbrev pub Clears : Outcome Standing → Type 0
-Clears o = (y : Standing) × (o ≡ ok y) × (y .ends ≡ 0)
-
-all-none : (stand : List ℕ → Outcome Standing) (Ps : List (List ℕ)) (n : ℕ) → allEnds stand Ps ≡ ok n → n ≡ 0
-    → (P : List ℕ) → List·Memᴰ P Ps → Clears (stand P)
-unfolding allEnds plus
-all-none stand [] n e none P m = absurd (List·Memᴰ·not-nil m)
-all-none stand (Q ∷ Ps) n e none P m =
-    let (y, here, more) = after-met (stand Q) (λ x. after (allEnds stand Ps) λ k. ok (plus (x .ends) k)) n e in
-    let (k, there, sum) = after-met (allEnds stand Ps) (λ k. ok (plus (y .ends) k)) n more in
-    let zero-sum : min (y .ends + k) most ≡ 0 = ok-inj sum ∙ none in
-    let own : y .ends ≡ 0 = omega (arith, zero-sum) in
-    let rest : k ≡ 0 = omega (arith, zero-sum) in
-    ⊎-elim
-    (λ (same : P ≡ Q). (y, ap stand same ∙ here, own))
-    (λ (later : List·Memᴰ P Ps). all-none stand Ps k there rest P later)
-    (List·Memᴰ·cases-cons m)
-
-none-all : (stand : List ℕ → Outcome Standing) (Ps : List (List ℕ)) → ((P : List ℕ) → List·Memᴰ P Ps → Clears (stand P))
-    → allEnds stand Ps ≡ ok 0
-unfolding allEnds plus
-none-all stand [] all = refl
-none-all stand (Q ∷ Ps) all =
-    let (y, here, own) = all Q (List·Memᴰ·head refl) in
-    rw (here, none-all stand Ps (λ P m. all P (List·Memᴰ·tail m)), own) refl
-
-night-zero : (o : Outcome ℕ) → nightLine o ≡ clearLine → o ≡ ok 0
-night-zero (ok n) e = ap ok (line-clear true n e .1)
-night-zero (refused n p) e = let z : _≡_ {A = Bool} false true = line-clear false 0 e .0 in absurd (false-true z)
-  where
-    false-true : _≡_ {A = Bool} false true → ⊥
-    false-true e = let z : _≡_ {A = ℕ} 0 1 = ap (λ (b : Bool). cond b 1 0) e in (let y : ⊥ = omega arith in y)
-
--- `clear` is said of a list of sequences and a row of stretches, of any number, only if every stretch was accepted and no occurrence of any
--- of the sequences, on either strand, ends anywhere in the text of all the stretches, across every cut
-pub night-clear : (Ps ss : List (List ℕ)) → nightLine (night Ps ss) ≡ clearLine → (P : List ℕ) → List·Memᴰ P Ps → SoundPattern P
-    → (T : Text) × (stretchesText ss ≡ ok T) × ((j : ℕ) → EndsOnEither P T j → ⊥)
-unfolding night
-night-clear Ps ss e P m sound =
-    let (y, met, none) = all-none (λ P. stands P begun ss) Ps 0 (night-zero (night Ps ss) e) refl P m in
-    stands-clear P ss y sound met none
-
 -- a file behind others: with T the text of those before, t its own and U that of those behind, segment j of it is reported exactly when an
 -- occurrence ends, on either strand, in segment `length T + j` of the whole text
 module _ (P : List ℕ) (T t U : Text) (x : Standing) (a : At P T x) where
@@ -236,39 +182,6 @@ module _ (P : List ℕ) (T t U : Text) (x : Standing) (a : At P T x) where
   pub numbered : (j : ℕ) → length T + j ≤ most → plus (x .segments) j ≡ length T + j
   unfolding plus
   numbered j l = let own : x .segments ≡ length T = omega (arith, a .segments) in omega (arith, own)
-
--- the last line is one of two
-line-or : (o : Outcome ℕ) → (o ≡ ok 0) ⊎ (nightLine o ≡ heldLine)
-unfolding lastLine
-line-or (ok zero) = inl refl
-line-or (ok (suc n)) =
-    let some : suc n ≡ 0 → ⊥ = λ h. (let z : ⊥ = omega arith in z) in
-    inr (rw (ne-eqb (suc n) 0 some) refl)
-line-or (refused n p) = inr refl
-
--- two ways to stand that clear the same sequences give the same last line
-same-line : (one two : List ℕ → Outcome Standing) → ((P : List ℕ) → Clears (one P) → Clears (two P))
-    → ((P : List ℕ) → Clears (two P) → Clears (one P)) → (Ps : List (List ℕ)) → nightLine (allEnds one Ps) ≡ nightLine (allEnds two Ps)
-same-line one two there back Ps =
-    let over : allEnds one Ps ≡ ok 0 → allEnds two Ps ≡ ok 0 = λ e. none-all two Ps (λ P m. there P (all-none one Ps 0 e refl P m)) in
-    let from : allEnds two Ps ≡ ok 0 → allEnds one Ps ≡ ok 0 = λ e. none-all one Ps (λ P m. back P (all-none two Ps 0 e refl P m)) in
-    ⊎-elim
-    (λ (e : allEnds one Ps ≡ ok 0). ap nightLine (e ∙ sym (over e)))
-    (λ (h : nightLine (allEnds one Ps) ≡ heldLine).
-    ⊎-elim
-    (λ (e : allEnds two Ps ≡ ok 0). ap nightLine (from e ∙ sym e))
-    (λ (k : nightLine (allEnds two Ps) ≡ heldLine). h ∙ sym k)
-    (line-or (allEnds two Ps)))
-    (line-or (allEnds one Ps))
-
--- the last line with `--first` is the last line without it, of every list of sequences and every row of stretches
-pub first-line : (Ps ss : List (List ℕ)) → nightLine (firstNight Ps ss) ≡ nightLine (night Ps ss)
-unfolding firstNight night
-first-line Ps ss =
-    same-line (λ P. halts P begun ss) (λ P. stands P begun ss)
-    (λ P c. (c .0, halts-stands P begun ss (c .0) refl (c .1) (c .2), c .2))
-    (λ P c. (c .0, stands-halts P begun ss (c .0) (c .1) (c .2) .1, c .2))
-    Ps
 
 -- a run leads from state to state
 run-state : (P : List ℕ) (st : ℕ) (T : Text) → 0 < length P → isState (length P) st ≡ true → isState (length P) (run P st T) ≡ true

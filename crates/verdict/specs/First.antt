@@ -7,7 +7,7 @@ use Rattle.text.specs.Refusal.{Outcome, ok, refused, after}
 use Rattle.text.specs.declared.strand.Strand.the-variants.{Given, Opposite}
 use Rattle.stretch.specs.Pieces.{openAt}
 use Rattle.search.specs.First.{Hit, endsIn, clear, firsting}
-use Rattle.verdict.specs.Standing.{plus, begun, allEnds}
+use Rattle.verdict.specs.Standing.{plus}
 use Rattle.verdict.specs.declared.standing.Standing.{Standing}
 use Rattle.verdict.specs.declared.first.Heard.{Heard}
 use Rattle.verdict.specs.declared.first.Stopped.{Stopped}
@@ -74,7 +74,3 @@ toldStopped (Stopped.Refused r) = refused (r .number) (r .place)
 unfoldable pub halts : List ℕ → Standing → List (List ℕ) → Outcome Standing
 halts P x [] = ok x
 halts P x (s ∷ ss) = after (halting P x s) λ h. halts P (reached h) ss
-
--- the sum of the first ends of the sequences of a list; the first refusal refuses all
-unfoldable pub firstNight : List (List ℕ) → List (List ℕ) → Outcome ℕ
-firstNight Ps ss = allEnds (λ P. halts P begun ss) Ps

@@ -1,4 +1,3 @@
--- What the desk decides: where a sequence stands behind stretches, and the lines that say so.
+-- What the desk decides: where a sequence stands behind stretches.
 pub mod Standing
 pub mod First
-pub mod Said

@@ -62,12 +62,3 @@ begun = record { given = record { bits = 1 }; opposite = record { bits = 1 }; se
 unfoldable pub stands : List ℕ → Standing → List (List ℕ) → Outcome Standing
 stands P x [] = ok x
 stands P x (s ∷ ss) = after (passing P x s mostInStretch) λ t. stands P (stood P x t) ss
-
--- the sum of what the sequences of a list end in, each where it stands; the first refusal refuses all
-unfoldable pub allEnds : (List ℕ → Outcome Standing) → List (List ℕ) → Outcome ℕ
-allEnds stand [] = ok 0
-allEnds stand (P ∷ Ps) = after (stand P) λ x. after (allEnds stand Ps) λ n. ok (plus (x .ends) n)
-
--- the same behind all stretches
-unfoldable pub night : List (List ℕ) → List (List ℕ) → Outcome ℕ
-night Ps ss = allEnds (λ P. stands P begun ss) Ps

@@ -1,10 +1,10 @@
--- `verdict::said::put_done` meets its contract: the two numbers, one behind another.
+-- `said::put::put_done` meets its contract: the two numbers, one behind another.
 use borrow.Author.Needs.{needs}
 use Rattle.lines.proofs.Putting.{put-more}
-use Rattle.verdict.specs.Said.{doneLine}
-use Rattle.verdict.proofs.Saying.{put-fits}
-use Rattle.verdict.proofs.said.put_done.Statement.{statement}
-use Rattle.verdict.proofs.said.put_done.Tie as tie
+use Rattle.said.specs.Said.{doneLine}
+use Rattle.said.proofs.Saying.{put-fits}
+use Rattle.said.proofs.put.put_done.Statement.{statement}
+use Rattle.said.proofs.put.put_done.Tie as tie
 
 returns : tie.Need-returns
 unfolding doneLine

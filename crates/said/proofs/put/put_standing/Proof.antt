@@ -1,9 +1,9 @@
--- `verdict::said::put_standing` meets its contract, whether the sequence ends anywhere or not.
+-- `said::put::put_standing` meets its contract, whether the sequence ends anywhere or not.
 use Rattle.lines.proofs.Putting.{put-more}
-use Rattle.verdict.proofs.Saying.{put-fits, clear-put, held-put}
+use Rattle.said.proofs.Saying.{put-fits, clear-put, held-put}
 use borrow.Author.Needs.{needs}
-use Rattle.verdict.proofs.said.put_standing.Statement.{statement}
-use Rattle.verdict.proofs.said.put_standing.Tie as tie
+use Rattle.said.proofs.put.put_standing.Statement.{statement}
+use Rattle.said.proofs.put.put_standing.Tie as tie
 
 put-number-requires : tie.Need-put-number-requires
 put-number-requires c κs = search needs

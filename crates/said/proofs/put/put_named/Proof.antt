@@ -1,9 +1,9 @@
--- `verdict::said::put_named` meets its contract: the word, the name and the line's end, one behind another.
+-- `said::put::put_named` meets its contract: the word, the name and the line's end, one behind another.
 use Rattle.lines.proofs.Putting.{put-more}
-use Rattle.verdict.specs.Said.{named}
+use Rattle.said.specs.Said.{named}
 use borrow.Author.Needs.{needs}
-use Rattle.verdict.proofs.said.put_named.Statement.{statement}
-use Rattle.verdict.proofs.said.put_named.Tie as tie
+use Rattle.said.proofs.put.put_named.Statement.{statement}
+use Rattle.said.proofs.put.put_named.Tie as tie
 
 returns : tie.Need-returns
 unfolding named

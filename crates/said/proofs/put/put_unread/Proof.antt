@@ -1,9 +1,9 @@
--- `verdict::said::put_unread` meets its contract.
+-- `said::put::put_unread` meets its contract.
 use borrow.Author.Needs.{needs}
-use Rattle.verdict.specs.Said.{unreadLine}
-use Rattle.verdict.proofs.Saying.{put-fits}
-use Rattle.verdict.proofs.said.put_unread.Statement.{statement}
-use Rattle.verdict.proofs.said.put_unread.Tie as tie
+use Rattle.said.specs.Said.{unreadLine}
+use Rattle.said.proofs.Saying.{put-fits}
+use Rattle.said.proofs.put.put_unread.Statement.{statement}
+use Rattle.said.proofs.put.put_unread.Tie as tie
 
 returns : tie.Need-returns
 unfolding unreadLine

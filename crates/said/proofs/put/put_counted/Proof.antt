@@ -1,9 +1,9 @@
--- `verdict::said::put_counted` meets its contract: the word, then the digits.
+-- `said::put::put_counted` meets its contract: the word, then the digits.
 use Rattle.lines.proofs.Putting.{put-more}
-use Rattle.verdict.specs.Said.{counted}
+use Rattle.said.specs.Said.{counted}
 use borrow.Author.Needs.{needs}
-use Rattle.verdict.proofs.said.put_counted.Statement.{statement}
-use Rattle.verdict.proofs.said.put_counted.Tie as tie
+use Rattle.said.proofs.put.put_counted.Statement.{statement}
+use Rattle.said.proofs.put.put_counted.Tie as tie
 
 returns : tie.Need-returns
 unfolding counted

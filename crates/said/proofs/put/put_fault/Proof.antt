@@ -1,10 +1,10 @@
--- `verdict::said::put_fault` meets its contract: the number of the line, then the words.
+-- `said::put::put_fault` meets its contract: the number of the line, then the words.
 use borrow.Author.Needs.{needs}
 use Rattle.lines.proofs.Putting.{put-more}
-use Rattle.verdict.specs.Said.{faultWords}
-use Rattle.verdict.proofs.Saying.{put-fits}
-use Rattle.verdict.proofs.said.put_fault.Statement.{statement}
-use Rattle.verdict.proofs.said.put_fault.Tie as tie
+use Rattle.said.specs.Said.{faultWords}
+use Rattle.said.proofs.Saying.{put-fits}
+use Rattle.said.proofs.put.put_fault.Statement.{statement}
+use Rattle.said.proofs.put.put_fault.Tie as tie
 
 returns : tie.Need-returns
 unfolding faultWords

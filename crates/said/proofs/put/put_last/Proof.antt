@@ -1,9 +1,9 @@
--- `verdict::said::put_last` meets its contract: clear only where neither test is met.
+-- `said::put::put_last` meets its contract: clear only where neither test is met.
 use borrow.Author.Needs.{needs}
 use borrow.Author.Tests.{not-true, not-false}
-use Rattle.verdict.proofs.Saying.{put-fits, last-part, last-held, last-clear}
-use Rattle.verdict.proofs.said.put_last.Statement.{statement}
-use Rattle.verdict.proofs.said.put_last.Tie as tie
+use Rattle.said.proofs.Saying.{put-fits, last-part, last-held, last-clear}
+use Rattle.said.proofs.put.put_last.Statement.{statement}
+use Rattle.said.proofs.put.put_last.Tie as tie
 
 returns : tie.Need-returns
 returns c =

@@ -11,10 +11,10 @@ use lib.Seq.{length-take-le}
 use Rattle.lines.specs.Decimal.{digits}
 use Rattle.lines.specs.Puts.{Put}
 use Rattle.lines.proofs.Putting.{put-length}
 use Rattle.verdict.specs.Standing.{plus}
-use Rattle.verdict.specs.Said.{endsWord, textWord, ofWord, clearWord, heldWord, segmentsWord, clearLine, heldLine, counted, named}
-use Rattle.verdict.specs.Said.{hitLine, standingLine, lastLine, Fits}
+use Rattle.said.specs.Said.{endsWord, textWord, ofWord, clearWord, heldWord, segmentsWord, clearLine, heldLine, counted, named}
+use Rattle.said.specs.Said.{hitLine, standingLine, lastLine, Fits}
 use Rattle.verdict.specs.declared.standing.Standing.{Standing}
 
 -- what is put from the start on stands in front of the buffer
 pub put-fits : {d xs out : List ℕ} {next : ℕ} → Put d 0 xs out next → Put d 0 xs out next × Fits next out

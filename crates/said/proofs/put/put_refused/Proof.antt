@@ -1,16 +1,10 @@
--- `verdict::said::put_hit` meets its contract: the label, the two numbers and the name, one behind another.
+-- `said::put::put_refused` meets its contract: the number, the place and the name, one behind another.
 use Rattle.lines.proofs.Putting.{put-more}
-use Rattle.verdict.specs.Said.{hitLine}
-use Rattle.verdict.proofs.Saying.{put-fits, hit-put}
+use Rattle.said.specs.Said.{refusedLine}
+use Rattle.said.proofs.Saying.{put-fits}
 use borrow.Author.Needs.{needs}
-use Rattle.verdict.proofs.said.put_hit.Statement.{statement}
-use Rattle.verdict.proofs.said.put_hit.Tie as tie
-
-plus-requires : tie.Need-plus-requires
-plus-requires c κs = search needs
-
-put-number-requires : tie.Need-put-number-requires
-put-number-requires c κs = search needs
+use Rattle.said.proofs.put.put_refused.Statement.{statement}
+use Rattle.said.proofs.put.put_refused.Tie as tie
 
 slice-aggregate-put-counted : tie.Need-slice-aggregate-put-counted
 slice-aggregate-put-counted c = search needs
@@ -34,22 +28,17 @@ same-length : tie.Need-same-length
 same-length c = search needs
 
 returns : tie.Need-returns
+unfolding refusedLine
 returns c =
     let d = c .before .before in
-    let k = d .before .before .before .before .before in
-    let n = k .before .before .before .before .before in
-    let l = n .before .before .before .before .before in
-    let p = l .before .before in
-    let all = put-more (put-more (put-more (l .put-number .ensures) (n .put-counted .ensures)) (k .put-counted2 .ensures))
-    (d .put-named .ensures) in
-    put-fits (hit-put _ _ _ _ (p .plus .ensures) all)
+    let p = d .before .before .before .before .before in
+    let n = p .before .before .before .before .before in
+    put-fits (put-more (put-more (n .put-counted .ensures) (p .put-counted2 .ensures)) (d .put-named .ensures))
 
-pub put-hit-spec : {M : Type 1} → statement M
-put-hit-spec =
+pub put-refused-spec : {M : Type 1} → statement M
+put-refused-spec =
     tie.close
     (tie.spec
-    plus-requires
-    put-number-requires
     slice-aggregate-put-counted
     put-counted-requires
     slice-aggregate-put-counted-2

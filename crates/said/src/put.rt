@@ -1,12 +1,12 @@
 // The lines that the desk prints, put into a buffer.
-use crate::standing::Standing;
-use crate::sum::plus;
 use lines::put_bytes;
 use lines::put_number;
 use text::Refusal;
+use verdict::Standing;
+use verdict::plus;
 ghost use Rattle.lines.specs.Puts.{Put};
-ghost use Rattle.verdict.specs.Said.{counted, named, hitLine, standingLine, refusedLine, unreadLine};
-ghost use Rattle.verdict.specs.Said.{lastLine, doneLine, faultWords, Fits};
+ghost use Rattle.said.specs.Said.{counted, named, hitLine, standingLine, refusedLine, unreadLine};
+ghost use Rattle.said.specs.Said.{lastLine, doneLine, faultWords, Fits};
 
 // A word and a number.
 fn put_counted(word: &[u8], number: u64, out: &mut [u8], at: usize) -> usize

@@ -1,0 +1,3 @@
+-- Laws of the lines, and the theorems about the last one.
+pub mod Theorems
+pub mod Saying
