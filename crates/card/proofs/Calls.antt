@@ -7,7 +7,8 @@ use Rattle.text.specs.Card.{Row, empty, join, ask}
 use Rattle.card.specs.declared.cards.Card.{Card as Held}
 use Rattle.card.specs.declared.answers.Made.{Made}
 use Rattle.card.specs.Cards.{cardIn}
-use Rattle.card.specs.Answers.{carding, made}
+use Rattle.rows.specs.Rows.{carding}
+use Rattle.card.specs.Answers.{made}
 
 -- `Card::empty`, `Card::of`, `Card::join`, and what is told of `Card::ask`
 abbrev pub emptying : List ℕ → Made

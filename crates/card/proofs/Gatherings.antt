@@ -18,7 +18,8 @@ use Rattle.search.specs.Chain.{stretchesText, Trail, seeks}
 use Rattle.search.proofs.Theorems.{seeks-stretches}
 use Rattle.text.specs.declared.strand.Strand.the-variants.{Given}
 use Rattle.card.specs.declared.cards.Card.{Card as Held}
-use Rattle.card.specs.Cards.{cardOut, rowOf}
+use Rattle.rows.specs.Held.{rowOf}
+use Rattle.card.specs.Cards.{cardOut}
 use Rattle.card.proofs.Calls.{making, joining, asking}
 use Rattle.card.proofs.TextCalls.{of-accepts, of-text, joining-texts, asking-text}
 

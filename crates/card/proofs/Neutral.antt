@@ -9,7 +9,8 @@ use Rattle.text.specs.Card.{padded, emptyCard, wellFormed}
 use Rattle.text.proofs.Cards.Formed.{well, take-padded}
 use Rattle.text.proofs.Cards.Neutral.{empty-left, empty-right}
 use Rattle.card.specs.declared.cards.Card.{Card as Held}
-use Rattle.card.specs.Cards.{cardIn, cardOut, Full}
+use Rattle.rows.specs.Held.{Full}
+use Rattle.card.specs.Cards.{cardIn, cardOut}
 use Rattle.card.specs.Answers.{accepted, made}
 use Rattle.card.proofs.Held.{in-out, out-in}
 use Rattle.card.proofs.Answered.{empty-sound}

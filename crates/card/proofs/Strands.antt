@@ -8,7 +8,8 @@ use Rattle.text.specs.Strand.{onStrand}
 use Rattle.text.specs.declared.strand.Strand.{Strand}
 use Rattle.text.proofs.Patterns.{SoundPattern, pattern-refused, sound-pattern}
 use Rattle.text.proofs.Strands.{strand-sound}
-use Rattle.card.specs.Answers.{carding, emptyOn, cardingOn}
+use Rattle.rows.specs.Rows.{carding}
+use Rattle.card.specs.Answers.{emptyOn, cardingOn}
 use Rattle.card.proofs.Answered.{empty-sound}
 
 module _ (P : List ℕ) (strand : Strand) where

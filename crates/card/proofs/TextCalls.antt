@@ -7,20 +7,19 @@ use mathlib.Core.Logic.{_↔_}
 use mathlib.Core.Bool.{true}
 use mathlib.Core.List.{List, [], _∷_, _++_, map}
 use borrow.Author.Tests.{leb-true}
-use lib.Dec.{leb, ltb}
+use lib.Dec.{leb}
 use lib.ListN.{length, getD, length-append, length-map}
 use lib.Seq.{take-length}
-use Rattle.text.specs.Letter.{base, every, firstNot}
 use Rattle.text.specs.Text.{Text}
 use Rattle.text.specs.Occurrence.{EndsIn}
 use Rattle.text.specs.State.{isState, fresh, run, marksFrom}
-use Rattle.text.specs.Refusal.{Outcome, ok, refused, after, pattern, greatestPattern}
+use Rattle.text.specs.Refusal.{Outcome, ok, refused}
 use Rattle.text.specs.Card.{Row, Card, mostSegments, row, firstEnd, ran, cardOf}
 use Rattle.text.proofs.Truth.{and-left, and-right}
-use Rattle.text.proofs.Outcomes.{ok-inj, after-met}
+use Rattle.text.proofs.Outcomes.{ok-inj}
 use Rattle.text.specs.declared.strand.Strand.the-variants.{Given}
 use Rattle.text.proofs.Strands.{strand-sound}
-use Rattle.text.proofs.Patterns.{SoundPattern, pattern-sound, pattern-after, sound-pattern}
+use Rattle.text.proofs.Patterns.{SoundPattern}
 use Rattle.text.proofs.Marks.{marks-length, run-append, marks-append}
 use Rattle.text.proofs.TextCards.{IsFirst, row-text, fresh-first, join-text, ask-text}
 use Rattle.stretch.specs.Bytes.{greatestStretch, wordBytes}
@@ -28,7 +27,6 @@ use Rattle.stretch.specs.Encoding.{encodeSegment, encode, bytesOf, all, writabl
 use Rattle.stretch.specs.Pieces.{mostInStretch}
 use Rattle.stretch.specs.Reading.{stretchOf}
 use Rattle.stretch.proofs.Stands.{Bytes}
-use Rattle.stretch.proofs.Refusals.{stretch-low}
 use Rattle.stretch.proofs.Stretches.{stretch-most}
 use Rattle.stretch.proofs.Decoding.{stretch-writable}
 use Rattle.stretch.proofs.Encoding.{segment-of}
@@ -36,10 +34,12 @@ use Rattle.search.specs.Answers.{Next}
 use Rattle.search.specs.Chain.{segmentsText, feeds, markOf}
 use Rattle.search.proofs.Entries.{fresh-state}
 use Rattle.search.proofs.Chains.{steps, feeds-steps, steps-marks, steps-states}
-use Rattle.card.specs.Cards.{cardOut, rowOf}
-use Rattle.card.specs.Answers.{carding, accepted, made}
+use Rattle.rows.specs.Held.{rowOf}
+use Rattle.card.specs.Cards.{cardOut}
+use Rattle.rows.specs.Rows.{carding, rowed}
+use Rattle.rows.proofs.Carded.{Carded, carded, carded-text}
+use Rattle.card.specs.Answers.{accepted, made}
 use Rattle.card.proofs.Held.{in-out}
-use Rattle.card.proofs.Numbers.{Numbered, demand-numbered}
 use Rattle.card.proofs.Calls.{making, joining, asking, Accepts}
 
 -- joining the cards of two texts makes the card of the texts end to end
@@ -53,48 +53,19 @@ pub asking-text : (P : List ℕ) (T : Text) → SoundPattern P → (st : ℕ) �
 asking-text P T s st l e = rw (in-out (cardOf P T)) (ask-text P T s st l e)
 
 module _ (P s : List ℕ) where
-  -- a refusal of `Card::of` has a number
-  carding-numbered : Numbered (carding P s)
-  unfolding carding pattern
-  carding-numbered =
-      demand-numbered (ltb 0 (length P)) 1 0 _ (λ e. omega arith)
-      (demand-numbered (leb (length P) greatestPattern) 2 0 _ (λ e. omega arith)
-      (demand-numbered (every base P) 3 (firstNot base P) _ (λ e. omega arith) (read (stretchOf s) refl)))
-    where
-      read : (o : Outcome Text) → stretchOf s ≡ o → Numbered (after o (λ t. ok (cardOf P t)))
-      read (ok t) e = tt
-      read (refused n p) e = λ z. omega (arith, stretch-low s n p e)
+  -- a card is accepted where its rows are
+  alike : (o : Outcome Card) → rowed o .refusal .number ≡ made o .refusal .number
+  alike (ok c) = refl
+  alike (refused n p) = refl
 
-  -- what an acceptance says
-  pub record Carded : Type 0 where
-    pub sound : SoundPattern P
-    pub text : Text
-    pub read : stretchOf s ≡ ok text
+  of-carded : Accepts (making P s) → Carded P s
+  of-carded z = carded P s (alike (carding P s) ∙ z)
 
-  of-carded : Accepts (making P s) → Carded
-  unfolding carding
-  of-carded z = either (carding P s) refl carding-numbered z
-    where
-      carded : (c : Card) → carding P s ≡ ok c → Carded
-      carded c e =
-          let (_, f, g) =
-          after-met (pattern P (ok (tt {0}))) (λ _. after (stretchOf s) (λ t. ok (cardOf P t))) c (sym (pattern-after P _) ∙ e) in
-          let (t, h, _) = after-met (stretchOf s) (λ t. ok (cardOf P t)) c g in
-          record { sound = pattern-sound P f; text = t; read = h }
-
-      either : (o : Outcome Card) → carding P s ≡ o → Numbered o → Accepts (made o) → Carded
-      either (ok c) e k z = carded c e
-      either (refused n p) e k z = absurd (k z)
-
-  carded-text : (c : Carded) → carding P s ≡ ok (cardOf P (c .text))
-  unfolding carding
-  carded-text c = sound-pattern P (c .sound) (after (stretchOf s) (λ t. ok (cardOf P t))) ∙ rw (c .read)
-
-  pub of-accepts : Accepts (making P s) ↔ Carded
-  of-accepts = (of-carded, λ c. ap (λ (o : Outcome Card). made o .refusal .number) (carded-text c))
+  pub of-accepts : Accepts (making P s) ↔ Carded P s
+  of-accepts = (of-carded, λ c. ap (λ (o : Outcome Card). made o .refusal .number) (carded-text P s c))
 
   pub of-text : (T : Text) → Accepts (making P s) → stretchOf s ≡ ok T → making P s ≡ accepted (cardOut (cardOf P T))
-  of-text T a e = ap made (carded-text (record { sound = of-carded a .sound; text = T; read = e }))
+  of-text T a e = ap made (carded-text P s (record { sound = of-carded a .sound; text = T; read = e }))
 
   -- a text of a stretch is far from the limit of a card
   few : (T : Text) → stretchOf s ≡ ok T → length T ≤ mostInStretch

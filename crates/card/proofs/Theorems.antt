@@ -22,11 +22,13 @@ use Rattle.stretch.specs.Pieces.{mostInStretch}
 use Rattle.search.specs.Chain.{segmentsText, stretchesText, Trail, seeks}
 use Rattle.text.specs.declared.strand.Strand.the-variants.{Given}
 use Rattle.card.specs.declared.cards.Card.{Card as Held}
-use Rattle.card.specs.Cards.{cardIn, cardOut, rowOf, Full}
+use Rattle.rows.specs.Held.{rowOf, Full}
+use Rattle.rows.proofs.Carded.{Carded}
+use Rattle.card.specs.Cards.{cardIn, cardOut}
 use Rattle.card.specs.Answers.{accepted}
 use Rattle.card.proofs.Calls.{emptying, making, joining, asking, Accepts}
 use Rattle.card.proofs.TextCalls
-use Rattle.card.proofs.TextCalls.{Carded, Fed}
+use Rattle.card.proofs.TextCalls.{Fed}
 use Rattle.card.proofs.Gatherings
 use Rattle.card.proofs.Gatherings.{gathering}
 use Rattle.card.proofs.Groupings

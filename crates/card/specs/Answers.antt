@@ -2,20 +2,16 @@
 use Prim.Native.Nat.{ℕ}
 use mathlib.Core.List.{List}
 use lib.ListN.{replicate}
-use Rattle.text.specs.Refusal.{Outcome, ok, refused, after, pattern, Answer}
-use Rattle.text.specs.Card.{Row, Card, cardOf, empty}
+use Rattle.text.specs.Refusal.{Outcome, ok, refused, pattern, Answer}
+use Rattle.text.specs.Card.{Row, Card, empty}
 use Rattle.text.specs.Strand.{onStrand}
 use Rattle.text.specs.declared.strand.Strand.{Strand}
-use Rattle.stretch.specs.Reading.{stretchOf}
+use Rattle.rows.specs.Rows.{carding}
 use Rattle.card.specs.declared.cards.Card.{Card as Held}
 use Rattle.card.specs.declared.answers.Made.{Made}
 use Rattle.card.specs.declared.answers.Asked.{Asked}
 use Rattle.card.specs.declared.answers.Asked.the-variants.{Told}
 use Rattle.card.specs.Cards.{cardOut}
-
--- the card of a stretch: 1, 2, 3, then those of the stretch
-unfoldable pub carding : List ℕ → List ℕ → Outcome Card
-carding P s = pattern P (after (stretchOf s) λ t. ok (cardOf P t))
 
 -- the card of no segments and of a stretch, of the pattern that a strand reads, behind 1, 2, 3 of the pattern as given
 unfoldable pub emptyOn : List ℕ → Strand → Outcome Card

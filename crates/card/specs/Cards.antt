@@ -1,36 +1,21 @@
 -- Cards as the calls hold them, in arrays of 64, and the cards of the definitions that they stand for.
-use Prim.Native.Nat.{ℕ, _^_, _<_, _≤_}
+use Prim.Native.Nat.{ℕ}
 use mathlib.Core.Path.{_≡_}
-use mathlib.Core.List.{List, [], _∷_, map}
-use mathlib.Core.Bool.{Bool, cond, _&&_}
+use mathlib.Core.List.{List}
+use mathlib.Core.Bool.{Bool, _&&_}
 use lib.Dec.{ltb, leb}
-use lib.ListN.{length, take, drop}
+use lib.ListN.{take, drop}
 use Rattle.text.specs.Letter.{base, every}
 use Rattle.text.specs.Compare.{same}
 use Rattle.text.specs.Refusal.{greatestPattern}
-use Rattle.text.specs.Card.{Row, Card, tabulate, padded, areRows}
+use Rattle.text.specs.Card.{Row, Card, padded, areRows}
+use Rattle.rows.specs.Held.{rowOf, rowsIn, exitsOf, firstsOf}
 use Rattle.card.specs.declared.cards.Card.{Card as Held}
 use Rattle.card.specs.declared.follow.Row.{Row as Pair}
 
--- a row, from its two numbers, and from what the code hands back
-abbrev pub rowOf : ℕ → ℕ → Row
-rowOf exit first = record { exit = exit; first = first }
-
+-- a row, from what the code hands back
 abbrev pub rowIn : Pair → Row
 rowIn r = rowOf (r .exit) (r .first)
-
--- the rows of a card, from its exits and its first ends
-unfoldable pub rowsIn : List ℕ → List ℕ → List Row
-rowsIn [] firsts = []
-rowsIn (e ∷ exits) [] = []
-rowsIn (e ∷ exits) (f ∷ firsts) = rowOf e f ∷ rowsIn exits firsts
-
--- the exits and the first ends of rows
-abbrev pub exitsOf : List Row → List ℕ
-exitsOf = map (λ (r : Row). r .exit)
-
-abbrev pub firstsOf : List Row → List ℕ
-firstsOf = map (λ (r : Row). r .first)
 
 -- the card that a held card stands for, and the held card that stands for a card
 abbrev pub cardIn : Held → Card
@@ -39,16 +24,6 @@ cardIn c = record { pattern = c .pattern; m = c .m; segments = c .segments; rows
 abbrev pub cardOut : Card → Held
 cardOut c =
     record { pattern = c .pattern; m = c .m; segments = c .segments; exits = exitsOf (c .rows); firsts = firstsOf (c .rows) }
-
--- 64 exits and 64 first ends
-pub record Full (exits firsts : List ℕ) : Type 0 where
-  pub states : length exits ≡ greatestPattern
-  pub ends : length firsts ≡ greatestPattern
-
--- 1 to 64 bases
-pub record Bases (m : ℕ) : Type 0 where
-  pub some : 0 < m
-  pub short : m ≤ greatestPattern
 
 -- the first m bytes are a pattern, and the others 0: the first four tests of `wellFormed`
 unfoldable pub isPadded : List ℕ → ℕ → Bool
@@ -62,7 +37,3 @@ rowsFrom m n exits firsts q = areRows m n q (drop q (rowsIn exits firsts))
 -- r is the test of the rows from b up to e: with that of the rows from e on, it is that of the rows from b on
 abbrev pub IsTest : ℕ → ℕ → List ℕ → List ℕ → ℕ → ℕ → Bool → Type 0
 IsTest m n exits firsts b e r = rowsFrom m n exits firsts b ≡ (r && rowsFrom m n exits firsts e)
-
--- the exits of the empty card: bit q alone in row q below m
-unfoldable pub lones : ℕ → List ℕ
-lones m = tabulate (λ q. cond (ltb q m) (2 ^ q) 0) greatestPattern

@@ -1,5 +1,3 @@
 -- Cards as the calls have them.
 pub mod Cards
 pub mod Answers
-pub mod RowStep
-pub mod Rows

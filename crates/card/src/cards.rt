@@ -5,10 +5,10 @@ use crate::answers::accepted;
 use crate::answers::refused;
 use crate::follow::follow;
 use crate::made::joined;
-use crate::made::nothing;
-use crate::over::by_way_of;
 use crate::test::same_pattern;
 use crate::test::well_formed;
+use rows::lone;
+use rows::over;
 use search::State;
 use text::Refusal;
 use text::pattern::PatternIs;
@@ -50,8 +50,13 @@ impl Card {
             PatternIs::Refused(wrong) => refused(wrong.number, wrong.place),
             PatternIs::Sound => {
                 let m = pattern.len();
-                let bytes = read_on(strand, pattern);
-                accepted(nothing(&bytes[..m]))
+                accepted(Card {
+                    pattern: read_on(strand, pattern),
+                    m: m as u8,
+                    segments: 0,
+                    exits: lone(m),
+                    firsts: [Card::NONE; Card::GREATEST_PATTERN],
+                })
             }
         }
     }
@@ -66,9 +71,20 @@ impl Card {
             PatternIs::Sound => {
                 let m = pattern.len();
                 let bytes = read_on(strand, pattern);
-                // A segment has at least 3 bytes.
-                let mut marks = [0u8; Card::GREATEST_STRETCH / 3];
-                by_way_of(&bytes[..m], stretch, &mut marks)
+                let rows = over(&bytes[..m], stretch);
+                let wrong = rows.refusal;
+                if wrong.number != 0 {
+                    return refused(wrong.number, wrong.place);
+                }
+                let exits = rows.exits;
+                let firsts = rows.firsts;
+                accepted(Card {
+                    pattern: bytes,
+                    m: m as u8,
+                    segments: rows.segments,
+                    exits,
+                    firsts,
+                })
             }
         }
     }

@@ -1,12 +1,8 @@
 // Cards: what a stretch does to a pattern, summed up so that an unchanged stretch is not read again.
 mod answers;
 mod cards;
-mod carry;
-mod ends;
 mod follow;
 mod made;
-mod over;
-mod rows;
 mod test;
 
 pub use answers::Asked;

@@ -1,57 +1,22 @@
-// Cards as they are made: the card of no segments, and the card of two neighbours.
+// The card of two neighbours, as it is made.
 use crate::cards::Card;
-use crate::ends::earlier;
-use crate::ends::later;
 use crate::follow::follow;
+use rows::earlier;
 ghost use mathlib.Core.Path.{_≡_};
-ghost use Prim.Native.Nat.{_≤_};
-ghost use lib.ListN.{length};
 ghost use Rattle.text.specs.Refusal.{ok};
-ghost use Rattle.text.specs.Card.{padded, emptyCard, join, joined};
-ghost use Rattle.card.specs.Cards.{cardIn, cardOut, lones};
+ghost use Rattle.text.specs.Card.{later, join, joined};
+ghost use Rattle.card.specs.Cards.{cardIn, cardOut};
 
-// The pattern's bytes: its bases, then 0.
-pub fn padded(pattern: &[u8]) -> [u8; Card::GREATEST_PATTERN]
-    requires { ⌜ length (now pattern) ≤ 64 ⌝ }
-    ensures { λ r. ⌜ r ≡ padded (now (pattern .entry)) ⌝ }
+// An end counted from `count` segments earlier; "none" stays "none". The sum of an end and a count is never cut off in a card that
+// has at most 4294967294 segments.
+fn later(count: u32, first: u32) -> u32
+    ensures { λ r. ⌜ r ≡ later count first ⌝ }
 {
-    let mut bytes = [0u8; Card::GREATEST_PATTERN];
-    let mut i = 0;
-    while i < pattern.len() {
-        bytes[i] = pattern[i];
-        i += 1;
-    }
-    bytes
-}
-
-// The exits of no segments: bit q alone in row q below m.
-fn lone(m: usize) -> [u64; Card::GREATEST_PATTERN]
-    requires { ⌜ m ≤ 64 ⌝ }
-    ensures { λ r. ⌜ r ≡ lones m ⌝ }
-{
-    let mut exits = [0u64; Card::GREATEST_PATTERN];
-    let mut q = 0;
-    while q < m {
-        exits[q] = 1 << q;
-        q += 1;
-    }
-    exits
-}
-
-// The card of no segments.
-pub fn nothing(pattern: &[u8]) -> Card
-    requires { ⌜ length (now pattern) ≤ 64 ⌝ }
-    ensures { λ r. ⌜ r ≡ cardOut (emptyCard (now (pattern .entry))) ⌝ }
-{
-    let m = pattern.len();
-    let bytes = padded(pattern);
-    let exits = lone(m);
-    Card {
-        pattern: bytes,
-        m: m as u8,
-        segments: 0,
-        exits,
-        firsts: [Card::NONE; Card::GREATEST_PATTERN],
+    let room = Card::NONE - count;
+    if first < room {
+        count + first
+    } else {
+        Card::NONE
     }
 }
 

@@ -1,16 +1,18 @@
 // The test of a card: whether it is as document 01 says, or malformed.
 use crate::cards::Card;
-use crate::made::padded;
 use text::compare::same;
 use text::pattern::PatternIs;
 use text::pattern::check;
 use text::state::low;
+use text::strand::Strand;
+use text::strand::read_on;
 ghost use mathlib.Core.Path.{_≡_};
 ghost use Prim.Native.Nat.{ℕ, _<_, _≤_};
 ghost use lib.ListN.{length};
 ghost use Rattle.text.specs.Bits.{low};
 ghost use Rattle.text.specs.Card.{isRow, areRows, wellFormed, samePattern};
-ghost use Rattle.card.specs.Cards.{cardIn, rowOf, rowsIn, isPadded, Full, IsTest};
+ghost use Rattle.rows.specs.Held.{rowOf, rowsIn, Full};
+ghost use Rattle.card.specs.Cards.{cardIn, isPadded, IsTest};
 
 // Whether the first m of 64 bytes are a pattern, and the others 0.
 fn is_padded(bytes: &[u8], m: usize) -> bool
@@ -21,7 +23,7 @@ fn is_padded(bytes: &[u8], m: usize) -> bool
     match check(bases) {
         PatternIs::Refused(_) => false,
         PatternIs::Sound => {
-            let again = padded(bases);
+            let again = read_on(Strand::Given, bases);
             same(bytes, &again)
         }
     }

@@ -1,20 +1,17 @@
--- `card::test::is_padded` meets its contract, by what `check`, `padded` and `same` ensure.
+-- `card::test::is_padded` meets its contract, by what `check`, `read_on` and `same` ensure.
 use mathlib.Core.Path.{sym, ap, _∙_}
 use Rattle.text.specs.Refusal.{toldPattern}
 use Rattle.text.specs.Compare.{same}
+use Rattle.text.specs.declared.strand.Strand.the-variants.{Given}
 use Rattle.text.proofs.Patterns.{pattern-sound}
-use Rattle.card.proofs.Formed.{head-long, head-short, padded-wrong, padded-right}
+use Rattle.text.proofs.Strands.{read-padded}
+use Rattle.card.proofs.Formed.{head-long, padded-wrong, padded-right}
 use borrow.Author.Needs.{needs}
 use Rattle.card.proofs.test.is_padded.Statement.{statement}
 use Rattle.card.proofs.test.is_padded.Tie as tie
 
 slice-aggregate-bases : tie.Need-slice-aggregate-bases
 slice-aggregate-bases c = head-long _ _ (c .before .before .pre .0) (c .before .before .pre .1)
-
-padded-requires : tie.Need-padded-requires
-padded-requires c κs =
-    let s = c .before .before .before .before .before in
-    head-short _ _ (s .pre .0) (s .pre .1)
 
 returns : tie.Need-returns
 returns c =
@@ -27,7 +24,9 @@ returns-2 c =
     let d = p .before in
     let s = d .before .before .before .before .before in
     let sound = pattern-sound _ (sym (d .before .before .check .ensures) ∙ ap toldPattern (d .enum-told2 .given .1)) in
-    c .same .ensures ∙ ap (same _) (p .padded .ensures) ∙ padded-right _ _ (s .pre .0) (s .pre .1) sound
+    c .same .ensures
+    ∙ ap (same _) (p .read-on .ensures ∙ read-padded Given _ (sound .short))
+    ∙ padded-right _ _ (s .pre .0) (s .pre .1) sound
 
 pub is-padded-spec : {M : Type 1} → statement M
 is-padded-spec =
@@ -37,7 +36,7 @@ is-padded-spec =
     (λ c κs. search needs)
     (λ c. search needs)
     (λ c. search needs)
-    padded-requires
+    (λ c κs. search needs)
     (λ c. search needs)
     (λ c κs. search needs)
     returns

@@ -1,30 +1,21 @@
--- `card::Card::empty` meets its contract, by what `check`, `read_on` and `nothing` ensure.
+-- `card::Card::empty` meets its contract, by what `check`, `read_on` and `lone` ensure.
 use borrow.Author.Needs.{needs}
+use native.Mathlib.Omega.{arith}
 use mathlib.Core.Path.{sym, ap, _∙_}
 use Rattle.text.specs.Refusal.{toldPattern}
 use Rattle.text.proofs.Patterns.{SoundPattern, pattern-sound}
-use Rattle.text.specs.Card.{emptyCard}
-use Rattle.search.proofs.ReadOns.{read-is, read-length, read-room, read-sound}
-use Rattle.card.specs.Cards.{cardOut}
-use Rattle.card.specs.Answers.{accepted, made}
-use Rattle.card.proofs.Strands.{empty-on-wrong, empty-on}
+use Rattle.card.specs.Answers.{made}
+use Rattle.card.proofs.Strands.{empty-on-wrong}
+use Rattle.card.proofs.Making.{nothing-made}
 use Rattle.card.proofs.cards.Card.empty.Statement.{statement}
 use Rattle.card.proofs.cards.Card.empty.Tie as tie
-use mathlib.Core.List.{List}
-use Prim.Native.Nat.{ℕ}
 
 -- the pattern was found sound
 sound : (c : tie.After-enum-told) → SoundPattern (c .before .before .before .before .args .pattern .now)
 sound c = pattern-sound _ (sym (c .before .before .check .ensures) ∙ ap toldPattern (c .enum-told .given .1))
 
-array-share-prefix-bytes : tie.Need-array-share-prefix-bytes
-array-share-prefix-bytes c = read-room _ _ _ (c .read-on .ensures) (sound (c .before))
-
-slice-aggregate-nothing : tie.Need-slice-aggregate-nothing
-slice-aggregate-nothing c = read-length _ _ _ (c .before .read-on .ensures) (sound (c .before .before))
-
-nothing-requires : tie.Need-nothing-requires
-nothing-requires c κs = read-sound _ _ _ (c .before .read-on .ensures) (sound (c .before .before)) .short
+cast-t8 : tie.Need-cast-t8
+cast-t8 c = let short = sound (c .before) .short in record { fits = omega arith }
 
 returns : tie.Need-returns
 returns c =
@@ -33,13 +24,8 @@ returns c =
     c .refused .ensures ∙ ap made (sym (empty-on-wrong _ _ _ _ wrong))
 
 returns-2 : tie.Need-returns-2
-returns-2 c =
-    let n = c .before in
-    let r = n .before .before in
-    let y = sound (r .before) in
-    c .accepted .ensures
-    ∙ ap accepted (n .nothing .ensures ∙ ap (λ (P : List ℕ). cardOut (emptyCard P)) (read-is _ _ _ (r .read-on .ensures) y))
-    ∙ ap made (sym (empty-on _ _ y))
+returns-2 c = let r = c .before .before in
+    c .accepted .ensures ∙ nothing-made _ _ _ (r .read-on .ensures) (sound (r .before)) _ (c .before .lone .ensures)
 
 pub empty-spec : {M : Type 1} → statement M
 empty-spec =
@@ -50,9 +36,8 @@ empty-spec =
     (λ c κs. search needs)
     (λ c. search needs)
     (λ c κs. search needs)
-    array-share-prefix-bytes
-    slice-aggregate-nothing
-    nothing-requires
+    cast-t8
+    (λ c κs. search needs)
     (λ c κs. search needs)
     returns
     returns-2)

@@ -1,0 +1,4 @@
+-- Rows as the calls tell them.
+pub mod Held
+pub mod RowStep
+pub mod Rows
