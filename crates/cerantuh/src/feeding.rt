@@ -1,25 +1,9 @@
 // The feed for C.
-use crate::block::code;
-use crate::block::two;
-use search::Fed;
-use search::State;
+use forms::feed;
 use text::strand::Strand;
 ghost use mathlib.Core.Path.{_≡_};
 ghost use Rattle.text.specs.declared.strand.Strand.the-variants.{Given, Opposite};
-ghost use Rattle.cerantuh.specs.Forms.{feedAnswer, feedBlock};
-
-// The state after a lone segment, and 1 where an occurrence ends in it, of the pattern as the strand reads it. The block's room is asked
-// last.
-fn form(pattern: &[u8], strand: Strand, state: u64, segment: &[u8], block: &mut [u8]) -> u64
-    ensures { λ r. ⌜ r ≡ feedAnswer (now (pattern .entry)) strand state (now (segment .entry)) (now (block .entry)) ⌝ }
-    ensures { λ r. ⌜ now (block .exit) ≡ feedBlock (now (pattern .entry)) strand state (now (segment .entry)) (now (block .entry)) ⌝ }
-{
-    let before = State { bits: state };
-    match before.feed(pattern, strand, segment) {
-        Fed::Refused(wrong) => code(wrong),
-        Fed::Next { state: after, ends } => two(after.bits, ends as u64, &mut *block),
-    }
-}
+ghost use Rattle.forms.specs.Forms.{feedAnswer, feedBlock};
 
 // The feed of the pattern as given.
 #[no_mangle]
@@ -27,7 +11,7 @@ pub extern "C" fn cerantuh_feed(pattern: &[u8], state: u64, segment: &[u8], bloc
     ensures { λ r. ⌜ r ≡ feedAnswer (now (pattern .entry)) Given state (now (segment .entry)) (now (block .entry)) ⌝ }
     ensures { λ r. ⌜ now (block .exit) ≡ feedBlock (now (pattern .entry)) Given state (now (segment .entry)) (now (block .entry)) ⌝ }
 {
-    form(pattern, Strand::Given, state, segment, &mut *block)
+    feed(pattern, Strand::Given, state, segment, &mut *block)
 }
 
 // The feed on the opposite strand.
@@ -41,5 +25,5 @@ pub extern "C" fn cerantuh_feed_opposite(
     ensures { λ r. ⌜ r ≡ feedAnswer (now (pattern .entry)) Opposite state (now (segment .entry)) (now (block .entry)) ⌝ }
     ensures { λ r. ⌜ now (block .exit) ≡ feedBlock (now (pattern .entry)) Opposite state (now (segment .entry)) (now (block .entry)) ⌝ }
 {
-    form(pattern, Strand::Opposite, state, segment, &mut *block)
+    feed(pattern, Strand::Opposite, state, segment, &mut *block)
 }

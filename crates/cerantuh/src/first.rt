@@ -1,28 +1,10 @@
 // The first hit for C: whether a stretch is clear, and if not, in which segment an occurrence ends first. What stands behind the hit is
 // not read. The stretches of a text are asked in order, the state behind each clear one handed to the next.
-use crate::block::code;
-use crate::block::two;
-use search::First;
-use search::State;
-use text::refusal;
+use forms::first_hit;
 use text::strand::Strand;
 ghost use mathlib.Core.Path.{_≡_};
 ghost use Rattle.text.specs.declared.strand.Strand.the-variants.{Given, Opposite};
-ghost use Rattle.cerantuh.specs.Forms.{firstAnswer, firstBlock};
-
-// The first ending segment, and no state; or "none", and the state behind the stretch; of the pattern as the strand reads it. The
-// block's room is asked last, of a hit too.
-fn form(pattern: &[u8], strand: Strand, state: u64, stretch: &[u8], block: &mut [u8]) -> u64
-    ensures { λ r. ⌜ r ≡ firstAnswer (now (pattern .entry)) strand state (now (stretch .entry)) (now (block .entry)) ⌝ }
-    ensures { λ r. ⌜ now (block .exit) ≡ firstBlock (now (pattern .entry)) strand state (now (stretch .entry)) (now (block .entry)) ⌝ }
-{
-    let before = State { bits: state };
-    match before.first(pattern, strand, stretch) {
-        First::Refused(wrong) => code(wrong),
-        First::Ends(segment) => two(segment as u64, 0, &mut *block),
-        First::None(after) => two(refusal::NO_SEGMENT as u64, after.bits, &mut *block),
-    }
-}
+ghost use Rattle.forms.specs.Forms.{firstAnswer, firstBlock};
 
 // The first hit of the pattern as given, from a state.
 #[no_mangle]
@@ -35,7 +17,7 @@ pub extern "C" fn cerantuh_first(
     ensures { λ r. ⌜ r ≡ firstAnswer (now (pattern .entry)) Given state (now (stretch .entry)) (now (block .entry)) ⌝ }
     ensures { λ r. ⌜ now (block .exit) ≡ firstBlock (now (pattern .entry)) Given state (now (stretch .entry)) (now (block .entry)) ⌝ }
 {
-    form(pattern, Strand::Given, state, stretch, &mut *block)
+    first_hit(pattern, Strand::Given, state, stretch, &mut *block)
 }
 
 // The first hit on the opposite strand, from a state of that strand's search.
@@ -49,5 +31,5 @@ pub extern "C" fn cerantuh_first_opposite(
     ensures { λ r. ⌜ r ≡ firstAnswer (now (pattern .entry)) Opposite state (now (stretch .entry)) (now (block .entry)) ⌝ }
     ensures { λ r. ⌜ now (block .exit) ≡ firstBlock (now (pattern .entry)) Opposite state (now (stretch .entry)) (now (block .entry)) ⌝ }
 {
-    form(pattern, Strand::Opposite, state, stretch, &mut *block)
+    first_hit(pattern, Strand::Opposite, state, stretch, &mut *block)
 }

@@ -1,5 +1,4 @@
 // The C forms of the searches, the first hit and the feed, for the release tool. include/cerantuh.h is their C side.
-mod block;
 mod feeding;
 mod first;
 mod from;

@@ -1,96 +1,13 @@
-// The searches for C. The block's room is asked before the search, since a search that is accepted has written its marks.
-use crate::block::code;
-use crate::block::put;
-use search::Searched;
-use search::by_bits;
-use search::by_borders;
-use search::either;
-use stretch::Checked;
-use text::pattern::PatternIs;
-use text::pattern::check;
-use text::refusal;
+// The searches for C.
+use forms::Search;
+use forms::search_either;
+use forms::search_strand;
 use text::strand::Strand;
 ghost use mathlib.Core.Path.{_≡_};
-ghost use Prim.Native.Nat.{_^_, _≤_, _<_};
-ghost use lib.ListN.{length};
-ghost use Rattle.stretch.specs.Answers.{leftBy};
-ghost use Rattle.text.specs.Strand.{onStrand, opposite};
-ghost use Rattle.search.specs.Answers.{sumsOf, marked, toldSearched};
+ghost use Rattle.text.specs.Strand.{opposite};
+ghost use Rattle.search.specs.Answers.{sumsOf, marked};
 ghost use Rattle.search.specs.Either.{eitherMarks, eitherSums};
-ghost use Rattle.cerantuh.specs.Forms.{coded, sumsBlock, searchingInto, searchAnswer, searchMarks, searchBlock};
-
-// The bytes of a search's results.
-const SEARCH_BLOCK: usize = 24;
-
-// The answer where there is no room for the results: what the search refuses before 10, else 10. Nothing is written.
-fn roomless(pattern: &[u8], stretch: &[u8]) -> u64
-    ensures { λ r. ⌜ r ≡ coded (searchingInto (now (pattern .entry)) (now (stretch .entry)) 0 0) ⌝ }
-{
-    match check(pattern) {
-        PatternIs::Refused(wrong) => code(wrong),
-        PatternIs::Sound => match stretch::check(stretch) {
-            Checked::Refused(wrong) => code(wrong),
-            Checked::Sound { .. } => refusal::BUFFER_SHORT,
-        },
-    }
-}
-
-// The answer of a search, with its results in a block that has room for them.
-fn told(searched: Searched, block: &mut [u8]) -> u64
-    requires { ⌜ (24 ≤ length (now block)) × (coded (toldSearched searched) < 2 ^ 64) ⌝ }
-    ensures { λ r. ⌜ r ≡ coded (toldSearched searched) ⌝ }
-    ensures { λ r. ⌜ now (block .exit) ≡ leftBy sumsBlock (toldSearched searched) (now (block .entry)) ⌝ }
-{
-    match searched {
-        Searched::Refused(wrong) => code(wrong),
-        Searched::Marked {
-            segments,
-            size,
-            ends,
-        } => {
-            put(segments as u64, &mut *block, 0);
-            put(size as u64, &mut *block, 8);
-            put(ends as u64, &mut *block, 16);
-            0
-        }
-    }
-}
-
-// Which search a form runs.
-enum Search {
-    Bits,
-    Borders,
-}
-
-// A search form: the block's room first, then the search, then its results.
-fn form(
-    search: Search,
-    pattern: &[u8],
-    strand: Strand,
-    stretch: &[u8],
-    marks: &mut [u8],
-    block: &mut [u8],
-) -> u64
-    ensures { λ r. ⌜ r ≡ searchAnswer (now (pattern .entry)) (now (stretch .entry)) (now (marks .entry)) (now (block .entry)) ⌝ }
-    ensures { λ r. ⌜ now (marks .exit) ≡ searchMarks (marked (onStrand strand (now (pattern .entry))))
-        (now (pattern .entry)) (now (stretch .entry)) (now (marks .entry)) (now (block .entry)) ⌝ }
-    ensures { λ r. ⌜ now (block .exit) ≡ searchBlock (sumsOf (onStrand strand (now (pattern .entry))))
-        (now (pattern .entry)) (now (stretch .entry)) (now (marks .entry)) (now (block .entry)) ⌝ }
-{
-    if block.len() < SEARCH_BLOCK {
-        return roomless(pattern, stretch);
-    }
-    match search {
-        Search::Bits => {
-            let searched = by_bits(pattern, strand, stretch, &mut *marks);
-            told(searched, &mut *block)
-        }
-        Search::Borders => {
-            let searched = by_borders(pattern, strand, stretch, &mut *marks);
-            told(searched, &mut *block)
-        }
-    }
-}
+ghost use Rattle.forms.specs.Forms.{searchAnswer, searchMarks, searchBlock};
 
 // The search by bit-vectors.
 #[no_mangle]
@@ -106,7 +23,7 @@ pub extern "C" fn cerantuh_search_bits(
     ensures { λ r. ⌜ now (block .exit) ≡ searchBlock (sumsOf (now (pattern .entry)))
         (now (pattern .entry)) (now (stretch .entry)) (now (marks .entry)) (now (block .entry)) ⌝ }
 {
-    form(
+    search_strand(
         Search::Bits,
         pattern,
         Strand::Given,
@@ -130,7 +47,7 @@ pub extern "C" fn cerantuh_search_borders(
     ensures { λ r. ⌜ now (block .exit) ≡ searchBlock (sumsOf (now (pattern .entry)))
         (now (pattern .entry)) (now (stretch .entry)) (now (marks .entry)) (now (block .entry)) ⌝ }
 {
-    form(
+    search_strand(
         Search::Borders,
         pattern,
         Strand::Given,
@@ -154,7 +71,7 @@ pub extern "C" fn cerantuh_search_bits_opposite(
     ensures { λ r. ⌜ now (block .exit) ≡ searchBlock (sumsOf (opposite (now (pattern .entry))))
         (now (pattern .entry)) (now (stretch .entry)) (now (marks .entry)) (now (block .entry)) ⌝ }
 {
-    form(
+    search_strand(
         Search::Bits,
         pattern,
         Strand::Opposite,
@@ -178,7 +95,7 @@ pub extern "C" fn cerantuh_search_borders_opposite(
     ensures { λ r. ⌜ now (block .exit) ≡ searchBlock (sumsOf (opposite (now (pattern .entry))))
         (now (pattern .entry)) (now (stretch .entry)) (now (marks .entry)) (now (block .entry)) ⌝ }
 {
-    form(
+    search_strand(
         Search::Borders,
         pattern,
         Strand::Opposite,
@@ -202,9 +119,5 @@ pub extern "C" fn cerantuh_search_either(
     ensures { λ r. ⌜ now (block .exit) ≡ searchBlock (eitherSums (now (pattern .entry)))
         (now (pattern .entry)) (now (stretch .entry)) (now (marks .entry)) (now (block .entry)) ⌝ }
 {
-    if block.len() < SEARCH_BLOCK {
-        return roomless(pattern, stretch);
-    }
-    let searched = either(pattern, stretch, &mut *marks);
-    told(searched, &mut *block)
+    search_either(pattern, stretch, &mut *marks, &mut *block)
 }

@@ -1,0 +1,2 @@
+-- What the C forms answer.
+pub mod Forms
