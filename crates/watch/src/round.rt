@@ -96,11 +96,10 @@ pub fn step(stretch: &[u8], i: usize, item: Watched, round: Round) -> Round
     ensures { λ r. ⌜ r ≡ stepOf (textOf (now (stretch .entry))) i item round ⌝ }
 {
     match round {
-        Round::Refused(wrong) => Round::Refused(wrong),
         Round::Asking => asked(i, item),
         Round::Seeking => sought(stretch, item),
-        Round::Found { label, segment } => Round::Found { label, segment },
         Round::Marking(bits) => marked(stretch, i, item, bits),
+        _ => round,
     }
 }
 
@@ -122,11 +121,8 @@ pub fn turned(stretch: &[u8], all: bool, round: Round) -> Round
     ensures { λ r. ⌜ r ≡ turnedOf (now (stretch .entry)) all round ⌝ }
 {
     match round {
-        Round::Refused(wrong) => Round::Refused(wrong),
         Round::Asking => opened(stretch, all),
-        Round::Seeking => Round::Seeking,
-        Round::Found { label, segment } => Round::Found { label, segment },
-        Round::Marking(bits) => Round::Marking(bits),
+        _ => round,
     }
 }
 
@@ -136,10 +132,8 @@ pub fn sighted(round: Round) -> Found
 {
     match round {
         Round::Refused(wrong) => Found::Refused(wrong),
-        Round::Asking => Found::None,
-        Round::Seeking => Found::None,
         Round::Found { label, segment } => Found::Ends { label, segment },
-        Round::Marking(_) => Found::None,
+        _ => Found::None,
     }
 }
 
@@ -163,12 +157,6 @@ pub fn put_marks(n: usize, round: Round, marks: &mut [u8]) -> Listed
 {
     match round {
         Round::Refused(wrong) => Listed::Refused(wrong),
-        Round::Asking => Listed::Marked,
-        Round::Seeking => Listed::Marked,
-        Round::Found {
-            label: _,
-            segment: _,
-        } => Listed::Marked,
         Round::Marking(bits) => {
             if marks.len() < n {
                 return Listed::Refused(Refusal {
@@ -179,5 +167,6 @@ pub fn put_marks(n: usize, round: Round, marks: &mut [u8]) -> Listed
             put_bits(bits, n, &mut *marks);
             Listed::Marked
         }
+        _ => Listed::Marked,
     }
 }

@@ -1,80 +1,56 @@
-use mathlib.Core.Path.{sym, ap, subst, _∙_}
-use Rattle.watch.specs.Rounds.{Ready, stepOf}
+-- `watch::round::step` meets its contract, arm by arm.
+use mathlib.Core.Path.{_≡_, refl, sym, ap, subst, _∙_}
+use mathlib.Core.List.{[], _∷_}
+use Prim.Native.Nat.{ℕ}
+use denote.Enum.Declared.{tagOf}
+use types.Run.{OneOf, miss}
+use Rattle.watch.specs.declared.round.Round.{Round}
+use Rattle.watch.specs.declared.round.Round.the-variants.{Asking, Seeking, Marking}
+use Rattle.watch.specs.declared.watched.Watched.{Watched}
+use Rattle.text.specs.Text.{Text}
+use Rattle.watch.specs.Rounds.{textOf, Ready, stepOf}
+use Rattle.watch.proofs.round.Round.{the-type}
 use borrow.Author.Needs.{needs}
 use Rattle.watch.proofs.round.step.Statement.{statement}
 use Rattle.watch.proofs.round.step.Tie as tie
-use Rattle.watch.proofs.round.step.Reads as reads
-use Rattle.watch.proofs.round.step.Lts as lts
-use Rattle.watch.proofs.round.asked.Reads as asked-reads
-use Rattle.watch.proofs.round.marked.Reads as marked-reads
-use Rattle.watch.proofs.round.sought.Reads as sought-reads
 
--- src/round.rt:107:24
-enum-known-round : tie.Need-enum-known-round
-enum-known-round c = search needs
-
--- src/round.rt:108:26
-enum-told : tie.Need-enum-told
-enum-told c = search needs
-
--- src/round.rt:108:26
-asked-requires : tie.Need-asked-requires
-asked-requires c κs = search needs
-
--- src/round.rt:109:27
-enum-told-2 : tie.Need-enum-told-2
-enum-told-2 c = search needs
-
--- src/round.rt:109:27
 sought-requires : tie.Need-sought-requires
 sought-requires c κs = subst (Ready _ _ _) (c .enum-told2 .given .1) (c .before .before .before .pre)
 
--- src/round.rt:110:24
-enum-known-round-2 : tie.Need-enum-known-round-2
-enum-known-round-2 c = search needs
-
--- src/round.rt:111:24
-enum-known-round-3 : tie.Need-enum-known-round-3
-enum-known-round-3 c = search needs
-
--- src/round.rt:111:33
 marked-requires : tie.Need-marked-requires
-marked-requires c κs = subst (Ready _ _ _) (c .before .round3 .given .1) (c .before .before .before .before .pre)
+marked-requires c κs = subst (Ready _ _ _) (c .before .round .given .1) (c .before .before .before .before .pre)
 
--- src/round.rt:102:1
 returns : tie.Need-returns
-returns c = sym (ap (stepOf _ _ _) (c .before .round .given .1))
+returns c = c .asked .ensures ∙ sym (ap (stepOf _ _ _) (c .before .enum-told .given .1))
 
--- src/round.rt:102:1
 returns-2 : tie.Need-returns-2
-returns-2 c = c .asked .ensures ∙ sym (ap (stepOf _ _ _) (c .before .enum-told .given .1))
+returns-2 c = c .sought .ensures ∙ sym (ap (stepOf _ _ _) (c .before .enum-told2 .given .1))
 
--- src/round.rt:102:1
 returns-3 : tie.Need-returns-3
-returns-3 c = c .sought .ensures ∙ sym (ap (stepOf _ _ _) (c .before .enum-told2 .given .1))
+returns-3 c = c .marked .ensures ∙ sym (ap (stepOf _ _ _) (c .before .before .round .given .1))
 
--- src/round.rt:102:1
+-- a round that is over stays
+stays : (t : Text) (i : ℕ) (w : Watched) (r : Round) → OneOf (0 ∷ 3 ∷ []) (tagOf the-type r) → r ≡ stepOf t i w r
+stays t i w (Round.Refused x) k = refl
+stays t i w Asking k = absurd (miss (0 ∷ 3 ∷ []) 1 tt k)
+stays t i w Seeking k = absurd (miss (0 ∷ 3 ∷ []) 2 tt k)
+stays t i w (Round.Found l g) k = refl
+stays t i w (Marking b) k = absurd (miss (0 ∷ 3 ∷ []) 4 tt k)
+
 returns-4 : tie.Need-returns-4
-returns-4 c = sym (ap (stepOf _ _ _) (c .before .round2 .given .1))
-
--- src/round.rt:102:1
-returns-5 : tie.Need-returns-5
-returns-5 c = c .marked .ensures ∙ sym (ap (stepOf _ _ _) (c .before .before .round3 .given .1))
+returns-4 c = let a = c .before .before .args in stays (textOf (a .stretch .now)) (a .i) (a .item) (a .round) (c .match .keys4)
 
 pub step-spec : {M : Type 1} → statement M
 step-spec =
     tie.close
     (tie.spec
-    enum-known-round
-    enum-told
-    asked-requires
-    enum-told-2
+    (λ c. search needs)
+    (λ c κs. search needs)
+    (λ c. search needs)
     sought-requires
-    enum-known-round-2
-    enum-known-round-3
+    (λ c. search needs)
     marked-requires
     returns
     returns-2
     returns-3
-    returns-4
-    returns-5)
+    returns-4)

@@ -1,68 +1,31 @@
-use mathlib.Core.Path.{sym, ap, _∙_}
+-- `watch::round::turned` meets its contract, arm by arm.
+use mathlib.Core.Bool.{Bool}
+use mathlib.Core.Path.{_≡_, refl, sym, ap, _∙_}
+use mathlib.Core.List.{List, [], _∷_}
+use Prim.Native.Nat.{ℕ}
+use denote.Enum.Declared.{tagOf}
+use types.Run.{OneOf, miss}
+use Rattle.watch.specs.declared.round.Round.{Round}
+use Rattle.watch.specs.declared.round.Round.the-variants.{Asking, Seeking, Marking}
 use Rattle.watch.specs.Rounds.{turnedOf}
+use Rattle.watch.proofs.round.Round.{the-type}
 use borrow.Author.Needs.{needs}
 use Rattle.watch.proofs.round.turned.Statement.{statement}
 use Rattle.watch.proofs.round.turned.Tie as tie
-use Rattle.watch.proofs.round.turned.Reads as reads
-use Rattle.watch.proofs.round.turned.Lts as lts
-use Rattle.watch.proofs.round.opened.Reads as opened-reads
 
--- src/round.rt:133:24
-enum-known-round : tie.Need-enum-known-round
-enum-known-round c = search needs
-
--- src/round.rt:134:26
-enum-told : tie.Need-enum-told
-enum-told c = search needs
-
--- src/round.rt:134:26
-opened-requires : tie.Need-opened-requires
-opened-requires c κs = search needs
-
--- src/round.rt:135:27
-enum-told-2 : tie.Need-enum-told-2
-enum-told-2 c = search needs
-
--- src/round.rt:136:24
-enum-known-round-2 : tie.Need-enum-known-round-2
-enum-known-round-2 c = search needs
-
--- src/round.rt:137:24
-enum-known-round-3 : tie.Need-enum-known-round-3
-enum-known-round-3 c = search needs
-
--- src/round.rt:129:1
 returns : tie.Need-returns
-returns c = sym (ap (turnedOf _ _) (c .before .round .given .1))
+returns c = c .opened .ensures ∙ sym (ap (turnedOf _ _) (c .before .enum-told .given .1))
 
--- src/round.rt:129:1
+-- only the round that asks is turned
+stays : (s : List ℕ) (all : Bool) (r : Round) → OneOf (0 ∷ 2 ∷ 3 ∷ 4 ∷ []) (tagOf the-type r) → r ≡ turnedOf s all r
+stays s all (Round.Refused w) k = refl
+stays s all Asking k = absurd (miss (0 ∷ 2 ∷ 3 ∷ 4 ∷ []) 1 tt k)
+stays s all Seeking k = refl
+stays s all (Round.Found l g) k = refl
+stays s all (Marking b) k = refl
+
 returns-2 : tie.Need-returns-2
-returns-2 c = c .opened .ensures ∙ sym (ap (turnedOf _ _) (c .before .enum-told .given .1))
-
--- src/round.rt:129:1
-returns-3 : tie.Need-returns-3
-returns-3 c = search needs
-
--- src/round.rt:129:1
-returns-4 : tie.Need-returns-4
-returns-4 c = sym (ap (turnedOf _ _) (c .before .round2 .given .1))
-
--- src/round.rt:129:1
-returns-5 : tie.Need-returns-5
-returns-5 c = sym (ap (turnedOf _ _) (c .before .round3 .given .1))
+returns-2 c = let a = c .before .before .args in stays (a .stretch .now) (a .all) (a .round) (c .match .keys2)
 
 pub turned-spec : {M : Type 1} → statement M
-turned-spec =
-    tie.close
-    (tie.spec
-    enum-known-round
-    enum-told
-    opened-requires
-    enum-told-2
-    enum-known-round-2
-    enum-known-round-3
-    returns
-    returns-2
-    returns-3
-    returns-4
-    returns-5)
+turned-spec = tie.close (tie.spec (λ c. search needs) (λ c κs. search needs) returns returns-2)
