@@ -5,7 +5,6 @@ use search::Fed;
 use search::State;
 use text::strand::Strand;
 ghost use mathlib.Core.Path.{_≡_};
-ghost use Rattle.text.specs.declared.strand.Strand.the-variants.{Given, Opposite};
 ghost use Rattle.forms.specs.Forms.{feedAnswer, feedBlock};
 
 // The state after a lone segment, and 1 where an occurrence ends in it, of the pattern as the strand reads it. The block's room is asked

@@ -7,7 +7,6 @@ use search::State;
 use text::refusal;
 use text::strand::Strand;
 ghost use mathlib.Core.Path.{_≡_};
-ghost use Rattle.text.specs.declared.strand.Strand.the-variants.{Given, Opposite};
 ghost use Rattle.forms.specs.Forms.{firstAnswer, firstBlock};
 
 // The first ending segment, and no state; or "none", and the state behind the stretch; of the pattern as the strand reads it. The

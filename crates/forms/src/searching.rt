@@ -14,7 +14,7 @@ ghost use mathlib.Core.Path.{_≡_};
 ghost use Prim.Native.Nat.{_^_, _≤_, _<_};
 ghost use lib.ListN.{length};
 ghost use Rattle.stretch.specs.Answers.{leftBy};
-ghost use Rattle.text.specs.Strand.{onStrand, opposite};
+ghost use Rattle.text.specs.Strand.{onStrand};
 ghost use Rattle.search.specs.Answers.{sumsOf, marked, toldSearched};
 ghost use Rattle.search.specs.Either.{eitherMarks, eitherSums};
 ghost use Rattle.forms.specs.Forms.{coded, sumsBlock, searchingInto, searchAnswer, searchMarks, searchBlock};
