@@ -9,22 +9,4 @@ pub const SEGMENTS: usize = 18;
 pub const MARKED: usize = 19;
 
 // What is compared.
-pub const LISTS: usize = 54;
-
-pub const CUTS: usize = 55;
-
-pub const WRITES: usize = 56;
-
-pub const CHECKS: usize = 57;
-
-pub const READS: usize = 58;
-
-pub const SEARCHES: usize = 59;
-
-pub const FEEDS: usize = 60;
-
-pub const CARDS: usize = 61;
-
-pub const JOINS: usize = 62;
-
-pub const EITHER: usize = 63;
+pub const SEARCHES: usize = 54;

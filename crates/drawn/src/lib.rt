@@ -1,16 +1,15 @@
-// Texts, patterns and damaged stretches that look random, all drawn from a number: the same number gives the same again.
-mod damaging;
+// Texts that look random, drawn from a number: the same number gives the same again. The letters that they are made of serve patterns too.
 mod masks;
 mod numbers;
-mod patterns;
 mod puts;
 mod texts;
 
-pub use damaging::damage;
+pub use masks::any_letter;
+pub use masks::stray;
 pub use numbers::below;
 pub use numbers::seed;
-pub use patterns::pattern;
-pub use patterns::spoil;
+pub use puts::letter;
+pub use puts::put_letters;
 pub use texts::segments;
 pub use texts::stretch;
 pub use texts::text;

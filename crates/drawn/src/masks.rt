@@ -1,9 +1,9 @@
 // Letters of texts as references have them: some in lower case, some unknown; and bytes that are no letters.
 use crate::numbers::below;
 use crate::puts::letter;
+use places::number_at;
+use places::put;
 use std::num::wrapping_add_usize;
-use straight::number_at;
-use straight::put;
 
 // A base as a text may have it, by a number below 32: unknown, in lower case, or as it is.
 fn masked(base: usize, kind: usize) -> u8 {

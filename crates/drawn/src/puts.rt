@@ -1,7 +1,7 @@
 // Bytes put into a buffer, as far as there is room.
 use crate::numbers::below;
+use places::put;
 use std::num::wrapping_add_usize;
-use straight::put;
 
 // A number of two bytes, low byte first.
 pub fn put_word(out: &mut [u8], at: usize, number: usize) {

@@ -5,13 +5,13 @@ use crate::numbers::below;
 use crate::numbers::seed;
 use crate::puts::put_letters;
 use crate::puts::put_word;
+use places::part;
+use places::put;
+use places::put_part;
+use places::repeats;
+use places::segment_at;
 use std::num::wrapping_add_usize;
 use std::num::wrapping_sub_usize;
-use straight::part;
-use straight::put;
-use straight::put_part;
-use straight::repeats;
-use straight::segment_at;
 
 // The place behind what was put, and how many variants or segments there are.
 struct Made {

@@ -1,22 +1,55 @@
-// Runs examples on the library's calls. Standard input has them, a line each: a call, what it is given, and behind = or ! what it is
-// to answer. Prints how many there were of each group, the first that differs, and the counts.
-mod bytes;
+// Runs examples of searches, feeds and states on the library's calls. Standard input has them, a line each: a call, what it is given, and
+// behind = or ! what it is to answer. Prints how many there were of each group, the first that differs, and the counts.
 mod calls;
-mod cards;
-mod judging;
-mod lists;
-mod words;
 
-use judging::judged;
-use straight::part;
-use tally::report;
+use examples::Line;
+use examples::call;
+use examples::tell;
+use examples::wanted;
+use places::part;
+use tally::Answer;
+use tally::Tally;
+
+// The answer of a call, which is known by its first letter: feed, lengths, search, united; S is a search done the other way. A line of
+// no known call has none that is right.
+fn answer(call: usize, line: &[u8]) -> Answer {
+    match call {
+        83 | 115 | 117 => calls::sought(call, line),
+        102 => calls::feed(line),
+        108 => calls::lengths(line),
+        _ => Answer::refused(101, 0),
+    }
+}
+
+// What a line counts. A search is done both ways.
+fn judge(tally: Tally, group: usize, line: &[u8]) -> Tally {
+    let call = call(line);
+    if call == 0 {
+        return tally;
+    }
+    let t = tally.compare(group, answer(call, line), wanted(line));
+    if call != 115 {
+        return t;
+    }
+    t.compare(group, answer(83, line), wanted(line))
+}
+
+// Every line of the input, known by its number from 1 on.
+fn judged(input: &[u8]) -> Tally {
+    let mut tally = Tally::NONE;
+    let mut line = Line::NONE;
+    let mut k = 0;
+    while k < input.len() {
+        line = line.next(input);
+        k += 1;
+        tally = judge(tally.next(k as u64), line.group, line.of(input));
+    }
+    tally
+}
 
 fn main() {
     let mut input = [0u8; 40000];
     let n = io::read_full(0, &mut input);
-    let mut names = [0u8; 1024];
-    let tally = judged(part(&input, 0, n), &mut names);
-    let mut out = [0u8; 4096];
-    let end = report(tally, &names, b" examples, ", &mut out);
-    io::write_all(1, part(&out, 0, end));
+    let examples = part(&input, 0, n);
+    tell(judged(examples), examples);
 }

@@ -1,7 +1,7 @@
 // A list by value, which is made record by record.
 use crate::lending::first_in;
 use crate::lending::mark_in;
-use straight::put_part;
+use places::put_part;
 use text::refusal::Refusal;
 use watch::Found;
 use watch::Listed;

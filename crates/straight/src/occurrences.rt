@@ -1,11 +1,11 @@
 // The search, straight from the definition of an occurrence: every length of P is tried at every variant. A set of lengths is a
 // number with their bits; with bit 0 an occurrence may start afresh.
-use crate::meanings::alike;
-use crate::parts::letters_at;
-use crate::parts::number_at;
-use crate::parts::part;
-use crate::parts::skip;
 use crate::reader::Verdict;
+use places::alike;
+use places::letters_at;
+use places::number_at;
+use places::part;
+use places::skip;
 use std::num::wrapping_add_usize;
 
 // The first end where none is.

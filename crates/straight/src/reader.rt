@@ -1,11 +1,10 @@
 // A reader of a stretch, which says what is to be refused, and where: document 01's numbers 1 to 3 and 5 to 9.
-use crate::meanings::alike;
-use crate::meanings::meant;
-use crate::parts::behind;
-use crate::parts::letters_at;
-use crate::parts::number_at;
-use crate::parts::skip;
-use crate::parts::word_at;
+use places::behind;
+use places::letters_at;
+use places::meant;
+use places::number_at;
+use places::repeats;
+use places::word_at;
 use std::num::wrapping_add_usize;
 
 // How far the reader has come: a refusal and its place, or number 0 and the place behind what was read; the letters and the
@@ -74,19 +73,6 @@ fn wrong_base(bases: &[u8]) -> usize {
         i += 1;
     }
     i
-}
-
-// Whether the variant at a place means what one of the k that stand from `first` on means.
-pub fn repeats(bytes: &[u8], first: usize, k: usize, at: usize) -> bool {
-    let mut i = 0;
-    while i < k {
-        let other = skip(bytes, first, i);
-        if alike(letters_at(bytes, other), letters_at(bytes, at)) {
-            return true;
-        }
-        i += 1;
-    }
-    false
 }
 
 // Reads one variant more, behind the k of its segment, which stand from `first` on.

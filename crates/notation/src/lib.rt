@@ -1,0 +1,10 @@
+// The notation of examples: the words of a line and the numbers that they spell, and bytes as they are written there.
+mod bytes;
+mod words;
+
+pub use bytes::raw;
+pub use bytes::stretch;
+pub use words::behind;
+pub use words::find;
+pub use words::number;
+pub use words::word;
