@@ -19,10 +19,12 @@ use text::refusal::Refusal;
 pub fn of(line: &[u8]) -> Made {
     let mut bytes = [0u8; 40000];
     let n = notation::stretch(&mut bytes, word(line, 2), 2);
+    let p = pattern(line);
+    let strand = strand(line);
     if n == 0 {
-        return Card::empty(pattern(line), strand(line));
+        return Card::empty(p, strand);
     }
-    Card::of(pattern(line), strand(line), part(&bytes, 0, n))
+    Card::of(p, strand, part(&bytes, 0, n))
 }
 
 // A card is to have the rows of another.

@@ -17,15 +17,16 @@ use text::strand::Strand;
 // What a line counts. It is known by its first letter: ask, broken, equal, join, make, put. No answer of a line of no known call is right.
 fn judge(tally: Tally, group: usize, left: Card, right: Made, line: &[u8]) -> Tally {
     let card = right.card;
+    let wanted = wanted(line);
     let call = call(line);
     match call {
         0 | 112 => tally,
-        97 => tally.compare(group, cards::ask(card, number(line, 1)), wanted(line)),
+        97 => tally.compare(group, cards::ask(card, number(line, 1)), wanted),
         98 => cards::broken(tally, group, left, card),
         101 => cards::rows(tally, group, left.join(card), cards::of(line)),
-        106 => cards::compare(tally, group, left.join(card), number(line, 1), wanted(line)),
-        109 => cards::compare(tally, group, right, number(line, 3), wanted(line)),
-        _ => tally.compare(group, Answer::refused(101, 0), wanted(line)),
+        106 => cards::compare(tally, group, left.join(card), number(line, 1), wanted),
+        109 => cards::compare(tally, group, right, number(line, 3), wanted),
+        _ => tally.compare(group, Answer::refused(101, 0), wanted),
     }
 }
 
