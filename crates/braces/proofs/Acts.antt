@@ -5,7 +5,7 @@ use mathlib.Core.Bool.{true, false}
 use lib.Dec.{eqb}
 use borrow.Author.Tests.{eq-eqb, ne-eqb, le-leb, lt-leb}
 use Rattle.text.specs.Letter.{letter}
-use Rattle.stretch.specs.Bytes.{greatestStretch}
+use Rattle.layout.specs.Bytes.{greatestStretch}
 use Rattle.braces.specs.Notation.{white, inside, lettered, opened, comma, closed, actOf}
 use Rattle.braces.specs.declared.notation.Mode.{Mode}
 use Rattle.braces.specs.declared.notation.Mode.the-variants.{Braced}

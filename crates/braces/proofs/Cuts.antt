@@ -11,9 +11,11 @@ use lib.Dec.{leb}
 use borrow.Author.Tests.{le-leb, lt-leb}
 use lib.ListN.{length, take, drop, getD, set, length-set, length-drop}
 use lib.Seq.{take-suc-set, take-suc, drop-set-lt, getD-drop, drop-drop, take-add}
-use Rattle.stretch.specs.Encoding.{encode}
-use Rattle.stretch.specs.Answers.{toldWritten, written, leftBy}
-use Rattle.stretch.specs.declared.writer.Written.{Written}
+use Rattle.layout.specs.Encoding.{encode}
+use Rattle.stretch.specs.Answers.{toldWritten}
+use Rattle.writer.specs.Answers.{written}
+use Rattle.layout.specs.Bytes.{leftBy}
+use Rattle.stretch.specs.declared.writing.Written.{Written}
 use Rattle.braces.specs.Cutting.{Within, IsWithin, CutOff, Cut, closedWriting, ClosedWritten}
 use Rattle.braces.specs.declared.filling.Tape.{Tape}
 

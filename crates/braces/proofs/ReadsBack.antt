@@ -12,9 +12,9 @@ use Rattle.text.specs.Bits.{anyBelow}
 use Rattle.text.specs.Text.{Variant, Segment, Text}
 use Rattle.text.proofs.Truth.{and-left, and-right, and-both, not-true-false, some-anyBelow}
 use Rattle.text.proofs.Meanings.{letter-byte, capitals-letters}
-use Rattle.stretch.specs.Bytes.{greatestStretch, wordBytes}
-use Rattle.stretch.specs.Encoding.{bytesOf, encodeVariant, encodeSegment, encode, all, distinct, writableSegment, writable}
-use Rattle.stretch.specs.Writing.{lettersOf, lengthsOf, countsOf}
+use Rattle.layout.specs.Bytes.{greatestStretch, wordBytes}
+use Rattle.layout.specs.Encoding.{bytesOf, encodeVariant, encodeSegment, encode, all, distinct, writableSegment, writable}
+use Rattle.writer.specs.Writing.{lettersOf, lengthsOf, countsOf}
 use Rattle.braces.specs.Notation.{white, nothing, brace, lettered, actOf}
 use Rattle.braces.specs.Reading.{Read, onto, reads}
 use Rattle.braces.specs.Braces.{listed, braced, inBraces}

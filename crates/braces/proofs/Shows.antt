@@ -15,15 +15,16 @@ use Rattle.text.specs.Refusal.{Outcome, ok, refused}
 use Rattle.text.specs.declared.refusal.Refusal.{Refusal}
 use Rattle.text.proofs.Outcomes.{told-refused}
 use Rattle.text.proofs.Truth.{and-left, and-right}
-use Rattle.stretch.specs.Reading.{stretchOf}
-use Rattle.stretch.specs.Encoding.{bytesOf, raisedText, all, writableSegment, writable}
-use Rattle.stretch.specs.Standing.{standing}
-use Rattle.stretch.proofs.Decoding.{stretch-means}
+use Rattle.layout.specs.Reading.{stretchOf}
+use Rattle.layout.specs.Encoding.{bytesOf, raisedText, all, writableSegment, writable}
+use Rattle.layout.specs.Standing.{standing}
+use Rattle.layout.proofs.Decoding.{stretch-means}
 use Rattle.stretch.specs.Places.{Found, found, end, Reading, handed, variant, reading, readFrom, readIn, partOf}
 use Rattle.stretch.specs.Answers.{Accepted, checking, toldGot}
 use Rattle.stretch.specs.declared.reading.Got.{Got}
-use Rattle.stretch.proofs.Stands.{Bytes}
-use Rattle.stretch.proofs.Theorems.{accepted-writable, accepted-letters}
+use Rattle.layout.proofs.Stands.{Bytes}
+use Rattle.layout.proofs.Theorems.{accepted-writable}
+use Rattle.stretch.proofs.Theorems.{accepted-letters}
 use Rattle.lines.specs.Puts.{Put}
 use Rattle.lines.proofs.Putting.{put-none, put-more, put-length}
 use Rattle.braces.specs.Braces.{listed, braced, inBraces, ThereIs, SegmentShown, BracesPut}

@@ -8,15 +8,15 @@ use mathlib.Core.List.{List, [], append-nil}
 use lib.ListN.{length, take}
 use Rattle.text.specs.Text.{Text}
 use Rattle.text.specs.Refusal.{ok}
-use Rattle.stretch.specs.Reading.{stretchOf}
+use Rattle.layout.specs.Reading.{stretchOf}
 use Rattle.text.specs.Letter.{meant}
-use Rattle.stretch.specs.Encoding.{encode, raisedText, writable}
-use Rattle.stretch.proofs.Encoding.{stretch-of, standing-encoded}
-use Rattle.stretch.proofs.Decoding.{stretch-means}
-use Rattle.stretch.specs.Writing.{lettersOf, lengthsOf, countsOf}
-use Rattle.stretch.proofs.Stands.{Bytes}
-use Rattle.stretch.proofs.Theorems.{accepted-writable}
-use Rattle.stretch.proofs.RoundTrips.{written-again, letters-of-raised}
+use Rattle.layout.specs.Encoding.{encode, raisedText, writable}
+use Rattle.layout.proofs.Encoding.{stretch-of, standing-encoded}
+use Rattle.layout.proofs.Decoding.{stretch-means}
+use Rattle.writer.specs.Writing.{lettersOf, lengthsOf, countsOf}
+use Rattle.layout.proofs.Stands.{Bytes}
+use Rattle.layout.proofs.Theorems.{accepted-writable}
+use Rattle.writer.proofs.RoundTrips.{written-again, letters-of-raised}
 use Rattle.braces.specs.Notation.{nothing}
 use Rattle.braces.specs.Reading.{Read, reads}
 use Rattle.braces.specs.Filling.{Buffers, emptyTape, heldIn, PieceRead}

@@ -7,9 +7,9 @@ use lib.Dec.{ltb}
 use lib.ListN.{length}
 use Rattle.text.specs.Text.{Segment, Text, segment}
 use Rattle.text.specs.Refusal.{ok, refused}
-use Rattle.stretch.specs.Reading.{stretchOf}
-use Rattle.stretch.specs.Encoding.{bytesOf}
-use Rattle.stretch.specs.Standing.{standing}
+use Rattle.layout.specs.Reading.{stretchOf}
+use Rattle.layout.specs.Encoding.{bytesOf}
+use Rattle.layout.specs.Standing.{standing}
 use Rattle.lines.specs.Puts.{Put}
 use Rattle.braces.specs.declared.braced.Braced.{Braced}
 use Rattle.braces.specs.declared.braced.Braced.the-variants.{Bytes, Refused}

@@ -6,10 +6,12 @@ use mathlib.Core.List.{List, _++_}
 use lib.ListN.{length, take}
 use Rattle.text.specs.Text.{Text}
 use Rattle.text.specs.Refusal.{Outcome}
-use Rattle.stretch.specs.Encoding.{encode}
-use Rattle.stretch.specs.Writing.{writing}
-use Rattle.stretch.specs.Answers.{toldWritten, written, leftBy}
-use Rattle.stretch.specs.declared.writer.Written.{Written}
+use Rattle.layout.specs.Encoding.{encode}
+use Rattle.writer.specs.Writing.{writing}
+use Rattle.stretch.specs.Answers.{toldWritten}
+use Rattle.writer.specs.Answers.{written}
+use Rattle.layout.specs.Bytes.{leftBy}
+use Rattle.stretch.specs.declared.writing.Written.{Written}
 use Rattle.braces.specs.declared.filling.Tape.{Tape}
 
 -- the tape lies within buffers of so many letters and lengths, and what stands open within the tape

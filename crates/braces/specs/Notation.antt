@@ -3,7 +3,7 @@ use Prim.Native.Nat.{ℕ, _+_}
 use mathlib.Core.Bool.{Bool, _||_, cond}
 use lib.Dec.{eqb, leb}
 use Rattle.text.specs.Letter.{letter}
-use Rattle.stretch.specs.Bytes.{greatestStretch}
+use Rattle.layout.specs.Bytes.{greatestStretch}
 use Rattle.braces.specs.declared.notation.Mode.{Mode}
 use Rattle.braces.specs.declared.notation.Mode.the-variants.{Between, Bare, Braced}
 use Rattle.braces.specs.declared.notation.Begun.{Begun}

@@ -4,7 +4,7 @@ use crate::notation::Act;
 use crate::notation::Begun;
 use crate::repetition::stands;
 use crate::wrong;
-use stretch::number::wide;
+use layout::number::wide;
 use text::refusal;
 ghost use mathlib.Core.Path.{_≡_};
 ghost use Rattle.braces.specs.Notation.{ended};

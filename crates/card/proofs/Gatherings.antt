@@ -12,8 +12,8 @@ use Rattle.text.specs.Refusal.{Outcome, ok, after}
 use Rattle.text.specs.Card.{mostSegments, ran, cardOf, firstEnd}
 use Rattle.text.proofs.Patterns.{SoundPattern}
 use Rattle.text.proofs.Outcomes.{ok-inj, after-met}
-use Rattle.stretch.specs.Pieces.{mostInStretch}
-use Rattle.stretch.specs.Reading.{stretchOf}
+use Rattle.layout.specs.Pieces.{mostInStretch}
+use Rattle.layout.specs.Reading.{stretchOf}
 use Rattle.search.specs.Chain.{stretchesText, Trail, seeks}
 use Rattle.search.proofs.Theorems.{seeks-stretches}
 use Rattle.text.specs.declared.strand.Strand.the-variants.{Given}

@@ -22,14 +22,14 @@ use Rattle.text.proofs.Strands.{strand-sound}
 use Rattle.text.proofs.Patterns.{SoundPattern}
 use Rattle.text.proofs.Marks.{marks-length, run-append, marks-append}
 use Rattle.text.proofs.TextCards.{IsFirst, row-text, fresh-first, join-text, ask-text}
-use Rattle.stretch.specs.Bytes.{greatestStretch, wordBytes}
-use Rattle.stretch.specs.Encoding.{encodeSegment, encode, bytesOf, all, writableSegment, writable}
-use Rattle.stretch.specs.Pieces.{mostInStretch}
-use Rattle.stretch.specs.Reading.{stretchOf}
-use Rattle.stretch.proofs.Stands.{Bytes}
-use Rattle.stretch.proofs.Stretches.{stretch-most}
-use Rattle.stretch.proofs.Decoding.{stretch-writable}
-use Rattle.stretch.proofs.Encoding.{segment-of}
+use Rattle.layout.specs.Bytes.{greatestStretch, wordBytes}
+use Rattle.layout.specs.Encoding.{encodeSegment, encode, bytesOf, all, writableSegment, writable}
+use Rattle.layout.specs.Pieces.{mostInStretch}
+use Rattle.layout.specs.Reading.{stretchOf}
+use Rattle.layout.proofs.Stands.{Bytes}
+use Rattle.layout.proofs.Stretches.{stretch-most}
+use Rattle.layout.proofs.Decoding.{stretch-writable}
+use Rattle.layout.proofs.Encoding.{segment-of}
 use Rattle.search.specs.Answers.{Next}
 use Rattle.search.specs.Chain.{segmentsText, feeds, markOf}
 use Rattle.search.proofs.Entries.{fresh-state}

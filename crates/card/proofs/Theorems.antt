@@ -15,10 +15,10 @@ use Rattle.text.specs.Refusal.{ok}
 use Rattle.text.specs.Card.{Row, mostSegments, later, firstEnd, padded, ran, cardOf, wellFormed}
 use Rattle.text.proofs.Patterns.{SoundPattern}
 use Rattle.text.proofs.TextCards.{IsFirst}
-use Rattle.stretch.specs.Encoding.{encodeSegment}
-use Rattle.stretch.specs.Reading.{stretchOf}
-use Rattle.stretch.proofs.Stands.{Bytes}
-use Rattle.stretch.specs.Pieces.{mostInStretch}
+use Rattle.layout.specs.Encoding.{encodeSegment}
+use Rattle.layout.specs.Reading.{stretchOf}
+use Rattle.layout.proofs.Stands.{Bytes}
+use Rattle.layout.specs.Pieces.{mostInStretch}
 use Rattle.search.specs.Chain.{segmentsText, stretchesText, Trail, seeks}
 use Rattle.text.specs.declared.strand.Strand.the-variants.{Given}
 use Rattle.card.specs.declared.cards.Card.{Card as Held}

@@ -8,9 +8,9 @@ use borrow.Author.Tests.{leb-true, leb-false, le-leb, lt-leb}
 use lib.Dec.{leb, eqb}
 use lib.ListN.{length, length-append}
 use Rattle.text.specs.Text.{Variant, Segment, Text}
-use Rattle.stretch.specs.Bytes.{wordBytes, greatestStretch}
-use Rattle.stretch.specs.Encoding.{bytesOf, encodeVariant, encodeSegment, encode}
-use Rattle.stretch.proofs.Texts.{bytes-append}
+use Rattle.layout.specs.Bytes.{wordBytes, greatestStretch}
+use Rattle.layout.specs.Encoding.{bytesOf, encodeVariant, encodeSegment, encode}
+use Rattle.layout.proofs.Rows.{bytes-append}
 use Rattle.clinic.specs.Room.{opened, withBases, withRecord}
 use Rattle.clinic.specs.declared.held.Held.{Held}
 use Rattle.clinic.specs.declared.held.Fit.{Fit}

@@ -13,7 +13,7 @@ use Rattle.text.specs.Letter.{letter, meant, every, firstNot}
 use Rattle.text.specs.Refusal.{Outcome, ok, demand, after}
 use Rattle.text.proofs.Truth.{and-left, and-right}
 use Rattle.text.proofs.Outcomes.{demand-met, after-met, ok-inj}
-use Rattle.stretch.specs.Putting.{putting}
+use Rattle.writer.specs.Putting.{putting}
 use Rattle.records.specs.Pieces.{lines}
 use Rattle.records.specs.Records.{position, reference, behind, comment, isRecord, passedOver, agrees, fitting, records}
 use Rattle.records.specs.Records.{heading, placed}

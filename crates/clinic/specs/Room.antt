@@ -2,7 +2,7 @@
 use Prim.Native.Nat.{ℕ, _+_, _-_}
 use mathlib.Core.Bool.{Bool, true, false, cond}
 use lib.Dec.{eqb, leb}
-use Rattle.stretch.specs.Bytes.{greatestStretch}
+use Rattle.layout.specs.Bytes.{greatestStretch}
 use Rattle.clinic.specs.declared.held.Held.{Held}
 use Rattle.clinic.specs.declared.held.Fit.{Fit}
 use Rattle.clinic.specs.declared.held.Fit.the-variants.{Fits, Full}

@@ -1,6 +1,6 @@
 // The files' names: words of the command line, or lines of a file.
+use layout::number::wide;
 use lines::put_bytes;
-use stretch::number::wide;
 use text::compare::same;
 ghost use Rattle.io.specs.Counts.{Counts};
 

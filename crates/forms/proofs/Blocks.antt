@@ -4,8 +4,8 @@ use native.Mathlib.Omega.{arith}
 use mathlib.Core.Path.{_≡_, refl, ap, _∙_}
 use mathlib.Core.List.{List, [], _∷_, _++_}
 use lib.ListN.{length, set, length-append}
-use Rattle.stretch.specs.Bytes.{over}
-use Rattle.stretch.proofs.Overs.{over-set, over-over, Emitted, emitted-none, emitted-more, emitted-room, emitted-length, emitted-end}
+use Rattle.layout.specs.Bytes.{over}
+use Rattle.layout.proofs.Overs.{over-set, over-over, Emitted, emitted-none, emitted-more, emitted-room, emitted-length, emitted-end}
 use Rattle.forms.specs.Forms.{lowFirst}
 
 pub length-low : (k n : ℕ) → length (lowFirst k n) ≡ k

@@ -17,10 +17,10 @@ use Rattle.text.specs.Strand.{onStrand}
 use Rattle.text.specs.Refusal.{Outcome, ok, refused, demand, after, pattern, greatestPattern}
 use Rattle.text.proofs.Letters.{first-le}
 use Rattle.text.proofs.Outcomes.{refused-ok, told-refused}
-use Rattle.stretch.specs.Bytes.{greatestStretch}
-use Rattle.stretch.specs.Reading.{stretchOf, segmentOf, loneSegment}
+use Rattle.layout.specs.Bytes.{greatestStretch}
+use Rattle.layout.specs.Reading.{stretchOf, segmentOf, loneSegment}
 use Rattle.stretch.specs.Answers.{checking}
-use Rattle.stretch.proofs.Refusals.{Low, stretch-low, segment-low}
+use Rattle.layout.proofs.Refusals.{Low, stretch-low, segment-low}
 use Rattle.search.specs.Answers.{entering, into, stretchInto, searching, seeking, feeding}
 use Rattle.search.specs.First.{endsIn, firstIn, hitting, firsting}
 use Rattle.forms.specs.Forms.{coded, withRoom, searchingInto, seekingInto, feedingInto, firstingInto}

@@ -11,8 +11,8 @@ use Rattle.text.specs.Refusal.{Outcome, ok, refused, after}
 use Rattle.text.specs.declared.strand.Strand.{Strand}
 use Rattle.text.specs.declared.refusal.Refusal.{Refusal}
 use Rattle.text.proofs.Outcomes.{told-met, told-refused}
-use Rattle.stretch.specs.Bytes.{over}
-use Rattle.stretch.specs.Answers.{leftBy}
+use Rattle.layout.specs.Bytes.{over}
+use Rattle.layout.specs.Bytes.{leftBy}
 use Rattle.search.specs.Answers.{Seen, seeking, seenFrom, toldSought}
 use Rattle.search.specs.declared.state.Sought.{Sought}
 use Rattle.search.specs.declared.state.State.{State}

@@ -14,7 +14,7 @@ use Rattle.text.specs.Text.{Text}
 use Rattle.text.specs.declared.strand.Strand.{Strand}
 use Rattle.text.proofs.Outcomes.{ok-inj, demand-met, after-met, told-met}
 use Rattle.text.proofs.Strands.{strand-length, strand-sound}
-use Rattle.stretch.specs.Reading.{stretchOf}
+use Rattle.layout.specs.Reading.{stretchOf}
 use Rattle.search.specs.Answers.{entering}
 use Rattle.search.specs.First.{Hit, endsIn, clear, stopOf, firstIn, hitting, firsting}
 use Rattle.search.proofs.Chains.{run-state}

@@ -11,9 +11,10 @@ use Rattle.text.specs.Text.{Text}
 use Rattle.text.specs.Refusal.{Outcome, ok, refused, demand, after, pattern}
 use Rattle.text.proofs.Outcomes.{told-met, told-refused}
 use Rattle.text.proofs.Patterns.{pattern-after, pattern-refused, pattern-sound, sound-pattern}
-use Rattle.stretch.specs.Bytes.{over}
-use Rattle.stretch.specs.Reading.{stretchOf}
-use Rattle.stretch.specs.Answers.{Sum, checking, leftBy}
+use Rattle.layout.specs.Bytes.{over}
+use Rattle.layout.specs.Reading.{stretchOf}
+use Rattle.stretch.specs.Answers.{Sum, checking}
+use Rattle.layout.specs.Bytes.{leftBy}
 use Rattle.search.specs.Answers.{entering, into, searching, seeking}
 use Rattle.search.proofs.Entries.{entering-after}
 use Rattle.forms.specs.Forms.{lowFirst, coded, withRoom, twoInto, searchingInto, seekingInto}

@@ -7,8 +7,8 @@ use lib.ListN.{length}
 use Rattle.text.specs.Text.{Text}
 use Rattle.text.specs.Refusal.{Outcome, ok, after}
 use Rattle.text.specs.declared.refusal.Refusal.{Refusal}
-use Rattle.stretch.specs.Bytes.{over}
-use Rattle.stretch.specs.Answers.{leftBy}
+use Rattle.layout.specs.Bytes.{over}
+use Rattle.layout.specs.Bytes.{leftBy}
 use Rattle.search.specs.Answers.{Sums, searching, toldSearched}
 use Rattle.search.specs.declared.searching.Searched.{Searched}
 use Rattle.search.specs.declared.searching.Searched.the-variants.{Marked}

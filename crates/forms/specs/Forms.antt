@@ -9,7 +9,7 @@ use Rattle.text.specs.Refusal.{Outcome, ok, refused, demand, after}
 use Rattle.text.specs.State.{marksFrom}
 use Rattle.text.specs.Strand.{onStrand}
 use Rattle.text.specs.declared.strand.Strand.{Strand}
-use Rattle.stretch.specs.Answers.{leftBy}
+use Rattle.layout.specs.Bytes.{leftBy}
 use Rattle.search.specs.Answers.{Sums, Seen, Next, searching, seeking, seenFrom, feeding}
 use Rattle.search.specs.First.{Hit, Stop, stopOf, firsting}
 

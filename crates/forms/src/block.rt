@@ -4,8 +4,8 @@ use text::refusal;
 ghost use mathlib.Core.Path.{_≡_};
 ghost use Prim.Native.Nat.{_+_, _*_, _^_, _≤_, _<_};
 ghost use lib.ListN.{length};
-ghost use Rattle.stretch.specs.Bytes.{over};
-ghost use Rattle.stretch.specs.Answers.{leftBy};
+ghost use Rattle.layout.specs.Bytes.{over};
+ghost use Rattle.layout.specs.Bytes.{leftBy};
 ghost use Rattle.forms.specs.Forms.{lowFirst, coded, twoInto};
 
 // The bytes of two results.

@@ -10,7 +10,7 @@ use text::strand::Strand;
 ghost use mathlib.Core.Path.{_≡_};
 ghost use Prim.Native.Nat.{_^_, _≤_, _<_};
 ghost use lib.ListN.{length};
-ghost use Rattle.stretch.specs.Answers.{leftBy};
+ghost use Rattle.layout.specs.Bytes.{leftBy};
 ghost use Rattle.search.specs.Answers.{toldSought};
 ghost use Rattle.forms.specs.Forms.{coded, seenBlock, seekingInto, fromAnswer, fromMarks, fromBlock};
 

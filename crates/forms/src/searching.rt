@@ -13,7 +13,7 @@ use text::strand::Strand;
 ghost use mathlib.Core.Path.{_≡_};
 ghost use Prim.Native.Nat.{_^_, _≤_, _<_};
 ghost use lib.ListN.{length};
-ghost use Rattle.stretch.specs.Answers.{leftBy};
+ghost use Rattle.layout.specs.Bytes.{leftBy};
 ghost use Rattle.text.specs.Strand.{onStrand};
 ghost use Rattle.search.specs.Answers.{sumsOf, marked, toldSearched};
 ghost use Rattle.search.specs.Either.{eitherMarks, eitherSums};

@@ -2,7 +2,7 @@
 use Prim.Native.Nat.{ℕ, _+_}
 use mathlib.Core.List.{List}
 use lib.ListN.{take, drop, getD}
-use Rattle.stretch.specs.Bytes.{greatestStretch}
+use Rattle.layout.specs.Bytes.{greatestStretch}
 
 -- the bytes of an input that count: the pattern's length, the longest pattern that a byte can announce, and a stretch of one byte over
 -- the limit

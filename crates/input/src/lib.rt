@@ -1,5 +1,5 @@
 // The parts of the program's input. Where it ends inside the pattern, the bytes there are the pattern, and the stretch is empty.
-use stretch::number::wide;
+use layout::number::wide;
 use text::refusal;
 ghost use mathlib.Core.Path.{_≡_};
 ghost use Prim.Native.Nat.{_<_};

@@ -8,10 +8,10 @@ use Rattle.text.specs.Text.{total, counted, weight, size}
 use Rattle.text.specs.State.{brings, sends, carries, nextBit, next, endsAt, ends, run, marksFrom, marks}
 use Rattle.text.specs.Card.{later, firstEnd, tabulate, padded, ran, rowsOf, cardOf, isRow, areRows, wellFormed, earliest, union, follow}
 use Rattle.text.specs.Card.{onward, joined, samePattern, join}
-use Rattle.stretch.specs.Bytes.{word, wordBytes}
-use Rattle.stretch.specs.Pieces.{fitsAt, openAt, variantsAt, headAt, closedAt}
-use Rattle.stretch.specs.Reading.{among, valueOf, formed, variantAt, many, segmentAt, stretchOf}
-use Rattle.stretch.specs.Encoding.{bytesOf, encodeVariant, encodeSegment, encode, all}
+use Rattle.layout.specs.Bytes.{word, wordBytes}
+use Rattle.layout.specs.Pieces.{fitsAt, openAt, variantsAt, headAt, closedAt}
+use Rattle.layout.specs.Reading.{among, valueOf, formed, variantAt, many, segmentAt, stretchOf}
+use Rattle.layout.specs.Encoding.{bytesOf, encodeVariant, encodeSegment, encode, all}
 use Rattle.judged.specs.Examples.{table}
 
 -- the theorem

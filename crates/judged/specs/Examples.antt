@@ -9,8 +9,8 @@ use Rattle.text.specs.Text.{Variant, Segment, Text, size}
 use Rattle.text.specs.State.{fresh, run, marks}
 use Rattle.text.specs.Refusal.{Outcome, ok, refused}
 use Rattle.text.specs.Card.{Card, none, row, cardOf, join}
-use Rattle.stretch.specs.Encoding.{encode}
-use Rattle.stretch.specs.Reading.{stretchOf}
+use Rattle.layout.specs.Encoding.{encode}
+use Rattle.layout.specs.Reading.{stretchOf}
 
 -- the letters
 abbrev A : ℕ

@@ -7,7 +7,7 @@ use watch::mark;
 ghost use mathlib.Core.Path.{_≡_};
 ghost use Prim.Native.Nat.{_≤_};
 ghost use lib.ListN.{length, take};
-ghost use Rattle.stretch.specs.Answers.{leftBy};
+ghost use Rattle.layout.specs.Bytes.{leftBy};
 ghost use Rattle.watch.specs.Watching.{watching, toldFound, marking, toldListed, accepted, marksOf};
 
 // The first record that ends.

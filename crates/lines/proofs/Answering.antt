@@ -9,12 +9,12 @@ use Rattle.text.specs.Text.{Text}
 use Rattle.text.specs.Refusal.{Outcome, ok, after}
 use Rattle.text.specs.declared.refusal.Refusal.{Refusal}
 use Rattle.text.proofs.Outcomes.{told-met, told-refused}
-use Rattle.stretch.specs.Bytes.{over}
-use Rattle.stretch.specs.Answers.{leftBy}
+use Rattle.layout.specs.Bytes.{over}
+use Rattle.layout.specs.Bytes.{leftBy}
 use Rattle.search.specs.Answers.{Sums, searching, toldSearched}
 use Rattle.search.specs.declared.searching.Searched.{Searched}
 use Rattle.search.specs.declared.searching.Searched.the-variants.{Marked, Refused}
-use Rattle.stretch.specs.Pieces.{mostInStretch}
+use Rattle.layout.specs.Pieces.{mostInStretch}
 use Rattle.input.specs.Input.{patternIn, stretchIn}
 use Rattle.lines.specs.Puts.{Put}
 use Rattle.lines.specs.Screening.{sumsOn, marksOn}

@@ -13,14 +13,14 @@ use Rattle.text.specs.Refusal.{Outcome, ok, refused, demand, after, pattern, gr
 use Rattle.text.proofs.Letters.{first-le}
 use Rattle.text.proofs.Outcomes.{demand-met, after-met}
 use Rattle.text.proofs.Patterns.{SoundPattern, pattern-sound, pattern-after}
-use Rattle.stretch.specs.Bytes.{greatestStretch}
-use Rattle.stretch.specs.Pieces.{mostInStretch}
-use Rattle.stretch.specs.Reading.{segmentAt, stretchOf}
-use Rattle.stretch.proofs.Walks.{many-steps}
-use Rattle.stretch.proofs.Rows.{row-many}
-use Rattle.stretch.proofs.Decoding.{stretch-read}
-use Rattle.stretch.proofs.Stretches.{segment-steps, stretch-most}
-use Rattle.stretch.proofs.Refusals.{stretch-low}
+use Rattle.layout.specs.Bytes.{greatestStretch}
+use Rattle.layout.specs.Pieces.{mostInStretch}
+use Rattle.layout.specs.Reading.{segmentAt, stretchOf}
+use Rattle.layout.proofs.Walks.{many-steps}
+use Rattle.layout.proofs.Rows.{row-many}
+use Rattle.layout.proofs.Decoding.{stretch-read}
+use Rattle.layout.proofs.Stretches.{segment-steps, stretch-most}
+use Rattle.layout.proofs.Refusals.{stretch-low}
 use Rattle.search.specs.Answers.{into, stretchInto, searching}
 use Rattle.input.specs.Input.{patternIn, stretchIn}
 use Rattle.lines.specs.Decimal.{digits, line}

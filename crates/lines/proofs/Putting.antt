@@ -7,9 +7,9 @@ use mathlib.Core.Logic.{by-cases}
 use mathlib.Core.List.{List, [], _∷_, _++_}
 use lib.ListN.{length, take, drop, getD, set, length-take, length-drop, length-append}
 use lib.Seq.{take-all, take-at, getD-take, take-nil, length-take-le}
-use Rattle.stretch.specs.Bytes.{over}
-use Rattle.stretch.proofs.Overs.{over-none, length-over, over-over, emitted-length}
-use Rattle.stretch.proofs.Overs.{Copied, copied-none, copied-room, copied-more, copied-end}
+use Rattle.layout.specs.Bytes.{over}
+use Rattle.layout.proofs.Overs.{over-none, length-over, over-over, emitted-length}
+use Rattle.layout.proofs.Overs.{Copied, copied-none, copied-room, copied-more, copied-end}
 use Rattle.lines.specs.Puts.{fitting, Put}
 
 take-append : (n : ℕ) (xs ys : List ℕ) → take n (xs ++ ys) ≡ take n xs ++ take (n - length xs) ys

@@ -10,7 +10,7 @@ use mathlib.Core.List.{List·Memᴰ, List·Memᴰ·head, List·Memᴰ·cases-con
 use lib.ListN.{length, getD, List·getD-append}
 use Rattle.text.specs.Text.{Text, size}
 use Rattle.text.specs.Refusal.{ok, refused}
-use Rattle.stretch.specs.Pieces.{mostInStretch}
+use Rattle.layout.specs.Pieces.{mostInStretch}
 use Rattle.search.specs.Answers.{Sums}
 use Rattle.input.specs.Input.{patternIn, stretchIn}
 use Rattle.lines.specs.Decimal.{digit, digits, line}

@@ -5,7 +5,7 @@ use mathlib.Core.List.{List, [], _∷_, _++_}
 use lib.Dec.{eqb}
 use Rattle.text.specs.Text.{Text}
 use Rattle.text.specs.Refusal.{Outcome, ok, refused}
-use Rattle.stretch.specs.Pieces.{mostInStretch}
+use Rattle.layout.specs.Pieces.{mostInStretch}
 use Rattle.search.specs.Answers.{Sums, searching}
 use Rattle.input.specs.Input.{patternIn, stretchIn}
 use Rattle.lines.specs.Decimal.{digits, line}

@@ -3,7 +3,7 @@ use Prim.Native.Nat.{ℕ, _+_, _-_}
 use mathlib.Core.Path.{_≡_}
 use mathlib.Core.List.{List}
 use lib.ListN.{length, take}
-use Rattle.stretch.specs.Bytes.{over}
+use Rattle.layout.specs.Bytes.{over}
 
 -- those of the bytes xs for which the buffer d has room from place `at` on
 abbrev pub fitting : List ℕ → ℕ → List ℕ → List ℕ

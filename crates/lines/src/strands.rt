@@ -7,7 +7,7 @@ use text::strand::Strand;
 ghost use mathlib.Core.Path.{_≡_};
 ghost use lib.ListN.{length};
 ghost use Rattle.text.specs.Refusal.{ok, after};
-ghost use Rattle.stretch.specs.Answers.{leftBy};
+ghost use Rattle.layout.specs.Bytes.{leftBy};
 ghost use Rattle.search.specs.Answers.{searching, toldSearched};
 ghost use Rattle.lines.specs.Screening.{namedBy, sumsOn, marksOn};
 

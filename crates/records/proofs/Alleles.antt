@@ -14,8 +14,8 @@ use Rattle.text.specs.Compare.{same}
 use Rattle.text.proofs.Letters.{first-le, first-every, first-not-every}
 use Rattle.text.proofs.Truth.{and-true}
 use Rattle.text.proofs.Strings.{same-lengths}
-use Rattle.stretch.specs.Bytes.{part}
-use Rattle.stretch.specs.Encoding.{all}
+use Rattle.layout.specs.Bytes.{part}
+use Rattle.layout.specs.Encoding.{all}
 use Rattle.records.specs.Pieces.{pieces, endOf, Ends}
 use Rattle.records.specs.Records.{field, position, allele, none, alternates, areAlleles, alternatesSound, isRecord, comment}
 use Rattle.records.proofs.Marks.{cut-next, cut-last}

@@ -14,7 +14,7 @@ use borrow.Author.Tests.{le-ltb, lt-ltb, eq-eqb, ne-eqb}
 use Rattle.text.specs.Letter.{every, firstNot}
 use Rattle.text.proofs.Letters.{first-le}
 use Rattle.text.proofs.Truth.{and-true, and-left, and-right}
-use Rattle.stretch.specs.Bytes.{part}
+use Rattle.layout.specs.Bytes.{part}
 use Rattle.records.specs.Pieces.{onto, cutAt, pieces, lines, other, endOf, Skips, Ends, nextLine}
 
 -- a byte is the mark, or another

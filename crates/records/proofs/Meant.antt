@@ -12,7 +12,7 @@ use Rattle.text.specs.Compare.{same}
 use Rattle.text.proofs.Truth.{same-truth}
 use Rattle.text.proofs.Meanings.{no-letter-raised}
 use Rattle.text.proofs.Likes.{meant-length}
-use Rattle.stretch.proofs.Raised.{drop-meant}
+use Rattle.layout.proofs.Raised.{drop-meant}
 use Rattle.records.specs.Pieces.{onto, cutAt, pieces, other, endOf, Ends}
 use Rattle.records.specs.Records.{none, alternates}
 

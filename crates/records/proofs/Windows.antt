@@ -14,8 +14,8 @@ use Rattle.text.specs.Compare.{same, alike}
 use Rattle.text.proofs.Likes.{meant-length}
 use Rattle.text.proofs.Strings.{same-eq}
 use Rattle.text.proofs.Truth.{and-left, and-right, same-truth}
-use Rattle.stretch.specs.Bytes.{part}
-use Rattle.stretch.proofs.Raised.{alike-part}
+use Rattle.layout.specs.Bytes.{part}
+use Rattle.layout.proofs.Raised.{alike-part}
 use Rattle.records.specs.Records.{placed, outside, agrees}
 
 -- two tests of orders that hold together

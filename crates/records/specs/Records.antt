@@ -8,8 +8,8 @@ use Rattle.text.specs.Letter.{letter, meant, every}
 use Rattle.text.specs.Text.{Variant}
 use Rattle.text.specs.Compare.{same}
 use Rattle.text.specs.Refusal.{Outcome, ok, demand, after}
-use Rattle.stretch.specs.Bytes.{part}
-use Rattle.stretch.specs.Encoding.{all}
+use Rattle.layout.specs.Bytes.{part}
+use Rattle.layout.specs.Encoding.{all}
 use Rattle.records.specs.Pieces.{pieces}
 
 -- `##fileformat=VCFv4.`

@@ -1,5 +1,5 @@
 // Positions: decimal digits, 1 to 2,147,483,647.
-use stretch::number::wide;
+use layout::number::wide;
 ghost use mathlib.Core.Path.{_≡_};
 ghost use Rattle.records.specs.Records.{digit, positionOf};
 

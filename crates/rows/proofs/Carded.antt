@@ -13,8 +13,8 @@ use Rattle.text.specs.Card.{Card, dead, ran, cardOf}
 use Rattle.text.proofs.Outcomes.{after-met}
 use Rattle.text.proofs.Patterns.{SoundPattern, pattern-sound, pattern-after, sound-pattern}
 use Rattle.text.proofs.TextCards.{row-text}
-use Rattle.stretch.specs.Reading.{stretchOf}
-use Rattle.stretch.proofs.Refusals.{stretch-low}
+use Rattle.layout.specs.Reading.{stretchOf}
+use Rattle.layout.proofs.Refusals.{stretch-low}
 use Rattle.rows.specs.declared.passes.Rows.{Rows}
 use Rattle.rows.specs.Held.{Bases}
 use Rattle.rows.specs.RowStep.{rowAt}

@@ -18,11 +18,11 @@ use Rattle.text.proofs.Patterns.{SoundPattern, pattern-sound, pattern-after}
 use Rattle.text.proofs.Marks.{marks-length}
 use Rattle.text.proofs.Rows.{length-rowsOf, rowsOf-from}
 use Rattle.text.proofs.TextCards.{row-text, empty-text}
-use Rattle.stretch.specs.Bytes.{over}
-use Rattle.stretch.specs.Pieces.{mostInStretch}
-use Rattle.stretch.specs.Reading.{stretchOf}
-use Rattle.stretch.specs.Answers.{leftBy}
-use Rattle.stretch.proofs.Stretches.{stretch-most}
+use Rattle.layout.specs.Bytes.{over}
+use Rattle.layout.specs.Pieces.{mostInStretch}
+use Rattle.layout.specs.Reading.{stretchOf}
+use Rattle.layout.specs.Bytes.{leftBy}
+use Rattle.layout.proofs.Stretches.{stretch-most}
 use Rattle.search.specs.Answers.{Seen, seenFrom, into, stretchInto, searching, seeking}
 use Rattle.search.proofs.Searches.{fresh-searching}
 use Rattle.rows.specs.declared.passes.Rows.{Rows}

@@ -20,11 +20,11 @@ use Rattle.text.proofs.Bits.{bit-first, bit-above, bit-fromBits, fromBits-lt}
 use Rattle.text.proofs.Outcomes.{ok-inj, refused-ok, after-met}
 use Rattle.text.proofs.Steps.{next-open, next-lt}
 use Rattle.text.proofs.Folds.{next-none, next-snoc, ends-none, ends-snoc}
-use Rattle.stretch.specs.Pieces.{variantsAt, headAt}
-use Rattle.stretch.specs.Reading.{Taken, valueOf, variantAt, many, segmentAt}
-use Rattle.stretch.proofs.Frames.{variants-met}
-use Rattle.stretch.proofs.Heads.{head-found, head-is, whole-part, value-part}
-use Rattle.stretch.proofs.Units.{Read, variant-read}
+use Rattle.layout.specs.Pieces.{variantsAt, headAt}
+use Rattle.layout.specs.Reading.{Taken, valueOf, variantAt, many, segmentAt}
+use Rattle.layout.proofs.Frames.{variants-met}
+use Rattle.layout.proofs.Heads.{head-found, head-is, whole-part, value-part}
+use Rattle.layout.proofs.Units.{Read, variant-read}
 use Rattle.rows.specs.RowStep.{Within, meets, Alive, Covers, Readable, VariantOver, Settled, SegmentOver, rowAt, rowOver}
 use Rattle.rows.proofs.Meets.{meets-none, meets-or, within-lt, within-clear}
 

@@ -23,11 +23,11 @@ use Rattle.text.proofs.Ends.{firstEnd-append, firstEnd-le, later-none}
 use Rattle.text.proofs.Rows.{union-zero, earliest-zero}
 use Rattle.text.proofs.Linear.{run-linear, first-linear}
 use Rattle.text.proofs.TextCards.{ran-append}
-use Rattle.stretch.specs.Pieces.{mostInStretch}
-use Rattle.stretch.specs.Reading.{segmentAt, stretchOf}
-use Rattle.stretch.proofs.Rows as Read
-use Rattle.stretch.proofs.Decoding.{stretch-read}
-use Rattle.stretch.proofs.Stretches.{stretch-most}
+use Rattle.layout.specs.Pieces.{mostInStretch}
+use Rattle.layout.specs.Reading.{segmentAt, stretchOf}
+use Rattle.layout.proofs.Rows as Read
+use Rattle.layout.proofs.Decoding.{stretch-read}
+use Rattle.layout.proofs.Stretches.{stretch-most}
 use Rattle.rows.specs.Held.{Bases}
 use Rattle.rows.specs.RowStep.{Within, Lengths, Covers, Readable, SegmentOver, rowAt, rowOver}
 use Rattle.rows.specs.Rows.{Sound, Rowed, RowsOf}

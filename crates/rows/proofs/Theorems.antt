@@ -9,7 +9,7 @@ use Rattle.text.specs.Text.{Text}
 use Rattle.text.specs.Refusal.{ok, greatestPattern}
 use Rattle.text.specs.Card.{dead, ran}
 use Rattle.text.proofs.Patterns.{SoundPattern}
-use Rattle.stretch.specs.Reading.{stretchOf}
+use Rattle.layout.specs.Reading.{stretchOf}
 use Rattle.rows.specs.RowStep.{rowAt}
 use Rattle.rows.specs.Rows.{carding, rowed}
 use Rattle.rows.proofs.Carded

@@ -12,7 +12,7 @@ use Rattle.text.specs.Bits.{bit}
 use Rattle.text.specs.State.{next, endsAt, ends}
 use Rattle.text.specs.Refusal.{ok}
 use Rattle.text.specs.Card.{Row, none}
-use Rattle.stretch.specs.Reading.{Taken, segmentAt}
+use Rattle.layout.specs.Reading.{Taken, segmentAt}
 use Rattle.search.specs.Masks.{Masks}
 use Rattle.rows.specs.Held.{Bases, Full, rowOf}
 

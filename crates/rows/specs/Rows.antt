@@ -7,7 +7,7 @@ use Rattle.text.specs.Text.{Text}
 use Rattle.text.specs.State.{fresh, run, marksFrom}
 use Rattle.text.specs.Refusal.{Outcome, ok, refused, after, pattern, greatestPattern}
 use Rattle.text.specs.Card.{Card, dead, firstEnd, ran, cardOf}
-use Rattle.stretch.specs.Reading.{stretchOf}
+use Rattle.layout.specs.Reading.{stretchOf}
 use Rattle.rows.specs.declared.passes.Rows.{Rows}
 use Rattle.rows.specs.Held.{exitsOf, firstsOf, Bases, Full}
 use Rattle.rows.specs.RowStep.{rowAt}

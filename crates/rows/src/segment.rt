@@ -2,17 +2,17 @@
 // pass over each variant; each row is then a shift and a mask.
 use crate::carry::carry;
 use crate::ends::sooner;
-use stretch::pieces::Counted;
-use stretch::pieces::FIRST_VARIANT;
-use stretch::pieces::Part;
-use stretch::pieces::head;
-use stretch::pieces::variants;
+use layout::pieces::Counted;
+use layout::pieces::FIRST_VARIANT;
+use layout::pieces::Part;
+use layout::pieces::head;
+use layout::pieces::variants;
 use text::refusal;
 ghost use mathlib.Core.Path.{_≡_};
 ghost use Prim.Native.Nat.{_≤_, _<_};
 ghost use lib.ListN.{length};
 ghost use Rattle.text.specs.Refusal.{ok};
-ghost use Rattle.stretch.specs.Pieces.{variantsAt};
+ghost use Rattle.layout.specs.Pieces.{variantsAt};
 ghost use Rattle.rows.specs.Held.{Full};
 ghost use Rattle.rows.specs.RowStep.{Alive, Covers, Readable, Spread, VariantOver, Settled, SegmentOver};
 

@@ -7,9 +7,9 @@ use mathlib.Core.Logic.{by-cases}
 use mathlib.Core.List.{List, [], _∷_}
 use lib.ListN.{length, take, drop, getD, length-drop}
 use lib.Seq.{take-all, take-nil, take-take, getD-take, length-take-le}
-use Rattle.stretch.specs.Bytes.{greatestStretch}
-use Rattle.stretch.specs.Pieces.{mostInStretch}
-use Rattle.stretch.proofs.Stretches.{stretch-long}
+use Rattle.layout.specs.Bytes.{greatestStretch}
+use Rattle.layout.specs.Pieces.{mostInStretch}
+use Rattle.layout.proofs.Stretches.{stretch-long}
 use Rattle.search.specs.Answers.{into, searching}
 use Rattle.input.specs.Input.{announced, patternIn, stretchIn, mostRead}
 use Rattle.lines.specs.Puts.{Put}

@@ -13,7 +13,7 @@ use Rattle.text.proofs.Truth.{and-left, and-right}
 use Rattle.text.proofs.Likes.{meant-length, meant-at}
 use Rattle.text.proofs.Meanings.{bases-meant, cleared}
 use Rattle.text.proofs.Strings.{part-end}
-use Rattle.stretch.proofs.Raised.{part-meant}
+use Rattle.layout.proofs.Raised.{part-meant}
 use Rattle.search.specs.Border.{Next}
 
 every-at : (f : ℕ → Bool) (s : List ℕ) (i : ℕ) → every f s ≡ true → i < length s → f (getD s i 0) ≡ true

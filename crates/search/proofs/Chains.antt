@@ -19,10 +19,10 @@ use Rattle.text.proofs.Strands.{strand-length, strand-sound}
 use Rattle.text.proofs.Outcomes.{demand-met, after-met, ok-inj}
 use Rattle.text.proofs.Steps.{next-open, next-lt}
 use Rattle.text.proofs.Marks.{run-append, marks-append}
-use Rattle.stretch.specs.Bytes.{greatestStretch}
-use Rattle.stretch.specs.Pieces.{fitsAt, mostInStretch}
-use Rattle.stretch.specs.Reading.{segmentOf, loneSegment, stretchOf}
-use Rattle.stretch.proofs.Stretches.{stretch-most, stretch-short}
+use Rattle.layout.specs.Bytes.{greatestStretch}
+use Rattle.layout.specs.Pieces.{fitsAt, mostInStretch}
+use Rattle.layout.specs.Reading.{segmentOf, loneSegment, stretchOf}
+use Rattle.layout.proofs.Stretches.{stretch-most, stretch-short}
 use Rattle.search.specs.Answers.{Next, into, feeding, seeking, seenFrom}
 use Rattle.search.specs.Chain.{segmentsText, feeds, markOf, stretchesText, Trail, seeks}
 use Rattle.search.proofs.Entries.{entering-sound}

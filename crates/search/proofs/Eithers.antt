@@ -11,13 +11,13 @@ use Rattle.text.specs.Text.{Segment, Text, segment, total, size}
 use Rattle.text.specs.State.{isState, fresh, next, ends, run, marksFrom, marks}
 use Rattle.text.specs.Refusal.{Outcome, ok, refused, demand, after, pattern}
 use Rattle.text.specs.Strand.{opposite}
-use Rattle.stretch.specs.Pieces.{fitsAt}
+use Rattle.layout.specs.Pieces.{fitsAt}
 use Rattle.text.proofs.Outcomes.{ok-inj, told-met, told-refused}
 use Rattle.text.proofs.Outcomes.{after-after, after-demand, after-met, demand-met}
 use Rattle.text.proofs.Marks.{marks-length, mark-at}
 use Rattle.text.proofs.Folds.{run-snoc, marks-snoc}
 use Rattle.text.proofs.Patterns.{SoundPattern, pattern-sound, sound-pattern}
-use Rattle.stretch.specs.Reading.{Taken, segmentAt, many}
+use Rattle.layout.specs.Reading.{Taken, segmentAt, many}
 use Rattle.search.specs.Masks.{StateOf}
 use Rattle.search.specs.Step.{Pass, toldPassed, segmentPass}
 use Rattle.search.specs.Answers.{entering, stretchInto, searching, seeking, MarksFrom, RoomyFrom, Sums}

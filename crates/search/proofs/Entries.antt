@@ -15,11 +15,11 @@ use Rattle.text.proofs.Truth.{and-left, and-right}
 use Rattle.text.proofs.Bits.{bit-first}
 use Rattle.text.proofs.Outcomes.{demand-met, after-met, after-demand}
 use Rattle.text.proofs.Patterns.{SoundPattern, pattern-sound, sound-pattern, pattern-refused, pattern-after}
-use Rattle.stretch.specs.Bytes.{greatestStretch}
+use Rattle.layout.specs.Bytes.{greatestStretch}
 use Rattle.text.specs.declared.refusal.Refusal.{Refusal}
-use Rattle.stretch.specs.Pieces.{fitsAt, fits, toldVerdict}
-use Rattle.stretch.specs.declared.pieces.Verdict.{Verdict}
-use Rattle.stretch.proofs.Frames.{fits-refused}
+use Rattle.layout.specs.Pieces.{fitsAt, fits, toldVerdict}
+use Rattle.layout.specs.declared.pieces.Verdict.{Verdict}
+use Rattle.layout.proofs.Frames.{fits-refused}
 use Rattle.search.specs.Masks.{StateOf}
 use Rattle.search.specs.Answers.{entering}
 

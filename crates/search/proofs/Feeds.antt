@@ -11,11 +11,11 @@ use Rattle.text.proofs.Outcomes.{told-met, told-refused}
 use Rattle.text.specs.declared.refusal.Refusal.{Refusal}
 use Rattle.text.specs.Strand.{onStrand}
 use Rattle.text.specs.declared.strand.Strand.{Strand}
-use Rattle.stretch.specs.Pieces.{closedAt, toldVerdict}
-use Rattle.stretch.specs.Reading.{Taken, many, segmentAt}
-use Rattle.stretch.specs.declared.pieces.Verdict.{Verdict}
-use Rattle.stretch.specs.declared.pieces.Verdict.the-variants.{Sound}
-use Rattle.stretch.proofs.Frames.{lone-refused-inside, lone-refused-closed, lone-sound}
+use Rattle.layout.specs.Pieces.{closedAt, toldVerdict}
+use Rattle.layout.specs.Reading.{Taken, many, segmentAt}
+use Rattle.layout.specs.declared.pieces.Verdict.{Verdict}
+use Rattle.layout.specs.declared.pieces.Verdict.the-variants.{Sound}
+use Rattle.layout.proofs.Frames.{lone-refused-inside, lone-refused-closed, lone-sound}
 use Rattle.search.specs.Answers.{Course, courseOf, entering, feeding}
 use Rattle.search.proofs.Entries.{Entered, entering-refused, entering-sound}
 

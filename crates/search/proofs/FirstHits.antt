@@ -22,11 +22,11 @@ use Rattle.text.proofs.Sizes.{total-append}
 use Rattle.text.proofs.Outcomes.{ok-inj, after-met}
 use Rattle.text.proofs.Marks.{run-append, marks-append, marks-length}
 use Rattle.text.proofs.Folds.{marks-snoc}
-use Rattle.stretch.specs.Pieces.{openAt}
-use Rattle.stretch.specs.Reading.{segmentAt, many, stretchOf}
-use Rattle.stretch.proofs.Frames.{stretch-met, open-counts}
-use Rattle.stretch.proofs.Stretches.{stretch-short, stretch-most}
-use Rattle.stretch.proofs.Walks.{walk-refused, walk-length}
+use Rattle.layout.specs.Pieces.{openAt}
+use Rattle.layout.specs.Reading.{segmentAt, many, stretchOf}
+use Rattle.layout.proofs.Frames.{stretch-met, open-counts}
+use Rattle.layout.proofs.Stretches.{stretch-short, stretch-most}
+use Rattle.layout.proofs.Walks.{walk-refused, walk-length}
 use Rattle.search.specs.First.{Hit, endsIn, clear, whole, wholeOf, firstIn, hitting, firsting}
 use Rattle.search.specs.Chain.{stretchesText, asks, onward}
 use Rattle.search.proofs.Entries.{Entered, entering-sound}

@@ -15,8 +15,8 @@ use Rattle.text.specs.declared.refusal.Refusal.{Refusal}
 use Rattle.text.specs.Strand.{onStrand}
 use Rattle.text.specs.declared.strand.Strand.{Strand}
 use Rattle.text.proofs.Truth.{and-left, and-right}
-use Rattle.stretch.specs.Pieces.{openAt}
-use Rattle.stretch.specs.Reading.{segmentAt, many, stretchOf}
+use Rattle.layout.specs.Pieces.{openAt}
+use Rattle.layout.specs.Reading.{segmentAt, many, stretchOf}
 use Rattle.search.specs.Answers.{MarksOf, Seen, seenFrom, toldSought, entering}
 use Rattle.search.specs.First.{Hit, endsIn, clear, whole, wholeOf, firstIn, hitting, firsting, toldHit, Few, reach, manyTo}
 use Rattle.search.specs.declared.state.Sought.{Sought}

@@ -15,11 +15,11 @@ use Rattle.text.specs.Refusal.{Outcome, ok, refused, after, pattern}
 use Rattle.text.proofs.Sizes.{total-snoc}
 use Rattle.text.proofs.Outcomes.{ok-inj, refused-ok, told-met, told-refused}
 use Rattle.text.proofs.Patterns.{SoundPattern, pattern-refused, sound-pattern}
-use Rattle.stretch.specs.Bytes.{over}
-use Rattle.stretch.specs.Answers.{leftBy}
-use Rattle.stretch.specs.Reading.{Taken, segmentAt, many, stretchOf}
-use Rattle.stretch.proofs.Walks.{walk-length}
-use Rattle.stretch.proofs.Stretches.{InStretch, through-none, through-more, through-refused, through-all, segment-bytes}
+use Rattle.layout.specs.Bytes.{over}
+use Rattle.layout.specs.Bytes.{leftBy}
+use Rattle.layout.specs.Reading.{Taken, segmentAt, many, stretchOf}
+use Rattle.layout.proofs.Walks.{walk-length}
+use Rattle.layout.proofs.Stretches.{InStretch, through-none, through-more, through-refused, through-all, segment-bytes}
 use Rattle.search.specs.Answers.{MarksFrom, RoomyFrom, MarksOf, handed, into, stretchInto, searching}
 
 -- k segments from `from` on have been read, and their marks stand in front of the buffer, unless the walk is one that stops

@@ -7,8 +7,8 @@ use Rattle.text.specs.Text.{Segment, weight, total}
 use Rattle.text.specs.State.{next, ends}
 use Rattle.text.specs.Refusal.{ok, refused}
 use Rattle.text.proofs.Outcomes.{told-met, told-refused}
-use Rattle.stretch.specs.Reading.{Taken, segmentAt}
-use Rattle.stretch.proofs.Segments.{InSegment}
+use Rattle.layout.specs.Reading.{Taken, segmentAt}
+use Rattle.layout.proofs.Segments.{InSegment}
 use Rattle.search.specs.Step.{Pass, segmentPass}
 
 -- the variants of a segment, taken one after another

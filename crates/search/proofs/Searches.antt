@@ -20,10 +20,10 @@ use Rattle.text.specs.Card.{none, firstEnd}
 use Rattle.text.proofs.Folds.{run-snoc, marks-snoc}
 use Rattle.text.proofs.Marks.{marks-length}
 use Rattle.text.proofs.Truth.{and-left, and-right}
-use Rattle.stretch.specs.Bytes.{greatestStretch}
-use Rattle.stretch.specs.Reading.{Taken, segmentAt, many, stretchOf}
-use Rattle.stretch.proofs.Stretches.{stretch-long}
-use Rattle.stretch.proofs.Walks.{walk-length}
+use Rattle.layout.specs.Bytes.{greatestStretch}
+use Rattle.layout.specs.Reading.{Taken, segmentAt, many, stretchOf}
+use Rattle.layout.proofs.Stretches.{stretch-long}
+use Rattle.layout.proofs.Walks.{walk-length}
 use Rattle.search.specs.Masks.{StateOf}
 use Rattle.search.specs.Step.{segmentPass}
 use Rattle.search.specs.First.{reach, manyTo}

@@ -17,9 +17,9 @@ use Rattle.text.proofs.Outcomes.{ok-inj, refused-ok, after-met}
 use Rattle.text.proofs.Ends.{firstEnd-append, firstEnd-le, firstEnd-within}
 use Rattle.text.proofs.Marks.{marks-append, marks-length}
 use Rattle.text.proofs.Sizes.{total-each}
-use Rattle.stretch.specs.Reading.{Taken, segmentAt, many}
-use Rattle.stretch.proofs.Walks.{Step, many-add, many-steps, walk-length}
-use Rattle.stretch.proofs.Stretches.{segment-steps, segment-bytes}
+use Rattle.layout.specs.Reading.{Taken, segmentAt, many}
+use Rattle.layout.proofs.Walks.{Step, many-add, many-steps, walk-length}
+use Rattle.layout.proofs.Stretches.{segment-steps, segment-bytes}
 use Rattle.search.specs.First.{unless, whole, reach}
 
 module _ {A B : Type 0} (f : List A → B → Outcome (Taken A B)) where

@@ -21,10 +21,10 @@ use Rattle.text.proofs.Strands.{opposite-length, strand-length, strand-sound}
 use Rattle.text.proofs.Outcomes.{ok-inj}
 use Rattle.text.proofs.Marks.{marks-length}
 use Rattle.text.proofs.Occurrences.{marks-ends, state-carried}
-use Rattle.stretch.specs.Bytes.{over}
-use Rattle.stretch.specs.Pieces.{mostInStretch}
-use Rattle.stretch.specs.Answers.{leftBy}
-use Rattle.stretch.specs.Reading.{segmentAt, stretchOf}
+use Rattle.layout.specs.Bytes.{over}
+use Rattle.layout.specs.Pieces.{mostInStretch}
+use Rattle.layout.specs.Bytes.{leftBy}
+use Rattle.layout.specs.Reading.{segmentAt, stretchOf}
 use Rattle.search.specs.Answers.{Next, sumsOf, searching, seeking, Seen, seenFrom, toldSearched}
 use Rattle.search.specs.Either.{eitherMarks, eitherSums, eitherFrom, seekingBoth, SeenBoth, seenBoth}
 use Rattle.search.specs.First.{endsIn, clear, firsting}

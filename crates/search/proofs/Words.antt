@@ -20,13 +20,13 @@ use Rattle.text.proofs.Bits.{bit-ext, bit-zero, bit-or, bit-mod, bit-single}
 use Rattle.text.proofs.Steps.{next-lt}
 use Rattle.text.proofs.Scan.{one-ends}
 use Rattle.text.proofs.Folds.{next-none, next-snoc, ends-none, ends-snoc}
-use Rattle.stretch.specs.Pieces.{lettersAt}
-use Rattle.stretch.specs.Reading.{valueOf, variantAt, valuesFrom, many}
-use Rattle.stretch.specs.Prints.{printAt, Noted}
-use Rattle.stretch.proofs.Heads.{Whole, whole-part, value-part, value-length}
-use Rattle.stretch.proofs.Units.{variant-read}
-use Rattle.stretch.proofs.Prints.{noted-more}
-use Rattle.stretch.proofs.Segments.{InSegment, in-none, in-values, in-next, in-not}
+use Rattle.layout.specs.Pieces.{lettersAt}
+use Rattle.layout.specs.Reading.{valueOf, variantAt, valuesFrom, many}
+use Rattle.layout.specs.Prints.{printAt, Noted}
+use Rattle.layout.proofs.Heads.{Whole, whole-part, value-part, value-length}
+use Rattle.layout.proofs.Units.{variant-read}
+use Rattle.layout.proofs.Prints.{noted-more}
+use Rattle.layout.proofs.Segments.{InSegment, in-none, in-values, in-next, in-not}
 use Rattle.search.specs.Masks.{others}
 use Rattle.search.specs.Step.{Steps}
 use Rattle.search.specs.Words.{Words, Turned, LettersBy, SweptAt}

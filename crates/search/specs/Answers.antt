@@ -10,9 +10,9 @@ use Rattle.text.specs.State.{isState, fresh, next, ends, run, marksFrom, marks}
 use Rattle.text.specs.Refusal.{Outcome, ok, refused, demand, after, pattern, Answer}
 use Rattle.text.specs.Strand.{onStrand}
 use Rattle.text.specs.declared.strand.Strand.{Strand}
-use Rattle.stretch.specs.Bytes.{greatestStretch, over}
-use Rattle.stretch.specs.Pieces.{fits}
-use Rattle.stretch.specs.Reading.{Taken, loneSegment, stretchOf}
+use Rattle.layout.specs.Bytes.{greatestStretch, over}
+use Rattle.layout.specs.Pieces.{fits}
+use Rattle.layout.specs.Reading.{Taken, loneSegment, stretchOf}
 use Rattle.search.specs.declared.entry.Entry.{Entry}
 use Rattle.search.specs.declared.entry.Entry.the-variants.{Open}
 use Rattle.search.specs.declared.state.Fed.{Fed}

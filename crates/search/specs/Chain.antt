@@ -7,7 +7,7 @@ use Rattle.text.specs.State.{marksFrom}
 use Rattle.text.specs.Refusal.{Outcome, ok, after}
 use Rattle.text.specs.Strand.{onStrand}
 use Rattle.text.specs.declared.strand.Strand.{Strand}
-use Rattle.stretch.specs.Reading.{segmentOf, stretchOf}
+use Rattle.layout.specs.Reading.{segmentOf, stretchOf}
 use Rattle.search.specs.Answers.{Next, feeding, seeking, seenFrom}
 use Rattle.search.specs.First.{Hit, endsIn, clear, firsting}
 

@@ -6,7 +6,7 @@ use Rattle.text.specs.Text.{Text, total, size}
 use Rattle.text.specs.State.{isState, run, marksFrom, marks}
 use Rattle.text.specs.Refusal.{Outcome, ok, refused, demand, Answer}
 use Rattle.text.specs.Strand.{opposite}
-use Rattle.stretch.specs.Reading.{Taken}
+use Rattle.layout.specs.Reading.{Taken}
 use Rattle.search.specs.Answers.{Sums, entering, stretchInto}
 use Rattle.search.specs.Masks.{Ready}
 use Rattle.search.specs.Method.{Founded, Tools}

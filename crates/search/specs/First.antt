@@ -9,8 +9,8 @@ use Rattle.text.specs.Card.{none, firstEnd}
 use Rattle.text.specs.Refusal.{Outcome, ok, refused, after, Answer}
 use Rattle.text.specs.Strand.{onStrand}
 use Rattle.text.specs.declared.strand.Strand.{Strand}
-use Rattle.stretch.specs.Pieces.{openAt}
-use Rattle.stretch.specs.Reading.{Taken, many, segmentAt, stretchOf}
+use Rattle.layout.specs.Pieces.{openAt}
+use Rattle.layout.specs.Reading.{Taken, many, segmentAt, stretchOf}
 use Rattle.search.specs.Answers.{entering}
 use Rattle.search.specs.declared.first.First.{First}
 use Rattle.search.specs.declared.state.Sought.{Sought}

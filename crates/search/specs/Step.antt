@@ -6,7 +6,7 @@ use mathlib.Core.List.{List, [], _∷_}
 use Rattle.text.specs.Text.{Variant, weight, total}
 use Rattle.text.specs.State.{next, endsAt, ends}
 use Rattle.text.specs.Refusal.{Outcome, ok, refused, after}
-use Rattle.stretch.specs.Reading.{segmentAt}
+use Rattle.layout.specs.Reading.{segmentAt}
 use Rattle.search.specs.declared.segment.Passed.{Passed}
 use Rattle.search.specs.declared.segment.Passed.the-variants.{To, Refused}
 

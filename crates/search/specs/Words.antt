@@ -10,7 +10,7 @@ use Rattle.text.specs.Text.{Variant, Segment, weight}
 use Rattle.text.specs.Bits.{bit}
 use Rattle.text.specs.State.{next, ends}
 use Rattle.text.specs.Refusal.{ok, refused}
-use Rattle.stretch.specs.Reading.{valueOf, variantAt, valuesFrom}
+use Rattle.layout.specs.Reading.{valueOf, variantAt, valuesFrom}
 use Rattle.search.specs.Masks.{others, Ready}
 use Rattle.search.specs.declared.segment.Swept.{Swept}
 use Rattle.search.specs.declared.segment.Swept.the-variants.{To, Refused}

@@ -20,7 +20,7 @@ ghost use Prim.Native.Nat.{_<_};
 ghost use lib.ListN.{length};
 ghost use Rattle.text.specs.Refusal.{ok, after, answer};
 ghost use Rattle.text.specs.Strand.{opposite};
-ghost use Rattle.stretch.specs.Answers.{leftBy};
+ghost use Rattle.layout.specs.Bytes.{leftBy};
 ghost use Rattle.search.specs.Answers.{searching, stretchInto, toldEntry, toldSearched, answerSearched, zeroSums, Roomy};
 ghost use Rattle.search.specs.Masks.{StateOf};
 ghost use Rattle.search.specs.Either.{evens, odds, Founds, eitherMarks, eitherSums, eitherFrom, enteringBoth, seekingBoth};

@@ -1,7 +1,7 @@
 // What every call from a state asks before it reads a byte.
 use crate::state::State;
-use stretch::pieces::Verdict;
-use stretch::pieces::fits;
+use layout::pieces::Verdict;
+use layout::pieces::fits;
 use text::Refusal;
 use text::pattern::PatternIs;
 use text::pattern::check;

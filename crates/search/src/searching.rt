@@ -13,7 +13,7 @@ ghost use mathlib.Core.Path.{_≡_};
 ghost use lib.ListN.{length};
 ghost use Rattle.text.specs.Refusal.{ok, after, answer};
 ghost use Rattle.text.specs.Strand.{onStrand};
-ghost use Rattle.stretch.specs.Answers.{leftBy};
+ghost use Rattle.layout.specs.Bytes.{leftBy};
 ghost use Rattle.search.specs.Answers.{searching, sumsOf, toldSearched, answerSearched, zeroSums, toldSought, sums, marked};
 
 // The segment count, the size and the number of ones among the marks.

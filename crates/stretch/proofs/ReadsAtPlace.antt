@@ -11,14 +11,14 @@ use lib.ListN.{length, getD, take, drop, List·getD-eq-default}
 use Rattle.text.specs.Text.{Text, segment, size as textSize}
 use Rattle.text.specs.Refusal.{Outcome, ok, refused}
 use Rattle.text.proofs.Outcomes.{refused-ok, told-met, told-refused}
-use Rattle.stretch.specs.Bytes.{part}
-use Rattle.stretch.specs.Pieces.{nextOf}
-use Rattle.stretch.specs.Reading.{stretchOf}
-use Rattle.stretch.specs.Skips.{behindVariants, behindSegment, segmentPlace}
+use Rattle.layout.specs.Bytes.{part}
+use Rattle.layout.specs.Pieces.{nextOf}
+use Rattle.layout.specs.Reading.{stretchOf}
+use Rattle.layout.specs.Skips.{behindVariants, behindSegment, segmentPlace}
 use Rattle.stretch.specs.Places.{startOf, variant, found, end, Reading, handed, readFrom, readIn, reading, partOf}
 use Rattle.stretch.specs.Answers.{Sum, Accepted, checking, handedAt}
-use Rattle.stretch.proofs.Decoding.{StretchRead, stretch-read}
-use Rattle.stretch.proofs.Skips.{stepped-last}
+use Rattle.layout.proofs.Decoding.{StretchRead, stretch-read}
+use Rattle.layout.proofs.Skips.{stepped-last}
 use Rattle.stretch.proofs.TextPlaces.{segment-there, variant-inside, letters-inside, handed-there}
 
 -- the end, with the place unchanged

@@ -14,19 +14,19 @@ use Rattle.text.specs.Text.{Variant, Segment, Text, segment}
 use Rattle.text.specs.Refusal.{Outcome, ok, refused}
 use Rattle.text.proofs.Truth.{and-left, and-right}
 use Rattle.text.proofs.Outcomes.{refused-ok}
-use Rattle.stretch.specs.Reading.{stretchOf}
-use Rattle.stretch.specs.Bytes.{word}
-use Rattle.stretch.specs.Encoding.{raisedText, all}
-use Rattle.stretch.specs.Skips.{segmentPlace}
-use Rattle.stretch.specs.Standing.{standing}
+use Rattle.layout.specs.Reading.{stretchOf}
+use Rattle.layout.specs.Bytes.{word}
+use Rattle.layout.specs.Encoding.{raisedText, all}
+use Rattle.layout.specs.Skips.{segmentPlace}
+use Rattle.layout.specs.Standing.{standing}
 use Rattle.stretch.specs.Places.{variant, startOf, Found, found, end, Reading, reading, readIn, partOf}
 use Rattle.stretch.specs.Answers.{toldGot}
 use Rattle.stretch.specs.Onward.{Handed, HandsOut, ReadOn, gathered, ReadsAs}
 use Rattle.stretch.specs.declared.reading.Got.{Got}
 use Rattle.stretch.specs.declared.reading.Got.the-variants.{End}
-use Rattle.stretch.proofs.Lengths.{filled}
-use Rattle.stretch.proofs.Decoding.{stretch-read, stretch-filled, stretch-means}
-use Rattle.stretch.proofs.Standing.{letters-at, segments-at, filled-raised}
+use Rattle.layout.proofs.Lengths.{filled}
+use Rattle.layout.proofs.Decoding.{stretch-read, stretch-filled, stretch-means}
+use Rattle.layout.proofs.Standing.{letters-at, segments-at, filled-raised}
 use Rattle.stretch.proofs.TextPlaces.{segment-there, part-there}
 use Rattle.stretch.proofs.ReadsAtPlace.{read-text, some-segment, read-here, read-next, read-end}
 

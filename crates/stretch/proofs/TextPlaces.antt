@@ -7,17 +7,17 @@ use mathlib.Core.List.{List, [], _∷_, _++_}
 use lib.ListN.{length, getD, take}
 use Rattle.text.specs.Text.{Variant, Segment, Text, segment, total}
 use Rattle.text.specs.Refusal.{Outcome, ok}
-use Rattle.stretch.specs.Bytes.{word, part}
-use Rattle.stretch.specs.Pieces.{lettersAt, nextOf}
-use Rattle.stretch.specs.Reading.{Taken, valueOf, variantAt, segmentAt}
-use Rattle.stretch.specs.Encoding.{encodeVariant, encodeSegment}
-use Rattle.stretch.specs.Skips.{stepped, behindVariants, behindSegment, segmentPlace}
+use Rattle.layout.specs.Bytes.{word, part}
+use Rattle.layout.specs.Pieces.{lettersAt, nextOf}
+use Rattle.layout.specs.Reading.{Taken, valueOf, variantAt, segmentAt}
+use Rattle.layout.specs.Encoding.{encodeVariant, encodeSegment}
+use Rattle.layout.specs.Skips.{stepped, behindVariants, behindSegment, segmentPlace}
 use Rattle.stretch.specs.Places.{variant, startOf, handed}
 use Rattle.stretch.specs.Answers.{handedAt}
-use Rattle.stretch.proofs.Heads.{value-length}
-use Rattle.stretch.proofs.Units.{variant-read}
-use Rattle.stretch.proofs.Rows.{Row}
-use Rattle.stretch.proofs.Decoding.{variant-bytes, SegmentRead, segment-read, segment-bytes, StretchRead}
+use Rattle.layout.proofs.Heads.{value-length}
+use Rattle.layout.proofs.Units.{variant-read}
+use Rattle.layout.proofs.Rows.{Row}
+use Rattle.layout.proofs.Decoding.{variant-bytes, SegmentRead, segment-read, segment-bytes, StretchRead}
 
 -- a row whose members are stepped over
 module _ {A : Type 0} (f : List A → ℕ → Outcome (Taken A ℕ)) (step : ℕ → ℕ)

@@ -1,51 +1,18 @@
 -- Answers that are told alike are the same answer, and what they say in numbers is what they tell.
 use Prim.Native.Nat.{ℕ}
-use mathlib.Core.Path.{_≡_, refl, sym, ap, ap₂, _∙_}
+use mathlib.Core.Path.{_≡_, sym, ap, ap₂}
 use Rattle.text.specs.Refusal.{Outcome, ok, refused, answer}
-use Rattle.text.specs.declared.refusal.Refusal.{Refusal}
 use Rattle.text.proofs.Outcomes.{refused-ok, refused-inj, ok-inj}
-use Rattle.stretch.specs.Pieces.{Span, toldVerdict, toldOpened, toldCounted, toldPart}
 use Rattle.stretch.specs.Places.{Found, found, end, Reading}
-use Rattle.stretch.specs.Answers.{Sum, zeroSum, toldChecked, answerChecked, toldWritten, answerWritten}
+use Rattle.stretch.specs.Answers.{Sum, zeroSum, toldChecked, answerChecked}
 use Rattle.stretch.specs.Answers.{toldGot, answerGot, answerReading}
-use Rattle.stretch.specs.declared.pieces.Verdict.{Verdict}
-use Rattle.stretch.specs.declared.pieces.Opened.{Opened}
-use Rattle.stretch.specs.declared.pieces.Counted.{Counted}
-use Rattle.stretch.specs.declared.pieces.Part.{Part}
 use Rattle.stretch.specs.declared.checking.Checked.{Checked}
 use Rattle.stretch.specs.declared.checking.Checked.the-variants.{Sound}
 use Rattle.stretch.specs.declared.reading.Got.{Got}
 use Rattle.stretch.specs.declared.reading.Got.the-variants.{End}
-use Rattle.stretch.specs.declared.writer.Written.{Written}
-use Rattle.stretch.specs.declared.writer.Written.the-variants.{Bytes}
-
-same-refusal : {A : Type 0} (r s : Refusal) → _≡_ {A = Outcome A} (refused (r .number) (r .place)) (refused (s .number) (s .place)) → r ≡ s
-same-refusal r s e = let i = refused-inj e in λ k. record { number = i .0 k; place = i .1 k }
-
-pub verdict-once : (a b : Verdict) → toldVerdict a ≡ toldVerdict b → a ≡ b
-verdict-once Verdict.Sound Verdict.Sound e = refl
-verdict-once Verdict.Sound (Verdict.Refused r) e = absurd (refused-ok (r .number) (r .place) tt (sym e))
-verdict-once (Verdict.Refused r) Verdict.Sound e = absurd (refused-ok (r .number) (r .place) tt e)
-verdict-once (Verdict.Refused r) (Verdict.Refused s) e = ap Verdict.Refused (same-refusal r s e)
-
-pub opened-once : (a b : Opened) → toldOpened a ≡ toldOpened b → a ≡ b
-opened-once (Opened.Segments n) (Opened.Segments m) e = ap Opened.Segments (ok-inj e)
-opened-once (Opened.Segments n) (Opened.Refused r) e = absurd (refused-ok (r .number) (r .place) n (sym e))
-opened-once (Opened.Refused r) (Opened.Segments n) e = absurd (refused-ok (r .number) (r .place) n e)
-opened-once (Opened.Refused r) (Opened.Refused s) e = ap Opened.Refused (same-refusal r s e)
-
-pub counted-once : (a b : Counted) → toldCounted a ≡ toldCounted b → a ≡ b
-counted-once (Counted.Variants n) (Counted.Variants m) e = ap Counted.Variants (ok-inj e)
-counted-once (Counted.Variants n) (Counted.Refused r) e = absurd (refused-ok (r .number) (r .place) n (sym e))
-counted-once (Counted.Refused r) (Counted.Variants n) e = absurd (refused-ok (r .number) (r .place) n e)
-counted-once (Counted.Refused r) (Counted.Refused s) e = ap Counted.Refused (same-refusal r s e)
-
-pub part-once : (a b : Part) → toldPart a ≡ toldPart b → a ≡ b
-part-once (Part.At i n) (Part.At j m) e =
-    ap₂ Part.At (ap (λ (x : Span). x .start) (ok-inj e)) (ap (λ (x : Span). x .next) (ok-inj e))
-part-once (Part.At i n) (Part.Refused r) e = absurd (refused-ok (r .number) (r .place) _ (sym e))
-part-once (Part.Refused r) (Part.At i n) e = absurd (refused-ok (r .number) (r .place) _ e)
-part-once (Part.Refused r) (Part.Refused s) e = ap Part.Refused (same-refusal r s e)
+use Rattle.stretch.specs.Answers.{toldWritten, answerWritten}
+use Rattle.stretch.specs.declared.writing.Written.{Written}
+use Rattle.stretch.specs.declared.writing.Written.the-variants.{Bytes}
 
 pub checked-once : (a b : Checked) → toldChecked a ≡ toldChecked b → a ≡ b
 checked-once (Sound n z) (Sound m y) e =
@@ -62,21 +29,6 @@ pub checked-both :
 unfolding answerChecked
 checked-both (Sound n z) e = (e, ap (answer zeroSum) e)
 checked-both (Checked.Refused r) e = (e, ap (answer zeroSum) e)
-
-pub written-once : (a b : Written) → toldWritten a ≡ toldWritten b → a ≡ b
-written-once (Bytes n) (Bytes m) e = ap Bytes (ok-inj e)
-written-once (Bytes n) (Written.Refused r) e = cc
-written-once (Written.Refused r) (Bytes n) e = cc
-written-once (Written.Refused r) (Written.Refused s) e =
-    let n : r .number ≡ s .number = cc in
-    let p : r .place ≡ s .place = cc in
-    ap₂ (λ (a b : ℕ). Written.Refused (record { number = a; place = b })) n p
-
-pub written-both :
-    (r : Written) {o : Outcome ℕ} {B : Type 0} → (toldWritten r ≡ o) × B → (toldWritten r ≡ o) × ((answerWritten r ≡ answer 0 o) × B)
-unfolding answerWritten
-written-both (Bytes n) e = (e .0, (ap (answer 0) (e .0), e .1))
-written-both (Written.Refused r) e = (e .0, (ap (answer 0) (e .0), e .1))
 
 pub got-once : (a b : Got) → toldGot a ≡ toldGot b → a ≡ b
 got-once (Got.Variant i k j v) (Got.Variant i′ k′ j′ v′) e =
@@ -116,3 +68,18 @@ unfolding answerGot
 got-both (Got.Variant i k j v) e = (e, ap answerReading e)
 got-both (End j v) e = (e, ap answerReading e)
 got-both (Got.Refused r j v) e = (e, ap answerReading e)
+
+pub written-once : (a b : Written) → toldWritten a ≡ toldWritten b → a ≡ b
+written-once (Bytes n) (Bytes m) e = ap Bytes (ok-inj e)
+written-once (Bytes n) (Written.Refused r) e = cc
+written-once (Written.Refused r) (Bytes n) e = cc
+written-once (Written.Refused r) (Written.Refused s) e =
+    let n : r .number ≡ s .number = cc in
+    let p : r .place ≡ s .place = cc in
+    ap₂ (λ (a b : ℕ). Written.Refused (record { number = a; place = b })) n p
+
+pub written-both :
+    (r : Written) {o : Outcome ℕ} {B : Type 0} → (toldWritten r ≡ o) × B → (toldWritten r ≡ o) × ((answerWritten r ≡ answer 0 o) × B)
+unfolding answerWritten
+written-both (Bytes n) e = (e .0, (ap (answer 0) (e .0), e .1))
+written-both (Written.Refused r) e = (e .0, (ap (answer 0) (e .0), e .1))

@@ -4,29 +4,20 @@ use mathlib.Core.Path.{_≡_}
 use mathlib.Core.Bool.{Bool, true, false}
 use mathlib.Core.List.{List}
 use lib.ListN.{length}
-use Rattle.text.specs.Text.{Segment, Text, total, weight, size}
+use Rattle.text.specs.Text.{Text, total, weight, size}
 use Rattle.text.specs.Refusal.{Outcome, ok, refused, after, Answer, answer}
-use Rattle.stretch.specs.Pieces.{Span}
-use Rattle.stretch.specs.Reading.{Taken, variantAt, segmentAt, stretchOf}
-use Rattle.stretch.specs.Bytes.{word, over}
-use Rattle.stretch.specs.Encoding.{encode}
-use Rattle.stretch.specs.Writing.{Spot}
+use Rattle.layout.specs.Reading.{Taken, segmentAt, stretchOf}
+use Rattle.layout.specs.Bytes.{word}
 use Rattle.stretch.specs.Places.{Found, found, end, Reading}
-use Rattle.stretch.specs.Skips.{behindVariants}
+use Rattle.layout.specs.Skips.{behindVariants}
 use Rattle.stretch.specs.declared.segment.Walked.{Walked}
 use Rattle.stretch.specs.declared.segment.Walked.the-variants.{To}
 use Rattle.stretch.specs.declared.checking.Checked.{Checked}
 use Rattle.stretch.specs.declared.checking.Checked.the-variants.{Sound}
-use Rattle.stretch.specs.declared.writer.sound.Reached.{Reached}
-use Rattle.stretch.specs.declared.writer.sound.Reached.the-variants.{Letter}
 use Rattle.stretch.specs.declared.reading.Got.{Got}
 use Rattle.stretch.specs.declared.reading.Got.the-variants.{End}
-use Rattle.stretch.specs.declared.writer.Written.{Written}
-use Rattle.stretch.specs.declared.writer.Written.the-variants.{Bytes}
-
--- where the letters of the variant at `at` stand, read behind those seen of its segment
-unfoldable pub spanAt : List ℕ → Segment → ℕ → Outcome Span
-spanAt s seen at = after (variantAt s seen at) λ x. ok (record { start = at + 2; next = x .next })
+use Rattle.stretch.specs.declared.writing.Written.{Written}
+use Rattle.stretch.specs.declared.writing.Written.the-variants.{Bytes}
 
 -- how far a walk over a segment has come, and the segment's size
 abbrev pub toldWalked : Walked → Outcome (Taken ℕ ℕ)
@@ -98,14 +89,6 @@ abbrev pub handedAt : List ℕ → ℕ → ℕ → ℕ → Reading
 handedAt s at j v =
     record { answer = ok (found (behindVariants s v (at + 1) + 2) (word s (behindVariants s v (at + 1)))); segment = j; variant = v + 1 }
 
--- the number of the first letter behind what a write has checked
-abbrev pub toldReached : Reached → Outcome ℕ
-toldReached (Letter at) = ok at
-toldReached (Reached.Refused r) = refused (r .number) (r .place)
-
-abbrev pub reached : {A : Type 0} → Outcome (Taken A Spot) → Outcome ℕ
-reached o = after o λ x. ok (x .next .letter)
-
 -- the bytes that a write has written
 abbrev pub toldWritten : Written → Outcome ℕ
 toldWritten (Bytes n) = ok n
@@ -115,11 +98,3 @@ toldWritten (Written.Refused r) = refused (r .number) (r .place)
 unfoldable pub answerWritten : Written → Answer ℕ
 answerWritten (Bytes n) = record { number = 0; place = 0; value = n }
 answerWritten (Written.Refused r) = record { number = r .number; place = r .place; value = 0 }
-
-abbrev pub written : Outcome Text → Outcome ℕ
-written o = after o λ t. ok (length (encode t))
-
--- what a call leaves in the buffer d: the bytes f of its value from the start on; a refused one what was there
-abbrev pub leftBy : {A : Type 0} → (A → List ℕ) → Outcome A → List ℕ → List ℕ
-leftBy f (ok a) d = over d 0 (f a)
-leftBy f (refused n p) d = d

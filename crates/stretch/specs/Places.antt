@@ -6,9 +6,9 @@ use lib.Dec.{ltb}
 use lib.ListN.{length, take, getD}
 use Rattle.text.specs.Text.{Variant, Text, segment, total}
 use Rattle.text.specs.Refusal.{Outcome, ok, refused}
-use Rattle.stretch.specs.Bytes.{part}
-use Rattle.stretch.specs.Encoding.{encodeVariant, encodeSegment}
-use Rattle.stretch.specs.Reading.{stretchOf}
+use Rattle.layout.specs.Bytes.{part}
+use Rattle.layout.specs.Encoding.{encodeVariant, encodeSegment}
+use Rattle.layout.specs.Reading.{stretchOf}
 
 -- variant v of segment j
 abbrev pub variant : Text → ℕ → ℕ → Variant

@@ -1,11 +1,11 @@
 // The check of a whole stretch, in one walk.
-use crate::pieces::FIRST_SEGMENT;
-use crate::pieces::Opened;
-use crate::pieces::Verdict;
-use crate::pieces::closed;
-use crate::pieces::open;
 use crate::segment::Walked;
 use crate::segment::segment_at;
+use layout::pieces::FIRST_SEGMENT;
+use layout::pieces::Opened;
+use layout::pieces::Verdict;
+use layout::pieces::closed;
+use layout::pieces::open;
 use text::Refusal;
 use text::spelling::classes;
 ghost use mathlib.Core.Path.{_≡_};

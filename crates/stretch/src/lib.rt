@@ -1,13 +1,10 @@
-// The bytes of a stretch: what they mean as a text, their check, their reader and their writer.
+// A stretch: its check, its readers and its write.
 mod checking;
-pub mod number;
-pub mod pieces;
 mod places;
 mod reader;
 mod reading;
-pub mod repetition;
 mod segment;
-mod writer;
+mod writing;
 
 pub use checking::Checked;
 pub use checking::check;
@@ -16,6 +13,5 @@ pub use reader::read_from;
 pub use reading::Got;
 pub use reading::letters;
 pub use reading::read;
-pub use writer::Written;
-pub use writer::put_variant;
-pub use writer::write;
+pub use writing::Written;
+pub use writing::write;

@@ -1,12 +1,12 @@
 // Places in a stretch that was checked: its segments and variants are stepped over, not read again.
-use crate::number::pair;
-use crate::number::wide;
-use crate::pieces::FIRST_SEGMENT;
-use crate::pieces::FIRST_VARIANT;
+use layout::number::wide;
+use layout::number::word_at;
+use layout::pieces::FIRST_SEGMENT;
+use layout::pieces::FIRST_VARIANT;
 ghost use Prim.Native.Nat.{_≤_};
 ghost use mathlib.Core.Path.{_≡_};
 ghost use lib.ListN.{length};
-ghost use Rattle.stretch.specs.Skips.{behindVariants, segmentPlace};
+ghost use Rattle.layout.specs.Skips.{behindVariants, segmentPlace};
 
 // The place behind k variants, of which the first stands at `first`.
 pub fn behind_variants(stretch: &[u8], k: usize, first: usize) -> usize
@@ -16,7 +16,7 @@ pub fn behind_variants(stretch: &[u8], k: usize, first: usize) -> usize
     let mut at = first;
     let mut i = 0;
     while i < k {
-        let letters = pair(stretch, at);
+        let letters = word_at(stretch, at);
         at = at + 2 + letters;
         i += 1;
     }

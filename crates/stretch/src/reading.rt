@@ -2,17 +2,17 @@
 // whole stretch is checked each time, so that any bytes and any place are fine.
 use crate::checking::Checked;
 use crate::checking::check;
-use crate::number::pair;
-use crate::number::wide;
-use crate::pieces::FIRST_VARIANT;
 use crate::places::behind_variants;
 use crate::places::segment_place;
+use layout::number::wide;
+use layout::number::word_at;
+use layout::pieces::FIRST_VARIANT;
 use text::Refusal;
 ghost use Prim.Native.Nat.{_+_, _<_, _≤_};
 ghost use mathlib.Core.Path.{_≡_};
 ghost use lib.ListN.{length};
-ghost use Rattle.stretch.specs.Pieces.{nextOf};
-ghost use Rattle.stretch.specs.Skips.{behindVariants};
+ghost use Rattle.layout.specs.Pieces.{nextOf};
+ghost use Rattle.layout.specs.Skips.{behindVariants};
 ghost use Rattle.stretch.specs.Places.{reading, partOf};
 ghost use Rattle.stretch.specs.Answers.{Accepted, toldGot, answerGot, answerReading, handedAt};
 
@@ -46,7 +46,7 @@ fn handed(stretch: &[u8], at: usize, segment: usize, variant: usize) -> Got
     let place = behind_variants(stretch, variant, at + FIRST_VARIANT);
     Got::Variant {
         start: place + 2,
-        len: pair(stretch, place),
+        len: word_at(stretch, place),
         segment,
         variant: variant + 1,
     }

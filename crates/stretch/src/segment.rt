@@ -1,25 +1,26 @@
 // One segment in the bytes, checked: its count and its variants, one after another.
-use crate::pieces::Counted;
-use crate::pieces::FIRST_VARIANT;
-use crate::pieces::Part;
-use crate::pieces::head;
-use crate::pieces::misspelt;
-use crate::pieces::variants;
-use crate::repetition::again;
-use crate::repetition::print;
-use crate::repetition::repeated_at;
-use crate::repetition::suspected;
+use layout::pieces::Counted;
+use layout::pieces::FIRST_VARIANT;
+use layout::pieces::Part;
+use layout::pieces::head;
+use layout::pieces::misspelt;
+use layout::pieces::variants;
+use layout::repetition::again;
+use layout::repetition::print;
+use layout::repetition::repeated_at;
+use layout::repetition::suspected;
 use text::Refusal;
 use text::size::counted;
 use text::spelling::any_wrong_by;
 ghost use Prim.Native.Nat.{_-_, _<_};
 ghost use mathlib.Core.Path.{_≡_};
 ghost use Rattle.text.specs.Letter.{Classes};
-ghost use Rattle.stretch.specs.Skips.{UpTo};
-ghost use Rattle.stretch.specs.Pieces.{toldPart};
-ghost use Rattle.stretch.specs.Prints.{Noted};
-ghost use Rattle.stretch.specs.Reading.{valuesFrom};
-ghost use Rattle.stretch.specs.Answers.{spanAt, toldWalked, walkedSegment};
+ghost use Rattle.layout.specs.Skips.{UpTo};
+ghost use Rattle.layout.specs.Pieces.{toldPart};
+ghost use Rattle.layout.specs.Prints.{Noted};
+ghost use Rattle.layout.specs.Reading.{valuesFrom};
+ghost use Rattle.layout.specs.Reading.{spanAt};
+ghost use Rattle.stretch.specs.Answers.{toldWalked, walkedSegment};
 
 // How far a walk has come: the place behind what was read, and its size.
 pub enum Walked {

@@ -12,8 +12,8 @@ use Rattle.text.specs.Compare.{prefix}
 use Rattle.text.specs.Refusal.{Outcome, ok, refused, after}
 use Rattle.text.proofs.Letters.{first-le, first-every, first-not-every}
 use Rattle.text.proofs.Outcomes.{told-met, told-refused}
-use Rattle.stretch.specs.Encoding.{encode}
-use Rattle.stretch.specs.Putting.{putting}
+use Rattle.layout.specs.Encoding.{encode}
+use Rattle.writer.specs.Putting.{putting}
 use Rattle.records.specs.Pieces.{lines}
 use Rattle.records.specs.Records.{heading, placed, records, touching}
 use Rattle.records.proofs.Kept.{kept}

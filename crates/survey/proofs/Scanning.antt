@@ -14,7 +14,7 @@ use Rattle.text.proofs.Truth.{and-left, and-right, not-true-false}
 use Rattle.text.specs.Letter.{letter, meant, every}
 use Rattle.text.proofs.Likes.{meant-length}
 use Rattle.text.specs.Compare.{same}
-use Rattle.stretch.specs.Bytes.{part}
+use Rattle.layout.specs.Bytes.{part}
 use Rattle.records.specs.Pieces.{pieces, lines, Ends, nextLine}
 use Rattle.records.specs.Records.{allele, alternatesSound, beyond, field, position, reference, alts, alternates, behind}
 use Rattle.records.specs.Records.{isRecord, outside, agrees, passedOver, comment, fitting, records}

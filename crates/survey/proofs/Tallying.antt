@@ -16,9 +16,9 @@ use Rattle.text.specs.Letter.{meant}
 use Rattle.text.specs.Compare.{same, alike}
 use Rattle.text.proofs.Likes.{meant-length}
 use Rattle.text.proofs.Truth.{same-truth, or-false}
-use Rattle.stretch.specs.Bytes.{greatestStretch, part}
-use Rattle.stretch.specs.Reading.{among}
-use Rattle.stretch.proofs.Raised.{part-meant, alike-part}
+use Rattle.layout.specs.Bytes.{greatestStretch, part}
+use Rattle.layout.specs.Reading.{among}
+use Rattle.layout.proofs.Raised.{part-meant, alike-part}
 use Rattle.records.specs.Pieces.{pieces, endOf, Ends}
 use Rattle.records.specs.Records.{none, alternates}
 use Rattle.survey.specs.Building.{gap}

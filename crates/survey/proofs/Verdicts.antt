@@ -11,10 +11,10 @@ use borrow.Author.Tests.{lt-leb, leb-true, leb-false}
 use Rattle.text.specs.Text.{Variant, Segment, Text}
 use Rattle.text.specs.Refusal.{Outcome, ok, refused, demand, after}
 use Rattle.text.proofs.Outcomes.{after-after, refused-ok}
-use Rattle.stretch.specs.Bytes.{greatestStretch, wordBytes}
-use Rattle.stretch.specs.Reading.{among}
-use Rattle.stretch.specs.Encoding.{bytesOf, encodeVariant, encodeSegment, encode}
-use Rattle.stretch.specs.Putting.{onceIn, once, putting}
+use Rattle.layout.specs.Bytes.{greatestStretch, wordBytes}
+use Rattle.layout.specs.Reading.{among}
+use Rattle.layout.specs.Encoding.{bytesOf, encodeVariant, encodeSegment, encode}
+use Rattle.writer.specs.Putting.{onceIn, once, putting}
 use Rattle.survey.specs.Tallies.{within, nothing, opened, tallied, tallyIn, tallyText}
 use Rattle.survey.specs.declared.tally.Tally.{Tally}
 use Rattle.survey.specs.declared.tally.Tally.the-variants.{Fits, Repeated, Long}

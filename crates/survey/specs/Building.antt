@@ -8,8 +8,8 @@ use Rattle.text.specs.Letter.{letter, meant, every, firstNot}
 use Rattle.text.specs.Text.{Text}
 use Rattle.text.specs.Compare.{prefix}
 use Rattle.text.specs.Refusal.{Outcome, demand, after}
-use Rattle.stretch.specs.Bytes.{part}
-use Rattle.stretch.specs.Putting.{putting}
+use Rattle.layout.specs.Bytes.{part}
+use Rattle.writer.specs.Putting.{putting}
 use Rattle.records.specs.Pieces.{lines}
 use Rattle.records.specs.Records.{heading, position, reference, alts, behind, placed, records, touching}
 

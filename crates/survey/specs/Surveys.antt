@@ -6,7 +6,7 @@ use mathlib.Core.List.{List}
 use lib.ListN.{length, drop}
 use Rattle.text.specs.Letter.{meant}
 use Rattle.text.specs.Refusal.{ok, refused}
-use Rattle.stretch.specs.Encoding.{encode}
+use Rattle.layout.specs.Encoding.{encode}
 use Rattle.records.specs.Pieces.{lines}
 use Rattle.records.specs.Records.{placed, records, touching}
 use Rattle.survey.specs.Building.{windowText, building}

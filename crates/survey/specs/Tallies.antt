@@ -5,8 +5,8 @@ use mathlib.Core.List.{[], _∷_, _++_}
 use lib.Dec.{leb}
 use lib.ListN.{length}
 use Rattle.text.specs.Text.{Segment, Text}
-use Rattle.stretch.specs.Bytes.{greatestStretch}
-use Rattle.stretch.specs.Reading.{among}
+use Rattle.layout.specs.Bytes.{greatestStretch}
+use Rattle.layout.specs.Reading.{among}
 use Rattle.survey.specs.declared.tally.Tally.{Tally}
 use Rattle.survey.specs.declared.tally.Tally.the-variants.{Fits, Repeated, Long}
 

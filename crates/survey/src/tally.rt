@@ -11,7 +11,7 @@ ghost use Prim.Native.Nat.{_+_};
 ghost use lib.Dec.{ltb};
 ghost use lib.ListN.{take};
 ghost use Rattle.text.specs.Letter.{meant};
-ghost use Rattle.stretch.specs.Reading.{among};
+ghost use Rattle.layout.specs.Reading.{among};
 ghost use Rattle.records.specs.Pieces.{pieces};
 ghost use Rattle.records.specs.Records.{alternates};
 ghost use Rattle.survey.specs.Tallies.{within, opened, tallied, tallyIn, Sane};

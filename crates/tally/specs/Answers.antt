@@ -7,9 +7,10 @@ use lib.ListN.{getD}
 use Rattle.text.specs.Refusal.{Answer as Said}
 use Rattle.text.specs.Compare.{same}
 use Rattle.text.specs.Card.{Row}
-use Rattle.stretch.specs.Answers.{Sum, answerChecked, answerWritten, answerGot, Handed}
+use Rattle.stretch.specs.Answers.{Sum, answerChecked, answerGot, Handed}
+use Rattle.stretch.specs.Answers.{answerWritten}
 use Rattle.stretch.specs.declared.checking.Checked.{Checked}
-use Rattle.stretch.specs.declared.writer.Written.{Written}
+use Rattle.stretch.specs.declared.writing.Written.{Written}
 use Rattle.stretch.specs.declared.reading.Got.{Got}
 use Rattle.search.specs.Answers.{Sums, answerSearched, Next, answerFed}
 use Rattle.search.specs.declared.searching.Searched.{Searched}

@@ -4,10 +4,12 @@ use mathlib.Core.Path.{_≡_, _∙_}
 use mathlib.Core.List.{List}
 use lib.ListN.{length}
 use Rattle.text.specs.Letter.{meant}
-use Rattle.stretch.specs.Bytes.{over}
-use Rattle.stretch.specs.Encoding.{encode}
-use Rattle.stretch.specs.Answers.{toldWritten, written, leftBy}
-use Rattle.stretch.specs.declared.writer.Written.the-variants.{Bytes}
+use Rattle.layout.specs.Bytes.{over}
+use Rattle.layout.specs.Encoding.{encode}
+use Rattle.stretch.specs.Answers.{toldWritten}
+use Rattle.writer.specs.Answers.{written}
+use Rattle.layout.specs.Bytes.{leftBy}
+use Rattle.stretch.specs.declared.writing.Written.the-variants.{Bytes}
 use Rattle.survey.specs.Building.{windowText, building}
 use Rattle.survey.specs.Surveys.{Built}
 

@@ -11,12 +11,12 @@ use borrow.Author.Tests.{le-ltb, lt-ltb}
 use Rattle.text.specs.Text.{Variant}
 use Rattle.text.specs.Letter.{meant}
 use Rattle.text.proofs.Likes.{meant-length}
-use Rattle.stretch.specs.Bytes.{over, put, part}
-use Rattle.stretch.proofs.Raised.{part-meant}
-use Rattle.stretch.proofs.Lengths.{length-variant}
-use Rattle.stretch.specs.Encoding.{bytesOf, encodeVariant, encodeSegment}
-use Rattle.stretch.proofs.Overs.{Emitted, emitted-none, emitted-length, emitted-room, emitted-more, emitted-end}
-use Rattle.stretch.proofs.Overs.{over-none, over-set, over-over, put-over}
+use Rattle.layout.specs.Bytes.{over, put, part}
+use Rattle.layout.proofs.Raised.{part-meant}
+use Rattle.layout.proofs.Lengths.{length-variant}
+use Rattle.layout.specs.Encoding.{bytesOf, encodeVariant, encodeSegment}
+use Rattle.layout.proofs.Overs.{Emitted, emitted-none, emitted-length, emitted-room, emitted-more, emitted-end}
+use Rattle.layout.proofs.Overs.{over-none, over-set, over-over, put-over}
 use Rattle.records.specs.Pieces.{pieces, endOf, Ends}
 use Rattle.records.specs.Records.{none, alternates}
 use Rattle.vcf.specs.Emission.{gapOf}

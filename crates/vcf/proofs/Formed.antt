@@ -13,12 +13,12 @@ use Rattle.text.specs.Compare.{same}
 use Rattle.text.proofs.Letters.{every-take, every-drop}
 use Rattle.text.proofs.Truth.{and-both, and-left, and-right}
 use Rattle.text.proofs.Meanings.{letters-capital}
-use Rattle.stretch.specs.Bytes.{part}
-use Rattle.stretch.specs.Encoding.{all}
-use Rattle.stretch.specs.Putting.{formedSegment}
+use Rattle.layout.specs.Bytes.{part}
+use Rattle.layout.specs.Encoding.{all}
+use Rattle.writer.specs.Putting.{formedSegment}
 use Rattle.text.proofs.Spellings.{Filled}
-use Rattle.stretch.proofs.Rows.{all-append}
-use Rattle.stretch.proofs.RoundTrips.{some-variants}
+use Rattle.layout.proofs.Rows.{all-append}
+use Rattle.writer.proofs.RoundTrips.{some-variants}
 use Rattle.records.specs.Pieces.{pieces}
 use Rattle.records.specs.Records.{field, position, reference, alts, alternates, behind, allele, alternatesSound, isRecord}
 use Rattle.survey.specs.Building.{gap, textFrom}

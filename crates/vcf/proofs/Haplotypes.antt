@@ -11,7 +11,7 @@ use lib.Seq.{take-all, drop-drop}
 use borrow.Author.Tests.{lt-ltb, le-ltb}
 use Rattle.text.specs.Text.{Variant, Text}
 use Rattle.text.specs.Occurrence.{Spells}
-use Rattle.stretch.specs.Bytes.{part}
+use Rattle.layout.specs.Bytes.{part}
 use Rattle.records.specs.Records.{position, reference, alts, behind}
 use Rattle.survey.specs.Building.{gap, textFrom}
 use Rattle.vcf.specs.Haplotypes.{Haplotype}

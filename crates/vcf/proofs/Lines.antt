@@ -15,10 +15,10 @@ use Rattle.text.specs.Compare.{same}
 use Rattle.text.specs.Refusal.{ok, demand, after}
 use Rattle.text.proofs.Outcomes.{ok-inj, demand-met, after-met}
 use Rattle.text.proofs.Truth.{and-left, and-right}
-use Rattle.stretch.specs.Bytes.{wordBytes, over, part}
-use Rattle.stretch.specs.Encoding.{all, bytesOf, encodeSegment, encode}
-use Rattle.stretch.proofs.Texts.{bytes-append}
-use Rattle.stretch.proofs.Overs.{Emitted, emitted-none, emitted-length, emitted-room, emitted-more, emitted-end, over-none, over-over}
+use Rattle.layout.specs.Bytes.{wordBytes, over, part}
+use Rattle.layout.specs.Encoding.{all, bytesOf, encodeSegment, encode}
+use Rattle.layout.proofs.Rows.{bytes-append}
+use Rattle.layout.proofs.Overs.{Emitted, emitted-none, emitted-length, emitted-room, emitted-more, emitted-end, over-none, over-over}
 use Rattle.records.specs.Pieces.{pieces, lines, Ends, nextLine}
 use Rattle.records.specs.Records.{allele, alternates, alternatesSound, beyond, field, position, reference, alts, behind, isRecord}
 use Rattle.records.specs.Records.{outside, agrees, passedOver, comment, fitting, idle, records, touching}

@@ -16,18 +16,20 @@ use Rattle.text.specs.Compare.{prefix}
 use Rattle.text.specs.Refusal.{Outcome, ok, refused, demand, after}
 use Rattle.text.proofs.Outcomes.{demand-met, after-met, told-met}
 use Rattle.text.proofs.Meanings.{letters-capital}
-use Rattle.stretch.specs.Reading.{stretchOf}
-use Rattle.stretch.specs.Encoding.{encode, all, writable}
-use Rattle.stretch.specs.Writing.{writing, lettersOf, lengthsOf, countsOf}
-use Rattle.stretch.specs.Putting.{formedSegment, putting}
+use Rattle.layout.specs.Reading.{stretchOf}
+use Rattle.layout.specs.Encoding.{encode, all, writable}
+use Rattle.writer.specs.Writing.{writing, lettersOf, lengthsOf, countsOf}
+use Rattle.writer.specs.Putting.{formedSegment, putting}
 use Rattle.stretch.specs.Onward.{ReadsAs}
-use Rattle.stretch.specs.Answers.{toldWritten, written, leftBy}
-use Rattle.stretch.specs.declared.writer.Written.the-variants.{Bytes as Count}
-use Rattle.stretch.proofs.Overs.{over-front}
-use Rattle.stretch.proofs.Encoding.{standing-encoded}
+use Rattle.stretch.specs.Answers.{toldWritten}
+use Rattle.writer.specs.Answers.{written}
+use Rattle.layout.specs.Bytes.{leftBy}
+use Rattle.stretch.specs.declared.writing.Written.the-variants.{Bytes as Count}
+use Rattle.layout.proofs.Overs.{over-front}
+use Rattle.layout.proofs.Encoding.{standing-encoded}
 use Rattle.stretch.proofs.ReadsOnward.{reads-as}
-use Rattle.stretch.proofs.RoundTrips.{as-written, putting-writable}
-use Rattle.stretch.proofs.Theorems.{writable-accepted}
+use Rattle.writer.proofs.RoundTrips.{as-written, putting-writable}
+use Rattle.layout.proofs.Theorems.{writable-accepted}
 use Rattle.records.specs.Pieces.{lines}
 use Rattle.records.specs.Records.{records, touching, noted}
 use Rattle.records.specs.Records.{heading, placed}

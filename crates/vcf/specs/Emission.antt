@@ -7,7 +7,7 @@ use lib.Dec.{ltb}
 use lib.ListN.{length, drop}
 use Rattle.text.specs.Text.{Variant, Text}
 use Rattle.text.specs.Refusal.{ok}
-use Rattle.stretch.specs.Encoding.{encode}
+use Rattle.layout.specs.Encoding.{encode}
 use Rattle.records.specs.Pieces.{lines}
 use Rattle.records.specs.Records.{position, reference, alts, behind, idle, records, touching}
 use Rattle.records.specs.Records.{placed}

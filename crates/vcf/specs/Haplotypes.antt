@@ -4,7 +4,7 @@ use mathlib.Core.Path.{_≡_}
 use mathlib.Core.List.{List, [], _∷_, _++_}
 use lib.ListN.{drop}
 use Rattle.text.specs.Occurrence.{Some}
-use Rattle.stretch.specs.Bytes.{part}
+use Rattle.layout.specs.Bytes.{part}
 use Rattle.records.specs.Records.{position, reference, alts, behind}
 
 -- h is the window from base `from` on, where each of these records has its REF or one of its ALT, and every other base is the window's

@@ -9,8 +9,10 @@ use text::refusal;
 ghost use mathlib.Core.Path.{_≡_};
 ghost use lib.ListN.{length};
 ghost use Rattle.text.specs.Refusal.{refused, answer};
-ghost use Rattle.stretch.specs.Encoding.{encode};
-ghost use Rattle.stretch.specs.Answers.{toldWritten, answerWritten, written, leftBy};
+ghost use Rattle.layout.specs.Encoding.{encode};
+ghost use Rattle.stretch.specs.Answers.{toldWritten, answerWritten};
+ghost use Rattle.writer.specs.Answers.{written};
+ghost use Rattle.layout.specs.Bytes.{leftBy};
 ghost use Rattle.survey.specs.Building.{building};
 
 fn refused(number: u64, place: usize) -> Written

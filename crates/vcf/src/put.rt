@@ -1,4 +1,6 @@
 // The second pass: the text is put into a buffer that has room for it. Every line was checked before.
+use layout::number::put_word;
+use layout::put_variant;
 use records::pieces::COMMA;
 use records::pieces::LINE_FEED;
 use records::pieces::end_of;
@@ -10,15 +12,13 @@ use records::record::is_comment;
 use records::record::is_none;
 use records::window::behind;
 use records::window::is_outside;
-use stretch::number::put_word;
-use stretch::put_variant;
 ghost use mathlib.Core.Path.{_≡_};
 ghost use mathlib.Core.List.{_∷_};
 ghost use Prim.Native.Nat.{_+_, _≤_};
 ghost use lib.ListN.{length};
 ghost use Rattle.text.specs.Letter.{meant};
-ghost use Rattle.stretch.specs.Bytes.{over};
-ghost use Rattle.stretch.specs.Encoding.{bytesOf, encodeVariant, encodeSegment, encode};
+ghost use Rattle.layout.specs.Bytes.{over};
+ghost use Rattle.layout.specs.Encoding.{bytesOf, encodeVariant, encodeSegment, encode};
 ghost use Rattle.records.specs.Pieces.{pieces};
 ghost use Rattle.records.specs.Records.{alternates};
 ghost use Rattle.survey.specs.Building.{windowText};

@@ -22,12 +22,12 @@ use Rattle.text.proofs.Outcomes.{ok-inj, refused-ok, after-met}
 use Rattle.text.proofs.Patterns.{SoundPattern}
 use Rattle.text.proofs.Ends.{firstEnd-le, firstEnd-end, firstEnd-mark}
 use Rattle.text.proofs.Marks.{marks-length}
-use Rattle.stretch.specs.Bytes.{greatestStretch}
-use Rattle.stretch.specs.Pieces.{openAt, closedAt, mostInStretch, toldOpened}
-use Rattle.stretch.specs.declared.pieces.Opened.{Opened}
-use Rattle.stretch.specs.Reading.{segmentAt, many, stretchOf}
-use Rattle.stretch.proofs.Walks.{many-length}
-use Rattle.stretch.proofs.Stretches.{stretch-most}
+use Rattle.layout.specs.Bytes.{greatestStretch}
+use Rattle.layout.specs.Pieces.{openAt, closedAt, mostInStretch, toldOpened}
+use Rattle.layout.specs.declared.pieces.Opened.{Opened}
+use Rattle.layout.specs.Reading.{segmentAt, many, stretchOf}
+use Rattle.layout.proofs.Walks.{many-length}
+use Rattle.layout.proofs.Stretches.{stretch-most}
 use Rattle.search.specs.Answers.{entering, into, stretchInto}
 use Rattle.search.specs.Either.{united, eitherFrom, seekingBoth}
 use Rattle.search.specs.declared.state.State.{State}

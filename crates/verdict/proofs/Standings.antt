@@ -14,9 +14,9 @@ use Rattle.text.specs.Strand.{opposite}
 use Rattle.text.specs.Refusal.{Outcome, ok, refused, demand, after}
 use Rattle.text.specs.declared.refusal.Refusal.{Refusal}
 use Rattle.text.proofs.Outcomes.{ok-inj, refused-ok, after-met, demand-met, told-met, told-refused}
-use Rattle.stretch.specs.Bytes.{over}
-use Rattle.stretch.specs.Reading.{stretchOf}
-use Rattle.stretch.specs.Answers.{leftBy}
+use Rattle.layout.specs.Bytes.{over}
+use Rattle.layout.specs.Reading.{stretchOf}
+use Rattle.layout.specs.Bytes.{leftBy}
 use Rattle.search.specs.Answers.{into, stretchInto, MarksOf}
 use Rattle.search.specs.Either.{united, eitherFrom, enteringBoth, seekingBoth, SeenBoth, seenBoth, toldBoth}
 use Rattle.search.specs.declared.both.words.Pair.{Pair}

@@ -26,8 +26,8 @@ use Rattle.text.proofs.Steps.{next-open, next-lt}
 use Rattle.text.proofs.Strands.{opposite-length}
 use Rattle.text.proofs.Ends.{firstEnd-least, firstEnd-within, firstEnd-mark}
 use Rattle.text.proofs.Marks.{marks-length, run-append, marks-append}
-use Rattle.stretch.specs.Pieces.{mostInStretch}
-use Rattle.stretch.specs.Reading.{stretchOf}
+use Rattle.layout.specs.Pieces.{mostInStretch}
+use Rattle.layout.specs.Reading.{stretchOf}
 use Rattle.search.specs.Chain.{stretchesText}
 use Rattle.search.specs.First.{wholeOf}
 use Rattle.search.proofs.Entries.{fresh-state}

@@ -5,7 +5,7 @@ use mathlib.Core.List.{List, [], _∷_}
 use lib.Dec.{eqb}
 use Rattle.text.specs.Refusal.{Outcome, ok, refused, after}
 use Rattle.text.specs.declared.strand.Strand.the-variants.{Given, Opposite}
-use Rattle.stretch.specs.Pieces.{openAt}
+use Rattle.layout.specs.Pieces.{openAt}
 use Rattle.search.specs.First.{Hit, endsIn, clear, firsting}
 use Rattle.verdict.specs.Standing.{plus}
 use Rattle.verdict.specs.declared.standing.Standing.{Standing}

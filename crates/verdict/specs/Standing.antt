@@ -9,7 +9,7 @@ use Rattle.text.specs.Text.{Text}
 use Rattle.text.specs.State.{run}
 use Rattle.text.specs.Strand.{opposite}
 use Rattle.text.specs.Refusal.{Outcome, ok, refused, after}
-use Rattle.stretch.specs.Pieces.{mostInStretch}
+use Rattle.layout.specs.Pieces.{mostInStretch}
 use Rattle.search.specs.Either.{eitherFrom, seekingBoth}
 use Rattle.lines.specs.Answer.{markedFrom}
 use Rattle.verdict.specs.declared.standing.Standing.{Standing}

@@ -2,10 +2,10 @@
 // searched no further.
 use crate::standing::Standing;
 use crate::sum::plus;
+use layout::pieces::Opened;
+use layout::pieces::open;
 use search::First;
 use search::State;
-use stretch::pieces::Opened;
-use stretch::pieces::open;
 use text::Refusal;
 use text::strand::Strand;
 ghost use mathlib.Core.Path.{_≡_};

@@ -19,8 +19,8 @@ use Rattle.text.proofs.Patterns.{SoundPattern}
 use Rattle.text.proofs.Marks.{marks-length}
 use Rattle.text.proofs.Occurrences.{marks-ends}
 use Rattle.text.proofs.Ends.{firstEnd-le, firstEnd-least, firstEnd-within, firstEnd-mark}
-use Rattle.stretch.specs.Reading.{stretchOf}
-use Rattle.stretch.proofs.Stretches.{stretch-most}
+use Rattle.layout.specs.Reading.{stretchOf}
+use Rattle.layout.proofs.Stretches.{stretch-most}
 use Rattle.watch.specs.Watching.{mostWatched, basesOf, sound, allSound, firstWrong, listing, firstOf, endsIn, Sighting, seen, clear}
 use Rattle.watch.specs.Watching.{firstSeen, marksOf}
 use Rattle.watch.specs.Rounds.{blank}

@@ -12,9 +12,9 @@ use lib.ListN.{length, getD, drop, drop-of-length-le}
 use Rattle.text.specs.Text.{Text}
 use Rattle.text.specs.Refusal.{Outcome, ok, refused, demand, after}
 use Rattle.text.proofs.Truth.{and-left, and-right}
-use Rattle.stretch.specs.Bytes.{over}
-use Rattle.stretch.specs.Reading.{stretchOf}
-use Rattle.stretch.specs.Answers.{leftBy}
+use Rattle.layout.specs.Bytes.{over}
+use Rattle.layout.specs.Reading.{stretchOf}
+use Rattle.layout.specs.Bytes.{leftBy}
 use Rattle.text.specs.declared.refusal.Refusal.{Refusal}
 use Rattle.watch.specs.Watching.{mostWatched, sound, allSound, firstWrong, firstOf, endsIn, Sighting, seen, clear, firstSeen, marksOf}
 use Rattle.watch.specs.Watching.{listing, watching, marking, accepted, toldFound, toldListed}

@@ -20,15 +20,15 @@ use Rattle.text.specs.Refusal.{Outcome, ok, refused}
 use Rattle.text.proofs.Outcomes.{ok-inj, refused-ok}
 use Rattle.text.proofs.Ends.{later-none, later-zero, later-add, firstEnd-le}
 use Rattle.text.proofs.Rows.{length-tabulate, getD-tabulate}
-use Rattle.stretch.specs.Pieces.{openAt, variantsAt, headAt, nextOf, mostInStretch}
-use Rattle.stretch.specs.Reading.{Taken, valueOf, valuesFrom, variantAt, many, segmentAt, stretchOf}
-use Rattle.stretch.proofs.Frames.{variants-met, open-met}
-use Rattle.stretch.proofs.Heads.{Whole, head-is, head-found}
-use Rattle.stretch.proofs.Units.{Read, variant-read}
-use Rattle.stretch.proofs.Segments.{in-values, in-not, in-all}
-use Rattle.stretch.proofs.Rows.{Row}
-use Rattle.stretch.proofs.Decoding.{stretch-read}
-use Rattle.stretch.proofs.Stretches.{stretch-most}
+use Rattle.layout.specs.Pieces.{openAt, variantsAt, headAt, nextOf, mostInStretch}
+use Rattle.layout.specs.Reading.{Taken, valueOf, valuesFrom, variantAt, many, segmentAt, stretchOf}
+use Rattle.layout.proofs.Frames.{variants-met, open-met}
+use Rattle.layout.proofs.Heads.{Whole, head-is, head-found}
+use Rattle.layout.proofs.Units.{Read, variant-read}
+use Rattle.layout.proofs.Segments.{in-values, in-not, in-all}
+use Rattle.layout.proofs.Rows.{Row}
+use Rattle.layout.proofs.Decoding.{stretch-read}
+use Rattle.layout.proofs.Stretches.{stretch-most}
 use Rattle.search.specs.Masks.{maskOf, bases, Masks, others, Others, StateOf, Ready}
 use Rattle.search.specs.Words.{Turned, SweptAt}
 use Rattle.search.specs.declared.segment.Swept.the-variants.{To}

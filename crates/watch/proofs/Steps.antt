@@ -16,11 +16,11 @@ use Rattle.text.specs.Card.{none}
 use Rattle.text.specs.Refusal.{ok, refused}
 use Rattle.text.specs.declared.refusal.Refusal.{Refusal}
 use Rattle.text.proofs.Outcomes.{told-met, told-refused}
-use Rattle.stretch.specs.Bytes.{over}
+use Rattle.layout.specs.Bytes.{over}
 use Rattle.stretch.specs.Answers.{toldChecked, checking}
-use Rattle.stretch.specs.Reading.{stretchOf}
+use Rattle.layout.specs.Reading.{stretchOf}
 use Rattle.stretch.specs.declared.checking.Checked.{Checked}
-use Rattle.stretch.proofs.Overs.{Copied, emitted-length, copied-none, copied-room, copied-more, copied-end}
+use Rattle.layout.proofs.Overs.{Copied, emitted-length, copied-none, copied-room, copied-more, copied-end}
 use Rattle.watch.specs.Watching.{sound, firstOf, endsIn}
 use Rattle.watch.specs.Rounds.{stopped, begunOf, askedOf, foundBy, markedBy, openedBy, openedOf, digits, listedOf, leftIn}
 use Rattle.watch.specs.declared.watched.Watched.{Watched}

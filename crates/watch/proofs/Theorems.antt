@@ -16,9 +16,9 @@ use Rattle.text.specs.Refusal.{Outcome, ok, refused, demand, after}
 use Rattle.text.specs.declared.strand.Strand.the-variants.{Given}
 use Rattle.text.proofs.Outcomes.{ok-inj, after-met, demand-met, told-met}
 use Rattle.text.proofs.Occurrences.{marks-ends}
-use Rattle.stretch.specs.Bytes.{over}
-use Rattle.stretch.specs.Reading.{stretchOf}
-use Rattle.stretch.specs.Answers.{leftBy}
+use Rattle.layout.specs.Bytes.{over}
+use Rattle.layout.specs.Reading.{stretchOf}
+use Rattle.layout.specs.Bytes.{leftBy}
 use Rattle.search.specs.Answers.{searching}
 use Rattle.search.specs.declared.searching.Searched.{Searched}
 use Rattle.search.proofs.Theorems.{Promised, search-marks}

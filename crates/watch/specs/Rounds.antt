@@ -8,8 +8,8 @@ use lib.ListN.{length, getD}
 use Rattle.text.specs.Text.{Text}
 use Rattle.text.specs.Refusal.{Outcome, ok, refused}
 use Rattle.text.specs.declared.refusal.Refusal.{Refusal}
-use Rattle.stretch.specs.Bytes.{over}
-use Rattle.stretch.specs.Reading.{stretchOf}
+use Rattle.layout.specs.Bytes.{over}
+use Rattle.layout.specs.Reading.{stretchOf}
 use Rattle.search.specs.First.{unless}
 use Rattle.watch.specs.Watching.{mostWatched, sound, firstOf, endsIn}
 use Rattle.watch.specs.declared.watched.Watched.{Watched}

@@ -8,7 +8,7 @@ use Rattle.text.specs.Letter.{meant}
 use Rattle.text.specs.Text.{Variant, Segment}
 use Rattle.text.specs.State.{next, ends}
 use Rattle.text.specs.Refusal.{ok}
-use Rattle.stretch.specs.Reading.{Taken, segmentAt}
+use Rattle.layout.specs.Reading.{Taken, segmentAt}
 use Rattle.search.specs.Masks.{Others, StateOf}
 use Rattle.search.specs.Words.{Turned}
 

@@ -8,7 +8,7 @@ use Rattle.text.specs.Text.{Text}
 use Rattle.text.specs.State.{marks}
 use Rattle.text.specs.Card.{none, firstEnd}
 use Rattle.text.specs.Refusal.{Outcome, ok, refused, demand, after, greatestPattern, pattern, Answer}
-use Rattle.stretch.specs.Reading.{stretchOf}
+use Rattle.layout.specs.Reading.{stretchOf}
 use Rattle.watch.specs.declared.watched.Watched.{Watched}
 use Rattle.watch.specs.declared.round.Found.{Found}
 use Rattle.watch.specs.declared.round.Found.the-variants.{Ends}

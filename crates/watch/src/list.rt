@@ -12,7 +12,7 @@ use crate::watched::Watched;
 ghost use mathlib.Core.Path.{_≡_};
 ghost use Prim.Native.Nat.{_<_};
 ghost use lib.ListN.{length, getD};
-ghost use Rattle.stretch.specs.Answers.{leftBy};
+ghost use Rattle.layout.specs.Bytes.{leftBy};
 ghost use Rattle.text.specs.Refusal.{ok, after, answer};
 ghost use Rattle.watch.specs.Watching.{watching, toldFound, answerFound, pointedAt, zeroPointed};
 ghost use Rattle.watch.specs.Watching.{marking, toldListed, answerListed, marksOf, accepted};

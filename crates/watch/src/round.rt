@@ -11,7 +11,7 @@ ghost use mathlib.Core.Path.{_≡_};
 ghost use Prim.Native.Nat.{_<_, _≤_, _^_};
 ghost use lib.ListN.{length};
 ghost use Rattle.watch.specs.Rounds.{Sought, Ready, textOf, begunOf, askedOf, foundBy, markedBy, stepOf, turnedOf, foundOf};
-ghost use Rattle.stretch.specs.Bytes.{over};
+ghost use Rattle.layout.specs.Bytes.{over};
 ghost use Rattle.watch.specs.Rounds.{openedOf, listedOf, leftIn, digits};
 
 // A refusal; every pattern so far is sound; no record so far ends anywhere; the first that does, by its label and its first ending

@@ -1,22 +1,22 @@
 // Where a record is first seen in a stretch. The stretch was found sound once for the whole list, so this walk asks nothing of its bytes
 // again. It is the search by bit-vectors with words turned (search/src/bits.rt), up to the first end.
 use crate::watched::Watched;
+use layout::pieces::Counted;
+use layout::pieces::FIRST_SEGMENT;
+use layout::pieces::FIRST_VARIANT;
+use layout::pieces::Opened;
+use layout::pieces::Part;
+use layout::pieces::head;
+use layout::pieces::open;
+use layout::pieces::variants;
 use search::masks;
-use stretch::pieces::Counted;
-use stretch::pieces::FIRST_SEGMENT;
-use stretch::pieces::FIRST_VARIANT;
-use stretch::pieces::Opened;
-use stretch::pieces::Part;
-use stretch::pieces::head;
-use stretch::pieces::open;
-use stretch::pieces::variants;
 use text::refusal;
 ghost use mathlib.Core.Path.{_≡_};
 ghost use Rattle.text.specs.Refusal.{ok};
 ghost use Rattle.text.specs.State.{marks};
 ghost use Rattle.text.specs.Card.{firstEnd};
-ghost use Rattle.stretch.specs.Pieces.{openAt, variantsAt};
-ghost use Rattle.stretch.specs.Reading.{stretchOf};
+ghost use Rattle.layout.specs.Pieces.{openAt, variantsAt};
+ghost use Rattle.layout.specs.Reading.{stretchOf};
 ghost use Rattle.search.specs.Masks.{bases, Others};
 ghost use Rattle.watch.specs.Watching.{firstOf};
 ghost use Rattle.watch.specs.Rounds.{Sought, textOf};

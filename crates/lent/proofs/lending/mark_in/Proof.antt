@@ -50,7 +50,7 @@ use denote.Triple.Walked.{says, needs, Stays, stay-none-slice, stay-none, gave-s
 use denote.Triple.Walked.{goes-none, goes-gave-slice, walk-meets}
 use denote.Exit.{yes}
 use Rattle.text.specs.Refusal.{answer}
-use Rattle.stretch.specs.Answers.{leftBy}
+use Rattle.layout.specs.Bytes.{leftBy}
 use Rattle.watch.specs.Watching.{marking, marksOf, accepted, toldListed, answerListed}
 use Rattle.watch.specs.declared.watched.Watched.{Watched}
 use Rattle.watch.specs.declared.round.Listed.{Listed}

@@ -1,7 +1,7 @@
 -- `rows::segment::count` meets its contract, by what `variants` ensures.
 use borrow.Author.Needs.{needs}
 use mathlib.Core.Path.{sym, ap, _∙_}
-use Rattle.stretch.specs.Pieces.{toldCounted}
+use Rattle.layout.specs.Pieces.{toldCounted}
 use Rattle.rows.proofs.RowSegments.{count-there}
 use Rattle.rows.proofs.segment.count.Statement.{statement}
 use Rattle.rows.proofs.segment.count.Tie as tie

@@ -5,8 +5,8 @@ use borrow.Author.Needs.{needs}
 use native.Mathlib.Omega.{arith}
 use mathlib.Core.Path.{_≡_, sym, ap, _∙_}
 use Rattle.text.specs.Refusal.{ok}
-use Rattle.stretch.specs.Pieces.{toldPart, headAt}
-use Rattle.stretch.proofs.Heads.{head-is}
+use Rattle.layout.specs.Pieces.{toldPart, headAt}
+use Rattle.layout.proofs.Heads.{head-is}
 use Rattle.rows.proofs.RowSegments.{count-inside, Bearing, bearing-none, bearing-whole, bearing-more, bearing-all, bearing-end}
 use Rattle.rows.proofs.segment.segment_rows.Statement.{statement}
 use Rattle.rows.proofs.segment.segment_rows.Tie as tie

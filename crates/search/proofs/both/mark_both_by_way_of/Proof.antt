@@ -5,7 +5,7 @@ use Prim.Native.Nat.{ℕ}
 use mathlib.Core.Path.{_≡_, sym, ap, _∙_}
 use mathlib.Core.List.{List}
 use Rattle.text.specs.Refusal.{ok, after}
-use Rattle.stretch.specs.Reading.{stretchOf}
+use Rattle.layout.specs.Reading.{stretchOf}
 use Rattle.search.specs.Either.{seenBoth, toldBoth}
 use Rattle.search.proofs.Markings.{into-not, into-short, into-marked, few-found}
 use Rattle.search.proofs.Eithers.{from-length, both-segments}

@@ -4,7 +4,7 @@ use borrow.Author.Tests.{not-true, not-false}
 use mathlib.Core.Path.{_≡_, sym, ap, _∙_}
 use Rattle.text.specs.Refusal.{toldPattern}
 use Rattle.text.proofs.Patterns.{SoundPattern, pattern-sound}
-use Rattle.stretch.proofs.Frames.{fits-met}
+use Rattle.layout.proofs.Frames.{fits-met}
 use Rattle.search.proofs.Entries.{entering-pattern, entering-long, entering-wrong, entering-sound}
 use Rattle.search.proofs.entry.enter.Statement.{statement}
 use Rattle.search.proofs.entry.enter.Tie as tie

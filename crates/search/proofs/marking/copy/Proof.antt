@@ -6,7 +6,7 @@ use borrow.Author.Needs.{needs}
 use native.Mathlib.Omega.{arith}
 use mathlib.Core.Path.{subst}
 use lib.ListN.{length, getD, set}
-use Rattle.stretch.proofs.Overs.{Copied, copied-none, copied-room, copied-more, copied-end, emitted-length}
+use Rattle.layout.proofs.Overs.{Copied, copied-none, copied-room, copied-more, copied-end, emitted-length}
 use Rattle.search.proofs.marking.copy.Statement.{statement}
 use Rattle.search.proofs.marking.copy.Tie as tie
 

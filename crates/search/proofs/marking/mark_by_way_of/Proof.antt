@@ -6,7 +6,7 @@ use mathlib.Core.Path.{_≡_, refl, sym, ap, _∙_}
 use mathlib.Core.List.{List}
 use Rattle.text.specs.Refusal.{ok, after}
 use Rattle.text.proofs.Marks.{marks-length}
-use Rattle.stretch.specs.Reading.{stretchOf}
+use Rattle.layout.specs.Reading.{stretchOf}
 use Rattle.search.specs.Answers.{seenFrom, toldSought}
 use Rattle.search.proofs.Markings.{into-not, into-short, into-marked, few-found}
 use Rattle.search.proofs.Searches.{seen-segments}

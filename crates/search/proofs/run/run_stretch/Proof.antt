@@ -3,8 +3,8 @@
 use borrow.Author.Needs.{needs}
 use native.Mathlib.Omega.{arith}
 use mathlib.Core.Path.{_≡_, sym, ap, _∙_}
-use Rattle.stretch.specs.Pieces.{toldOpened}
-use Rattle.stretch.proofs.Frames.{frame-refused-open, frame-opens, frame-refused-inside, frame-refused-closed, frame-sound}
+use Rattle.layout.specs.Pieces.{toldOpened}
+use Rattle.layout.proofs.Frames.{frame-refused-open, frame-opens, frame-refused-inside, frame-refused-closed, frame-sound}
 use Rattle.search.specs.Answers.{toldRan}
 use Rattle.search.proofs.Markings.{marks-all}
 use Rattle.search.proofs.Searches.{run-not, run-met, seen-ends}

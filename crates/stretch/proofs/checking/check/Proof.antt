@@ -7,10 +7,11 @@ use mathlib.Core.Path.{sym, ap, _∙_}
 use mathlib.Core.List.{[]}
 use Rattle.text.specs.Text.{Text}
 use Rattle.stretch.specs.Answers.{toldWalked}
-use Rattle.stretch.proofs.Frames.{frame-opens, frame-count, frame-sound}
-use Rattle.stretch.proofs.Frames.{frame-refused-open, frame-refused-inside, frame-refused-closed}
-use Rattle.stretch.proofs.Stretches.{InStretch, through-none, through-more, through-refused, through-all, check-refused, check-sound}
-use Rattle.stretch.proofs.Segments.{walked-met, walked-not}
+use Rattle.layout.proofs.Frames.{frame-opens, frame-count, frame-sound}
+use Rattle.layout.proofs.Frames.{frame-refused-open, frame-refused-inside, frame-refused-closed}
+use Rattle.layout.proofs.Stretches.{InStretch, through-none, through-more, through-refused, through-all}
+use Rattle.stretch.proofs.Checks.{check-refused, check-sound}
+use Rattle.stretch.proofs.Checks.{walked-met, walked-not}
 use Rattle.stretch.proofs.Told.{checked-both}
 use Rattle.stretch.proofs.checking.check.Statement.{statement}
 use Rattle.stretch.proofs.checking.check.Tie as tie

@@ -5,8 +5,11 @@ use lib.ListN.{length}
 use denote.Ref.{now}
 use borrow.Author.Needs.{needs}
 use native.Mathlib.Omega.{arith}
-use Rattle.stretch.specs.Pieces.{nextOf}
-use Rattle.stretch.proofs.Skips.{Stepping, stepping-none, stepping-more, stepping-end, stepping-fits, behind-grows}
+use mathlib.Core.Path.{_≡_, _∙_}
+use Rattle.layout.specs.Bytes.{word}
+use Rattle.layout.specs.Pieces.{nextOf}
+use Rattle.layout.proofs.Stands.{word-there}
+use Rattle.layout.proofs.Skips.{Stepping, stepping-none, stepping-more, stepping-end, stepping-fits, behind-grows}
 use Rattle.stretch.proofs.places.behind_variants.Statement.{statement}
 use Rattle.stretch.proofs.places.behind_variants.Tie as tie
 
@@ -27,19 +30,22 @@ fits c =
     let d = c .before .before .before in
     stepping-fits _ (behind-grows (now (d .args .stretch))) _ _ _ _ _ (c .before .loop .inv) (c .loop-test .taken) (d .pre)
 
-pair-requires : tie.Need-pair-requires Inv-loop μ-loop
-pair-requires c κs = omega (arith, fits c)
+-- so its length is there
+length-is : (c : tie.After-word-at Inv-loop μ-loop) →
+    let d = c .before .before in
+    c .word-at .result ≡ word (now (d .before .before .args .stretch)) (d .loop .at)
+length-is c = let l = fits (c .before) in c .word-at .ensures .0 ∙ word-there _ _ (omega (arith, l))
 
 add-at : tie.Need-add-at Inv-loop μ-loop
 add-at c = omega (arith, fits (c .before))
 
 add-at-2 : tie.Need-add-at-2 Inv-loop μ-loop
-add-at-2 c = omega (arith, fits (c .before), c .pair .ensures .0)
+add-at-2 c = omega (arith, fits (c .before), length-is c)
 
 loop-again : tie.Need-loop-again Inv-loop μ-loop
 loop-again c =
     let d = c .before .before in
-    rw (c .pair .ensures .0) (stepping-more _ _ _ _ _ (d .loop .inv) (c .before .loop-test .taken))
+    rw (length-is c) (stepping-more _ _ _ _ _ (d .loop .inv) (c .before .loop-test .taken))
 
 returns : tie.Need-returns Inv-loop μ-loop
 returns c = stepping-end _ _ _ _ _ (c .before .loop .inv) (c .loop-test .left)
@@ -51,7 +57,7 @@ behind-variants-spec =
     Inv-loop
     μ-loop
     loop-holds
-    pair-requires
+    (λ c κs. search needs)
     add-at
     add-at-2
     (λ c. search needs)

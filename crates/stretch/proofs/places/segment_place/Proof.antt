@@ -4,8 +4,8 @@ use lib.ListN.{length, getD}
 use denote.Ref.{now}
 use borrow.Author.Needs.{needs}
 use native.Mathlib.Omega.{arith}
-use Rattle.stretch.specs.Skips.{behindSegment}
-use Rattle.stretch.proofs.Skips.{Stepping, stepping-none, stepping-more, stepping-end, stepping-fits, variants-grow, segment-grows}
+use Rattle.layout.specs.Skips.{behindSegment}
+use Rattle.layout.proofs.Skips.{Stepping, stepping-none, stepping-more, stepping-end, stepping-fits, variants-grow, segment-grows}
 use Rattle.stretch.proofs.places.segment_place.Statement.{statement}
 use Rattle.stretch.proofs.places.segment_place.Tie as tie
 

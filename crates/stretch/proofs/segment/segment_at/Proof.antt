@@ -6,13 +6,14 @@ use native.Mathlib.Omega.{arith}
 use mathlib.Core.Path.{_≡_, sym, ap, _∙_}
 use mathlib.Core.List.{[]}
 use Rattle.text.specs.Text.{Segment}
-use Rattle.stretch.specs.Pieces.{toldPart}
-use Rattle.stretch.proofs.Frames.{Counts, count-refused, count-met, count-many}
-use Rattle.stretch.specs.Prints.{Noted}
-use Rattle.stretch.proofs.Prints.{noted-none, noted-more}
-use Rattle.stretch.proofs.Units.{span-read}
-use Rattle.stretch.proofs.Segments.{InSegment, in-none, in-values, in-whole, in-more, in-refused, in-all, walked-refused}
-use Rattle.stretch.proofs.Segments.{walked-done}
+use Rattle.layout.specs.Pieces.{toldPart}
+use Rattle.layout.proofs.Frames.{Counts, count-refused, count-met, count-many}
+use Rattle.layout.specs.Prints.{Noted}
+use Rattle.layout.proofs.Prints.{noted-none, noted-more}
+use Rattle.layout.proofs.Units.{span-read}
+use Rattle.layout.proofs.Segments.{InSegment, in-none, in-values, in-whole, in-more, in-refused, in-all}
+use Rattle.stretch.proofs.Checks.{walked-refused}
+use Rattle.stretch.proofs.Checks.{walked-done}
 use Rattle.stretch.proofs.segment.segment_at.Statement.{statement}
 use Rattle.stretch.proofs.segment.segment_at.Tie as tie
 

@@ -3,9 +3,9 @@
 use borrow.Author.Needs.{needs}
 use native.Mathlib.Omega.{arith}
 use mathlib.Core.Path.{sym, ap, _∙_}
-use Rattle.stretch.specs.Pieces.{toldPart}
-use Rattle.stretch.proofs.Heads.{Whole, head-is}
-use Rattle.stretch.proofs.Units.{head-refused, misspelt-refused, again-refused, new-read, unsuspected-new, span-not, span-is}
+use Rattle.layout.specs.Pieces.{toldPart}
+use Rattle.layout.proofs.Heads.{Whole, head-is}
+use Rattle.layout.proofs.Units.{head-refused, misspelt-refused, again-refused, new-read, unsuspected-new, span-not, span-is}
 use Rattle.stretch.proofs.segment.variant_at.Statement.{statement}
 use Rattle.stretch.proofs.segment.variant_at.Tie as tie
 

@@ -7,7 +7,7 @@ use borrow.Author.Needs.{needs}
 use lib.ListN.{take}
 use mathlib.Core.List.{_∷_}
 use Rattle.text.specs.Letter.{meant}
-use Rattle.stretch.specs.Reading.{among}
+use Rattle.layout.specs.Reading.{among}
 use Rattle.records.specs.Pieces.{pieces}
 use Rattle.survey.proofs.Tallying.{among-first, among-rest, Compared, compared-none, compared-same, compared-missing, compared-more}
 use Rattle.survey.proofs.Tallying.{compared-end}

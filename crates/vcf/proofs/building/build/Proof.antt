@@ -1,7 +1,7 @@
 -- `vcf::building::build` meets its contract: what the survey refuses, the room, and the text.
 use mathlib.Core.Path.{refl}
 use borrow.Author.Needs.{needs}
-use Rattle.stretch.proofs.Writings.{refused-leaves}
+use Rattle.writer.proofs.Writings.{refused-leaves}
 use Rattle.stretch.proofs.Told.{written-both}
 use Rattle.vcf.proofs.Builds.{build-leaves}
 use Rattle.vcf.proofs.building.build.Statement.{statement}

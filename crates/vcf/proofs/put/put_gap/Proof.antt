@@ -4,7 +4,7 @@ use native.Mathlib.Omega.{arith}
 use mathlib.Core.Path.{_≡_, _∙_}
 use borrow.Author.Needs.{needs}
 use lib.ListN.{length}
-use Rattle.stretch.specs.Encoding.{bytesOf, encodeSegment}
+use Rattle.layout.specs.Encoding.{bytesOf, encodeSegment}
 use Rattle.vcf.specs.Emission.{gapOf}
 use lib.ListN.{length-set}
 use Rattle.text.specs.Letter.{meant}

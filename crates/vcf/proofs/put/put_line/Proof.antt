@@ -4,7 +4,7 @@ use native.Mathlib.Omega.{arith}
 use mathlib.Core.Path.{_≡_, refl, sym, ap, _∙_}
 use borrow.Author.Needs.{needs}
 use lib.ListN.{length, take, drop}
-use Rattle.stretch.proofs.Raised.{part-meant}
+use Rattle.layout.proofs.Raised.{part-meant}
 use Rattle.text.specs.Letter.{meant}
 use Rattle.text.proofs.Likes.{meant-length}
 use mathlib.Core.Bool.{true, false}

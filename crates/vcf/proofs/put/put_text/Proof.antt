@@ -8,9 +8,9 @@ use borrow.Author.Needs.{needs}
 use lib.ListN.{length, take, drop}
 use Rattle.text.specs.Letter.{meant}
 use Rattle.text.proofs.Likes.{meant-length}
-use Rattle.stretch.specs.Bytes.{wordBytes}
-use Rattle.stretch.proofs.Raised.{part-meant}
-use Rattle.stretch.proofs.Overs.{put-over}
+use Rattle.layout.specs.Bytes.{wordBytes}
+use Rattle.layout.proofs.Raised.{part-meant}
+use Rattle.layout.proofs.Overs.{put-over}
 use Rattle.records.proofs.Marks.{next-behind}
 use Rattle.vcf.proofs.Lines.{readable-room, Putting, putting-none, putting-kept, putting-line, putting-placing, putting-room}
 use Rattle.vcf.proofs.Lines.{putting-more, last-room, putting-end}

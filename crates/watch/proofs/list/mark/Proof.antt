@@ -42,7 +42,7 @@ use denote.Triple.Table.{entered, cited}
 use denote.Triple.Walked.{says, Stays, stay-none-slice, gave-slice, walkOf, Walks, ends-at, walked, goes-none-slice, goes-gave-slice}
 use denote.Triple.Walked.{walk-meets}
 use denote.Exit.{yes}
-use Rattle.stretch.specs.Answers.{leftBy}
+use Rattle.layout.specs.Bytes.{leftBy}
 use Rattle.text.specs.Refusal.{answer}
 use Rattle.watch.specs.Watching.{marking, marksOf, accepted, toldListed, answerListed}
 use Rattle.watch.specs.Rounds.{watched, listedOf, leftIn}

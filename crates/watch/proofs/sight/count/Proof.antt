@@ -1,7 +1,7 @@
 -- `watch::sight::count` meets its contract, by what `variants` ensures.
 use borrow.Author.Needs.{needs}
 use mathlib.Core.Path.{sym, ap, _∙_}
-use Rattle.stretch.specs.Pieces.{toldCounted}
+use Rattle.layout.specs.Pieces.{toldCounted}
 use Rattle.watch.proofs.Sights.{count-there}
 use Rattle.watch.proofs.sight.count.Statement.{statement}
 use Rattle.watch.proofs.sight.count.Tie as tie

@@ -4,8 +4,8 @@ use borrow.Author.Needs.{needs}
 use native.Mathlib.Omega.{arith}
 use mathlib.Core.Path.{_≡_, refl, sym, ap, _∙_}
 use Rattle.text.specs.Refusal.{ok}
-use Rattle.stretch.specs.Pieces.{toldPart, headAt}
-use Rattle.stretch.proofs.Heads.{head-is}
+use Rattle.layout.specs.Pieces.{toldPart, headAt}
+use Rattle.layout.proofs.Heads.{head-is}
 use Rattle.watch.proofs.Sights.{count-inside, Sweep, sweep-none, sweep-whole, sweep-more, sweep-all}
 use Rattle.watch.proofs.sight.over.Statement.{statement}
 use Rattle.watch.proofs.sight.over.Tie as tie

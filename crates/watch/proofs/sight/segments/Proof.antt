@@ -1,7 +1,7 @@
 -- `watch::sight::segments` meets its contract, by what `open` ensures.
 use borrow.Author.Needs.{needs}
 use mathlib.Core.Path.{sym, ap, _∙_}
-use Rattle.stretch.specs.Pieces.{toldOpened}
+use Rattle.layout.specs.Pieces.{toldOpened}
 use Rattle.watch.proofs.Sights.{open-there}
 use Rattle.watch.proofs.sight.segments.Statement.{statement}
 use Rattle.watch.proofs.sight.segments.Tie as tie

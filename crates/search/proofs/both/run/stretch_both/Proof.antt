@@ -2,7 +2,7 @@
 use borrow.Author.Needs.{needs}
 use native.Mathlib.Omega.{arith}
 use mathlib.Core.Path.{sym, ap, _∙_}
-use Rattle.stretch.proofs.Frames.{frame-refused-open, frame-opens, frame-refused-inside, frame-refused-closed, frame-count, frame-sound}
+use Rattle.layout.proofs.Frames.{frame-refused-open, frame-opens, frame-refused-inside, frame-refused-closed, frame-count, frame-sound}
 use Rattle.search.specs.Either.{toldRanBoth}
 use Rattle.search.proofs.Markings.{marks-not, marks-all}
 use Rattle.search.proofs.Eithers.{both-not, both-met, either-not, either-seen}

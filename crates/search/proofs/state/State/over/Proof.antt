@@ -4,10 +4,10 @@ use Prim.Native.Nat.{_+_, _-_, _≤_, _<_}
 use borrow.Author.Needs.{needs}
 use native.Mathlib.Omega.{arith}
 use mathlib.Core.Path.{_≡_, refl, sym, _∙_}
-use Rattle.stretch.specs.Prints.{Noted}
-use Rattle.stretch.proofs.Prints.{noted-none}
-use Rattle.stretch.proofs.Frames.{Counts, count-refused, count-met, count-many}
-use Rattle.stretch.proofs.Segments.{in-whole, in-all}
+use Rattle.layout.specs.Prints.{Noted}
+use Rattle.layout.proofs.Prints.{noted-none}
+use Rattle.layout.proofs.Frames.{Counts, count-refused, count-met, count-many}
+use Rattle.layout.proofs.Segments.{in-whole, in-all}
 use Rattle.search.proofs.Passes.{segment-passed-not, segment-passed}
 use Rattle.search.proofs.Words.{Sweeping, sweeping-none, sweeping-more, sweeping-noted, sweeping-refused, sweeping-taken}
 use Rattle.search.proofs.state.State.over.Statement.{statement}

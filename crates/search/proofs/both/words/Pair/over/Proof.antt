@@ -7,10 +7,10 @@ use mathlib.Core.Path.{_≡_, refl, sym, ap, _∙_}
 use lib.ListN.{length}
 use Rattle.text.specs.Strand.{opposite}
 use Rattle.text.proofs.Strands.{opposite-length}
-use Rattle.stretch.specs.Prints.{Noted}
-use Rattle.stretch.proofs.Prints.{noted-none}
-use Rattle.stretch.proofs.Frames.{Counts, count-refused, count-met, count-many}
-use Rattle.stretch.proofs.Segments.{in-whole, in-all}
+use Rattle.layout.specs.Prints.{Noted}
+use Rattle.layout.proofs.Prints.{noted-none}
+use Rattle.layout.proofs.Frames.{Counts, count-refused, count-met, count-many}
+use Rattle.layout.proofs.Segments.{in-whole, in-all}
 use Rattle.search.specs.Either.{sweptGiven, sweptOpposite}
 use Rattle.search.proofs.Pairs.{ready, sweeping-on}
 use Rattle.search.proofs.Passes.{segment-passed-not, segment-passed}
