@@ -1,5 +1,5 @@
 // The release desk's night: screens a text of many stretches for a list of withheld sequences, on both strands, and prints the lines of
-// crate `verdict`. The words behind the program's name are `--first`, if each sequence is to be searched to its first end alone, the
+// crate `said`. The words behind the program's name are `--first`, if each sequence is to be searched to its first end alone, the
 // list's file, then the files of the stretches in order, or `-l` and a file with one name to a line. The lines that decide go to
 // descriptor 3 as well, once all that stands before them is written: a program has no status, and who reads there need not read what
 // may be long.

@@ -9,7 +9,8 @@ use lib.Dec.{leb}
 use Rattle.text.specs.Refusal.{Outcome, ok, refused, demand, after}
 use Rattle.text.proofs.Outcomes.{ok-inj, refused-ok, refused-inj, demand-met, after-met}
 use Rattle.text.proofs.Truth.{and-left, and-right}
-use Rattle.records.specs.Records.{position, reference, behind, isRecord, agrees, passedOver, comment, fitting, records, idle, touching}
+use Rattle.records.specs.Records.{position, reference, behind, isRecord, agrees}
+use Rattle.records.specs.Records.{passedOver, comment, fitting, records, idle, touching}
 use Rattle.records.specs.Records.{noted}
 
 -- a line that holds a sound record in the window, not before position `from`

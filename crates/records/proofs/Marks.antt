@@ -186,7 +186,12 @@ pub skipping-more :
 skipping-more n h l e = record { skips = skips-more n (h .skips) (omega (arith, h .count)) e; count = omega (arith, h .count) }
 
 pub skips-ends : {c : ℕ} {s : List ℕ} {from at end : ℕ} → Skips c s from at → Ends c s at end → Ends c s from end
-skips-ends h e = record { is = e .is ∙ sym (h .rest); behind = omega (arith, h .behind, e .behind); inside = omega (arith, h .inside, e .inside) }
+skips-ends h e =
+    record {
+      is = e .is ∙ sym (h .rest);
+      behind = omega (arith, h .behind, e .behind);
+      inside = omega (arith, h .inside, e .inside);
+    }
 
 -- the first piece from `from` on, whether a mark follows it or not
 pub first-piece :

@@ -1,5 +1,5 @@
--- `records::pieces::more_than` meets its contract. The loop's invariant, `Counted`: i pieces are passed. The measure is the number of pieces to
--- pass.
+-- `records::pieces::more_than` meets its contract. The loop's invariant, `Counted`: i pieces are passed. The measure is the number of
+-- pieces to pass.
 use Prim.Native.Nat.{_-_}
 use native.Mathlib.Omega.{arith}
 use mathlib.Core.Path.{sym}

@@ -1,5 +1,5 @@
--- `records::pieces::passed` meets its contract. The loop's invariant, `Skipping`: no mark stands before `at`, and so many bytes are left. They
--- are the measure.
+-- `records::pieces::passed` meets its contract. The loop's invariant, `Skipping`: no mark stands before `at`, and so many bytes are
+-- left. They are the measure.
 use mathlib.Core.Path.{sym, _∙_}
 use borrow.Author.Needs.{needs}
 use borrow.Author.Tests.{not-false}

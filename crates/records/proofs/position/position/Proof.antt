@@ -1,5 +1,5 @@
--- `records::position::position` meets its contract. The loop's invariant, `Digits`: the first i bytes are digits and write n. The measure is
--- the number of bytes left.
+-- `records::position::position` meets its contract. The loop's invariant, `Digits`: the first i bytes are digits and write n. The
+-- measure is the number of bytes left.
 use Prim.Native.Nat.{_-_, _≤_}
 use native.Mathlib.Omega.{arith}
 use mathlib.Core.Path.{_≡_, sym, _∙_}

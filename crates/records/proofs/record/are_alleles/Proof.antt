@@ -1,5 +1,5 @@
--- `records::record::are_alleles` meets its contract. The loop's invariant, `Asked`: the pieces before `from` are alleles. The measure is the
--- number of bytes left.
+-- `records::record::are_alleles` meets its contract. The loop's invariant, `Asked`: the pieces before `from` are alleles. The measure is
+-- the number of bytes left.
 use Prim.Native.Nat.{_-_}
 use native.Mathlib.Omega.{arith}
 use mathlib.Core.Path.{sym, _∙_}

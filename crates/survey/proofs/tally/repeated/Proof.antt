@@ -1,5 +1,5 @@
--- `survey::tally::repeated` meets its contract. The loop's invariant, `Compared`: the allele is none of the first i. The measure is the number
--- of alleles left.
+-- `survey::tally::repeated` meets its contract. The loop's invariant, `Compared`: the allele is none of the first i. The measure is the
+-- number of alleles left.
 use Prim.Native.Nat.{_-_}
 use native.Mathlib.Omega.{arith}
 use mathlib.Core.Path.{_≡_, sym, _∙_}

@@ -1,5 +1,5 @@
--- `survey::tally::Tally::alternates` meets its contract. The loop's invariant, `Behind`: k alleles are tallied. The measure is the number of
--- bytes left.
+-- `survey::tally::Tally::alternates` meets its contract. The loop's invariant, `Behind`: k alleles are tallied. The measure is the
+-- number of bytes left.
 use Prim.Native.Nat.{_-_}
 use native.Mathlib.Omega.{arith}
 use borrow.Author.Needs.{needs}
