@@ -168,17 +168,8 @@ stretch-met s t e =
 
 -- one segment, from what `variants` tells
 module _ (s : List ℕ) (at : ℕ) {r : Counted} (told : toldCounted r ≡ variantsAt s at) where
-  pub count-refused : {w : Refusal} → r ≡ Counted.Refused w → segmentAt s at ≡ refused (w .number) (w .place)
-  unfolding segmentAt
-  count-refused is = rw (← told, is)
-
-  module _ {n : ℕ} (is : r ≡ Variants n) where
-    pub count-met : Counts s at n
-    count-met = variants-met s at n (sym told ∙ ap toldCounted is)
-
-    pub count-many : segmentAt s at ≡ many (variantAt s) n [] (at + 1)
-    unfolding segmentAt
-    count-many = rw (← told, is)
+  pub count-met : {n : ℕ} → r ≡ Variants n → Counts s at n
+  count-met {n} is = variants-met s at n (sym told ∙ ap toldCounted is)
 
 -- a stretch, from what `open` tells, what its segments are and what `closed` tells
 module _ (s : List ℕ) {r : Opened} (told : toldOpened r ≡ openAt s) where

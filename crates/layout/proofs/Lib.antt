@@ -16,6 +16,7 @@ pub mod Frames
 -- walks over the variants of a segment and the segments of a stretch
 pub mod Units
 pub mod Segments
+pub mod Walking
 pub mod Stretches
 -- bytes and texts are inverse
 pub mod Rows

@@ -1,20 +1,20 @@
 -- A walk over the variants of a segment: the unit answers what reading a variant behind those seen answers, and what the walk has
 -- read is what `segmentAt` reads.
-use Prim.Native.Nat.{ℕ, zero, suc, _+_, _-_, _≤_, _<_}
+use Prim.Native.Nat.{ℕ, zero, suc, _+_, _≤_, _<_}
 use native.Mathlib.Omega.{arith}
 use mathlib.Core.Path.{_≡_, sym, ap, _∙_}
 use mathlib.Core.List.{List, [], _∷_, _++_, append-nil, append-assoc}
 use lib.ListN.{length}
-use Rattle.text.specs.Text.{Variant, Segment, counted, weight}
+use Rattle.text.specs.Text.{Variant, Segment, weight}
 use Rattle.text.specs.Refusal.{ok, refused}
 use Rattle.text.proofs.Sizes.{counted-le}
 use Rattle.text.proofs.Outcomes.{ok-inj, after-met}
 use Rattle.layout.specs.Bytes.{word}
 use Rattle.layout.specs.Pieces.{nextOf}
-use Rattle.layout.specs.Reading.{Taken, valueOf, variantAt, spanAt, valuesFrom, many}
+use Rattle.layout.specs.Reading.{Taken, valueOf, variantAt, valuesFrom, many}
 use Rattle.layout.specs.Skips.{stepped, behindVariants, UpTo}
 use Rattle.layout.proofs.Heads.{value-length}
-use Rattle.layout.proofs.Units.{variant-read, span-read, span-read-not}
+use Rattle.layout.proofs.Units.{variant-read}
 use Rattle.layout.proofs.Walks.{Step, walk-refused, Summed, summed-none, summed-more}
 
 -- what a walk has read are the values from its start on
@@ -72,19 +72,6 @@ module _ (s : List ℕ) (first k : ℕ) (seen : Segment) (at size : ℕ) (m : In
   pub in-not :
       (n : ℕ) → k < n → (j p : ℕ) → variantAt s (valuesFrom s k first) at ≡ refused j p → many (variantAt s) n [] first ≡ refused j p
   in-not n l j p e = walk-refused (variantAt s) first k seen at (m .walk) n l j p (rw in-values e)
-
-  -- the same told by where its letters stand
-  pub in-more : (start next more : ℕ) → spanAt s (valuesFrom s k first) at ≡ ok (record { start = start; next = next })
-      → more ≡ counted (next - start) → InSegment s first (k + 1) (seen ++ (valueOf s at ∷ [])) next (size + more)
-  unfolding weight
-  in-more start next more e count =
-      let (w, read) = span-read s (valuesFrom s k first) at start next e in
-      let long : next - start ≡ length (valueOf s at) = omega (arith, value-length s at (w .inside), w .starts, w .ends) in
-      in-next (record { value = valueOf s at; next = next }) more read (count ∙ ap counted long)
-
-  pub in-refused : (n : ℕ) → k < n → (j p : ℕ) → spanAt s (valuesFrom s k first) at ≡ refused j p
-      → many (variantAt s) n [] first ≡ refused j p
-  in-refused n l j p e = in-not n l j p (span-read-not s (valuesFrom s k first) at j p e)
 
   pub in-all : (n : ℕ) → k ≡ n → many (variantAt s) n [] first ≡ ok (record { value = seen; next = at })
   in-all n done = rw (← done) (m .walk)

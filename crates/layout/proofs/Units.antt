@@ -1,6 +1,6 @@
 -- Laws of one variant of a walk: what reading it behind those before it answers, from what its head and its verdict tell.
 use Prim.Native.Nat.{ℕ, _+_, _-_, _≤_, _<_}
-use mathlib.Core.Path.{_≡_, refl, sym, ap, _∙_}
+use mathlib.Core.Path.{_≡_, refl, sym, _∙_}
 use mathlib.Core.Bool.{Bool, true, false, not}
 use mathlib.Core.List.{List}
 use borrow.Author.Tests.{not-true, not-false}
@@ -9,10 +9,10 @@ use Rattle.text.specs.Letter.{letter, every}
 use Rattle.text.specs.Text.{Variant, Segment}
 use Rattle.text.specs.Refusal.{ok, refused, demand, after}
 use Rattle.text.specs.declared.refusal.Refusal.{Refusal}
-use Rattle.text.proofs.Outcomes.{ok-inj, demand-met, after-met, told-met, told-refused}
+use Rattle.text.proofs.Outcomes.{ok-inj, demand-met, after-met}
 use Rattle.layout.specs.Skips.{UpTo}
-use Rattle.layout.specs.Pieces.{lettersAt, nextOf, Span, headAt, misspeltAt, toldPart}
-use Rattle.layout.specs.Reading.{Taken, among, valueOf, formed, variantAt, spanAt, valuesFrom}
+use Rattle.layout.specs.Pieces.{lettersAt, nextOf, headAt, misspeltAt, toldPart}
+use Rattle.layout.specs.Reading.{Taken, among, valueOf, formed, variantAt, valuesFrom}
 use Rattle.layout.specs.Prints.{suspectedAt, repeatsAt, Noted}
 use Rattle.layout.specs.declared.pieces.Part.{Part}
 use Rattle.layout.proofs.Heads.{Whole, head-found, head-is, whole-part}
@@ -76,31 +76,3 @@ module _ {s : List ℕ} {first k at start next : ℕ} (up : UpTo s first k at) (
   pub unsuspected-new : {n set : ℕ} → Noted s n first k set → k < n → suspectedAt s n set at ≡ false → repeatsAt s first at ≡ false
   unsuspected-new {n} {set} noted l none =
       repeats-at-walk s first k at start next up w ∙ unsuspected s n first k set at noted l (w .inside) none
-
--- the same told by where its letters stand
-module _ (s : List ℕ) (seen : Segment) (at : ℕ) where
-  pub span-not : (n p : ℕ) → variantAt s seen at ≡ refused n p → spanAt s seen at ≡ refused n p
-  unfolding spanAt
-  span-not n p e = rw e
-
-  pub span-is : (start next : ℕ) → Whole s at start next → variantAt s seen at ≡ ok (record { value = valueOf s at; next = next })
-      → spanAt s seen at ≡ ok (record { start = start; next = next })
-  unfolding spanAt
-  span-is start next w e = rw (e, w .starts)
-
-  -- what was told so was read
-  pub span-read-not : (n p : ℕ) → spanAt s seen at ≡ refused n p → variantAt s seen at ≡ refused n p
-  unfolding spanAt
-  span-read-not n p e = told-refused (variantAt s seen at) (λ x. record { start = at + 2; next = x .next }) n p e
-
-  pub span-read : (start next : ℕ) → spanAt s seen at ≡ ok (record { start = start; next = next })
-      → Whole s at start next × (variantAt s seen at ≡ ok (record { value = valueOf s at; next = next }))
-  unfolding spanAt
-  span-read start next e =
-      let t = told-met (variantAt s seen at) (λ x. record { start = at + 2; next = x .next }) (record { start = start; next = next }) e in
-      let r = variant-read s seen at (t .0) (t .1) in
-      let same : t .0 .next ≡ nextOf s at = ap (λ (x : Taken Variant ℕ). x .next) (r .is) in
-      let ends : next ≡ nextOf s at = sym (ap (λ (x : Span). x .next) (t .2)) ∙ same in (
-        record { starts = sym (ap (λ (x : Span). x .start) (t .2)); ends = ends; inside = r .inside },
-        t .1 ∙ ap ok (r .is) ∙ rw ends,
-      )

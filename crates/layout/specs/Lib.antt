@@ -3,6 +3,7 @@ pub mod Bytes
 pub mod Pieces
 pub mod Reading
 pub mod Prints
+pub mod Cursor
 pub mod Encoding
 pub mod Skips
 pub mod Standing

@@ -7,7 +7,7 @@ use Rattle.text.specs.Text.{Variant, Segment, Text}
 use Rattle.text.specs.Compare.{same}
 use Rattle.text.specs.Bits.{anyOf}
 use Rattle.text.specs.Refusal.{Outcome, ok, demand, after}
-use Rattle.layout.specs.Pieces.{fits, openAt, variantsAt, lettersAt, nextOf, Span, headAt, wrongPlace, closedAt}
+use Rattle.layout.specs.Pieces.{fits, openAt, variantsAt, lettersAt, nextOf, headAt, wrongPlace, closedAt}
 
 -- what the variant whose length stands at `at` spells: its letters, in upper case
 unfoldable pub valueOf : List ℕ → ℕ → Variant
@@ -30,10 +30,6 @@ among v seen = anyOf (same v) seen
 unfoldable pub variantAt : List ℕ → Segment → ℕ → Outcome (Taken Variant ℕ)
 variantAt s seen at =
     formed s at (demand (not (among (valueOf s at) seen)) 8 at (ok (record { value = valueOf s at; next = nextOf s at })))
-
--- where the letters of the variant at `at` stand, read behind those seen of its segment
-unfoldable pub spanAt : List ℕ → Segment → ℕ → Outcome Span
-spanAt s seen at = after (variantAt s seen at) λ x. ok (record { start = at + 2; next = x .next })
 
 -- what the k variants from `at` on spell
 unfoldable pub valuesFrom : List ℕ → ℕ → ℕ → Segment

@@ -1,8 +1,9 @@
-// How a stretch is laid out in bytes: numbers, the pieces of which every walk over them is made, the test for repetition, and a
-// variant put into a buffer.
+// How a stretch is laid out in bytes: numbers, the questions that are asked of the bytes, the walk over a segment that asks them, the test
+// for repetition, and a variant put into a buffer.
+pub mod cursor;
 pub mod number;
 pub mod pieces;
-pub mod repetition;
+mod repetition;
 mod variant;
 
 pub use variant::put_variant;

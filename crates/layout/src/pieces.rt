@@ -1,6 +1,6 @@
 // The pieces of which every walk over a stretch is made, each a question that is asked here alone: may the stretch be read at all
 // and how many segments has it, how many variants has a segment, where does a variant stand, is it sound, and is nothing left
-// behind the last segment. Any bytes and any places are fine.
+// after the last segment. Those of one segment are asked by a cursor. Any bytes and any places are fine.
 use crate::number::pair;
 use crate::number::wide;
 use text::Refusal;
@@ -70,7 +70,7 @@ pub fn open(stretch: &[u8]) -> Opened
 }
 
 // The variant count of the segment at `at`: refusal 5 where it is cut off, then 6.
-pub fn variants(stretch: &[u8], at: usize) -> Counted
+pub(crate) fn variants(stretch: &[u8], at: usize) -> Counted
     ensures { λ r. ⌜ toldCounted r ≡ variantsAt (now (stretch .entry)) at ⌝ }
 {
     if stretch.len() <= at {
@@ -90,7 +90,7 @@ pub fn variants(stretch: &[u8], at: usize) -> Counted
 }
 
 // The variant whose length stands at `at`: refusal 5 where the bytes end inside the length, or before the letters that it states.
-pub fn head(stretch: &[u8], at: usize) -> Part
+pub(crate) fn head(stretch: &[u8], at: usize) -> Part
     ensures { λ r. ⌜ toldPart r ≡ headAt (now (stretch .entry)) at ⌝ }
 {
     let cut_off = Part::Refused(Refusal {
@@ -115,7 +115,7 @@ pub fn head(stretch: &[u8], at: usize) -> Part
 }
 
 // Refusal 7 of the variant at `at`, one of whose letters is no letter. Only now its place is looked for.
-pub fn misspelt(stretch: &[u8], at: usize) -> Refusal
+pub(crate) fn misspelt(stretch: &[u8], at: usize) -> Refusal
     ensures { λ r. ⌜ refused (r .number) (r .place) ≡ misspeltAt (now (stretch .entry)) at ⌝ }
 {
     match head(stretch, at) {

@@ -14,7 +14,7 @@ ghost use Rattle.text.specs.Compare.{alike};
 ghost use Rattle.layout.specs.Pieces.{repeats};
 ghost use Rattle.layout.specs.Prints.{printAt, suspectedAt, repeatsAt};
 
-// Whether the so many letters from `start` on spell the variant. Only if they are as many, they are compared.
+// Whether the `letters` bytes from `start` on spell the variant. Only if they are as many, they are compared.
 fn stands(stretch: &[u8], start: usize, letters: usize, variant: &[u8]) -> bool
     requires { ⌜ start + length (now variant) < length (now stretch) ⌝ }
     ensures { λ r. ⌜ r ≡ alike (now (variant .entry)) (take letters (drop start (now (stretch .entry)))) ⌝ }
@@ -54,7 +54,7 @@ fn repeated(stretch: &[u8], first: usize, at: usize, variant: &[u8]) -> bool
     false
 }
 
-// The same of the variant that stands at `at`. It is called by each walk, and so stays out of their loops.
+// The same of the variant that stands at `at`; one that is cut off repeats none.
 pub fn repeated_at(stretch: &[u8], first: usize, at: usize) -> bool
     ensures { λ r. ⌜ r ≡ repeatsAt (now (stretch .entry)) first at ⌝ }
 {
@@ -94,7 +94,7 @@ pub fn print(stretch: &[u8], count: usize, at: usize) -> u64
     }
 }
 
-// Whether the set has the print of the variant at `at`, one of so many of its segment.
+// Whether the set has the print of the variant at `at`, one of `count` of its segment.
 pub fn suspected(stretch: &[u8], count: usize, prints: u64, at: usize) -> bool
     ensures { λ r. ⌜ r ≡ suspectedAt (now (stretch .entry)) count prints at ⌝ }
 {

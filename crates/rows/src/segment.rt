@@ -2,17 +2,13 @@
 // pass over each variant; each row is then a shift and a mask.
 use crate::carry::carry;
 use crate::ends::sooner;
-use layout::pieces::Counted;
-use layout::pieces::FIRST_VARIANT;
+use layout::cursor::Cursor;
+use layout::cursor::Entered;
 use layout::pieces::Part;
-use layout::pieces::head;
-use layout::pieces::variants;
 use text::refusal;
 ghost use mathlib.Core.Path.{_≡_};
 ghost use Prim.Native.Nat.{_≤_, _<_};
 ghost use lib.ListN.{length};
-ghost use Rattle.text.specs.Refusal.{ok};
-ghost use Rattle.layout.specs.Pieces.{variantsAt};
 ghost use Rattle.rows.specs.Held.{Full};
 ghost use Rattle.rows.specs.RowStep.{Alive, Covers, Readable, Spread, VariantOver, Settled, SegmentOver};
 
@@ -81,18 +77,6 @@ fn settle(
     live
 }
 
-// How many variants the segment at `at` has, a sound one.
-fn count(stretch: &[u8], at: usize) -> usize
-    requires { ⌜ Readable (now stretch) at ⌝ }
-    ensures { λ r. ⌜ variantsAt (now (stretch .entry)) at ≡ ok r ⌝ }
-{
-    match variants(stretch, at) {
-        Counted::Variants(all) => all,
-        // A sound segment has its count.
-        Counted::Refused(_) => 0,
-    }
-}
-
 // Takes the rows over the segment at `at`, a sound one with the number k.
 pub fn segment_rows(
     pattern: &[u8],
@@ -109,29 +93,26 @@ pub fn segment_rows(
     ensures { λ r. ⌜ SegmentOver (now (pattern .entry)) (now (stretch .entry)) at k (now (exits .entry)) (now (firsts .entry))
         (now (exits .exit)) (now (firsts .exit)) (r .live) (r .next) ⌝ }
 {
-    let all = count(stretch, at);
-    let mut next = [0u64; refusal::GREATEST_PATTERN];
+    let Entered::At(entered) = Cursor::enter(stretch, at) else {
+        // A sound segment has its count.
+        return Behind { live, next: at };
+    };
+    let mut cursor = entered;
+    let mut new = [0u64; refusal::GREATEST_PATTERN];
     let mut finished = 0;
-    let mut from = at + FIRST_VARIANT;
-    let mut j = 0;
-    while j < all {
-        let Part::At {
-            start,
-            next: behind,
-        } = head(stretch, from)
-        else {
+    while 0 < cursor.left {
+        let Part::At { start, next } = cursor.head(stretch) else {
             // In a sound segment no variant is cut off.
-            return Behind { live, next: from };
+            return Behind { live, next: at };
         };
-        let variant = &stretch[start..behind];
-        let ended = variant_rows(pattern, masks, live, variant, &*exits, &mut next);
+        let variant = &stretch[start..next];
+        let ended = variant_rows(pattern, masks, live, variant, &*exits, &mut new);
         finished = finished | ended;
-        from = behind;
-        j += 1;
+        cursor = cursor.past(stretch, next, variant.len());
     }
-    let alive = settle(pattern.len(), finished, k, &next, &mut *exits, &mut *firsts);
+    let alive = settle(pattern.len(), finished, k, &new, &mut *exits, &mut *firsts);
     Behind {
         live: alive,
-        next: from,
+        next: cursor.at,
     }
 }

@@ -4,16 +4,17 @@ use native.Mathlib.Decide.{ℕ-discrete}
 use native.Mathlib.Omega.{arith}
 use mathlib.Core.Path.{_≡_, refl, ap, _∙_}
 use mathlib.Core.Logic.{by-cases}
-use mathlib.Core.List.{List, [], _∷_}
+use mathlib.Core.List.{List, [], _∷_, _++_}
 use lib.Bits.{bitAnd}
 use lib.ListN.{length, getD, drop, set, replicate, length-drop, length-set, length-replicate}
 use lib.Seq.{getD-drop, getD-set-same, getD-set-other}
 use Rattle.search.specs.Masks.{Others, StateOf, Ready}
-use Rattle.search.specs.Words.{SweptAt}
+use Rattle.search.specs.Words.{Turned}
 use Rattle.search.specs.Either.{evens, odds, Vectors}
 use Rattle.search.specs.declared.method.Method.the-variants.{Bits}
-use Rattle.search.specs.declared.segment.Swept.{Swept}
-use Rattle.search.specs.declared.segment.Swept.the-variants.{To}
+use Rattle.layout.specs.Reading.{valueOf}
+use Rattle.layout.specs.declared.cursor.Cursor.{Cursor}
+use Rattle.layout.proofs.Walking.{Walking}
 use Rattle.search.proofs.Methods.{ready-bits}
 use Rattle.search.proofs.Words.{Sweeping, sweeping-more}
 
@@ -116,9 +117,7 @@ pub ready : (P masks classes : List ℕ) (st : ℕ) → Vectors P masks classes 
 ready P masks classes st (t, y) = ready-bits Bits P masks classes st refl t y
 
 -- a variant more, with the words as they were united
-pub sweeping-on : (P : List ℕ) (st : ℕ) (s : List ℕ) (first k at size out missed : ℕ) → Sweeping P st s first k at size out missed
-    → (r : Swept)
-    → SweptAt P st s first k at missed r → (behind more reached met : ℕ) → r ≡ To behind more reached met → (words : ℕ)
-    → words ≡ bitAnd out reached → Sweeping P st s first (k + 1) behind (size + more) words met
-sweeping-on P st s first k at size out missed t r w behind more reached met e words is =
-    rw is (sweeping-more P st s first k at size out missed t r w behind more reached met e)
+pub sweeping-on : {P : List ℕ} {st : ℕ} {s : List ℕ} {from : ℕ} {c d : Cursor} {out missed : ℕ} (t : Sweeping P st s from c out missed)
+    → Walking s from (t .seen ++ (valueOf s (c .at) ∷ [])) d → {reached met : ℕ}
+    → Turned P st (valueOf s (c .at) ∷ []) missed reached met → {words : ℕ} → words ≡ bitAnd out reached → Sweeping P st s from d words met
+sweeping-on t w turned is = rw is (sweeping-more t w turned)

@@ -1,5 +1,5 @@
 -- Steps over a segment: each answer, from the tests and the callees that lead there; and what an answer says of the segment.
-use Prim.Native.Nat.{ℕ, _+_}
+use Prim.Native.Nat.{ℕ}
 use mathlib.Core.Path.{_≡_, ap, _∙_}
 use mathlib.Core.Bool.{Bool}
 use mathlib.Core.List.{List}
@@ -8,27 +8,27 @@ use Rattle.text.specs.State.{next, ends}
 use Rattle.text.specs.Refusal.{ok, refused}
 use Rattle.text.proofs.Outcomes.{told-met, told-refused}
 use Rattle.layout.specs.Reading.{Taken, segmentAt}
-use Rattle.layout.proofs.Segments.{InSegment}
+use Rattle.layout.specs.declared.cursor.Cursor.{Cursor}
+use Rattle.layout.proofs.Walking.{Walking, walk-done}
 use Rattle.search.specs.Step.{Pass, segmentPass}
 
 -- the variants of a segment, taken one after another
-pub record Taking (P : List ℕ) (st : ℕ) (s : List ℕ) (first k at size state : ℕ) (end : Bool) : Type 0 where
+pub record Taking (P : List ℕ) (st : ℕ) (s : List ℕ) (from : ℕ) (c : Cursor) (state : ℕ) (end : Bool) : Type 0 where
   pub seen : Segment
-  pub sum : InSegment s first k seen at size
+  pub walk : Walking s from seen c
   pub reached : state ≡ next P st seen
   pub ended : end ≡ ends P st seen
 
 -- the answers of a step over a segment
-module _ (P : List ℕ) (st : ℕ) (s : List ℕ) (at : ℕ) where
-  pub segment-passed-not : (n p : ℕ) → segmentAt s at ≡ refused n p → segmentPass P st s at ≡ refused n p
-  unfolding segmentPass
-  segment-passed-not n p e = rw e
+pub segment-passed-not : (P : List ℕ) (st : ℕ) (s : List ℕ) (at n p : ℕ) → segmentAt s at ≡ refused n p
+    → segmentPass P st s at ≡ refused n p
+unfolding segmentPass
+segment-passed-not P st s at n p e = rw e
 
-  pub segment-passed : (k behind size state : ℕ) (end : Bool) (t : Taking P st s (at + 1) k behind size state end)
-      → segmentAt s at ≡ ok (record { value = t .seen; next = behind })
-      → segmentPass P st s at ≡ ok (record { next = behind; size = size; state = state; ends = end })
-  unfolding segmentPass
-  segment-passed k behind size state end t e = rw (e, t .sum .sum, t .reached, t .ended)
+pub segment-passed : {P : List ℕ} {st : ℕ} {s : List ℕ} {at : ℕ} {c : Cursor} {state : ℕ} {end : Bool} → Taking P st s at c state end
+    → c .left ≡ 0 → segmentPass P st s at ≡ ok (record { next = c .at; size = c .size; state = state; ends = end })
+unfolding segmentPass
+segment-passed t none = rw (walk-done (t .walk) none, t .walk .sum .sum, t .reached, t .ended)
 
 -- the segment that a step over it has read
 pub record Stepped (P : List ℕ) (st : ℕ) (s : List ℕ) (at behind more bits : ℕ) (hit : Bool) : Type 0 where

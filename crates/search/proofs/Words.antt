@@ -12,26 +12,20 @@ use lib.Dec.{ltb, lit<}
 use lib.ListN.{length, take, drop}
 use lib.Pow.{pow-pos, pow-lt, pow-mono, ones-sub-lt}
 use Rattle.text.specs.Letter.{letter, meant, every}
-use Rattle.text.specs.Text.{Variant, Segment, counted, weight}
+use Rattle.text.specs.Text.{Variant, Segment}
 use Rattle.text.specs.Bits.{bit}
 use Rattle.text.specs.State.{next, ends}
-use Rattle.text.specs.Refusal.{ok, refused}
 use Rattle.text.proofs.Bits.{bit-ext, bit-zero, bit-or, bit-mod, bit-single}
 use Rattle.text.proofs.Steps.{next-lt}
 use Rattle.text.proofs.Scan.{one-ends}
 use Rattle.text.proofs.Folds.{next-none, next-snoc, ends-none, ends-snoc}
-use Rattle.layout.specs.Pieces.{lettersAt}
-use Rattle.layout.specs.Reading.{valueOf, variantAt, valuesFrom, many}
-use Rattle.layout.specs.Prints.{printAt, Noted}
-use Rattle.layout.proofs.Heads.{Whole, whole-part, value-part, value-length}
-use Rattle.layout.proofs.Units.{variant-read}
-use Rattle.layout.proofs.Prints.{noted-more}
-use Rattle.layout.proofs.Segments.{InSegment, in-none, in-values, in-next, in-not}
+use Rattle.layout.specs.Reading.{valueOf}
+use Rattle.layout.specs.declared.cursor.Cursor.{Cursor}
+use Rattle.layout.proofs.Heads.{Whole, whole-part, value-part}
+use Rattle.layout.proofs.Walking.{Walking}
 use Rattle.search.specs.Masks.{others}
 use Rattle.search.specs.Step.{Steps}
-use Rattle.search.specs.Words.{Words, Turned, LettersBy, SweptAt}
-use Rattle.search.specs.declared.segment.Swept.{Swept}
-use Rattle.search.specs.declared.segment.Swept.the-variants.{To, Refused}
+use Rattle.search.specs.Words.{Words, Turned, LettersBy}
 use Rattle.search.proofs.BitScans.{top-bit}
 use Rattle.search.proofs.Passes.{Taking}
 use Rattle.search.proofs.Turns.{others-twice, others-or, others-and, missed-all, high-ones, low-others, high-others}
@@ -139,79 +133,57 @@ module _ (v : Variant) (wrong : Bool) (e : wrong ≡ not (every letter v)) where
         → LettersBy P st before v out missed false
     letters-good is out missed w = (sym (ap not (letters-all is)), λ _. w)
 
--- the answers of a sweep over a variant
-module _ (P : List ℕ) (st : ℕ) (s : List ℕ) (first k at before : ℕ) where
-  pub swept-not : (j p : ℕ) → variantAt s (valuesFrom s k first) at ≡ refused j p
-      → SweptAt P st s first k at before (Refused (record { number = j; place = p }))
-  unfolding SweptAt
-  swept-not j p e = e
+-- what the letters of a variant lead to, told of what it spells
+pub swept-by : {P : List ℕ} {st : ℕ} (s : List ℕ) (at : ℕ) {before start next out missed : ℕ} → Whole s at start next
+    → Turned P st (meant (take (next - start) (drop start s)) ∷ []) before out missed → Turned P st (valueOf s at ∷ []) before out missed
+swept-by s at {before} {start} {next} w t =
+    let own : meant (take (next - start) (drop start s)) ≡ valueOf s at =
+    ap meant (whole-part s at start next w) ∙ sym (value-part s at) in
+    rw own at t
 
-  pub swept-to : (start next : ℕ) → Whole s at start next
-      → variantAt s (valuesFrom s k first) at ≡ ok (record { value = valueOf s at; next = next })
-      → (size out missed : ℕ) → size ≡ counted (next - start)
-      → (every letter (take (next - start) (drop start s)) ≡ true
-      → Turned P st (meant (take (next - start) (drop start s)) ∷ []) before out missed)
-      → SweptAt P st s first k at before (To next size out missed)
-  unfolding SweptAt weight
-  swept-to start next w read size out missed e t =
-      let own : meant (take (next - start) (drop start s)) ≡ valueOf s at =
-      ap meant (whole-part s at start next w) ∙ sym (value-part s at) in
-      let good : every letter (lettersAt s at) ≡ true = variant-read s (valuesFrom s k first) at _ read .letters in
-      let long : next - start ≡ length (valueOf s at) = omega (arith, value-length s at (w .inside), w .starts, w .ends) in
-      (read, e ∙ ap counted long, rw own at (t (rw (whole-part s at start next w) good)))
+-- the same where they were looked at
+pub swept : {P : List ℕ} {st : ℕ} (s : List ℕ) (at : ℕ) {before start next out missed : ℕ} {wrong : Bool} → Whole s at start next
+    → LettersBy P st before (take (next - start) (drop start s)) out missed wrong → wrong ≡ false
+    → Turned P st (valueOf s at ∷ []) before out missed
+swept s at w t is = swept-by s at w (t .1 (letters-all _ _ (t .0) is))
 
 -- the variants of a segment, swept one after another
-pub record Sweeping (P : List ℕ) (st : ℕ) (s : List ℕ) (first k at size out missed : ℕ) : Type 0 where
+pub record Sweeping (P : List ℕ) (st : ℕ) (s : List ℕ) (from : ℕ) (c : Cursor) (out missed : ℕ) : Type 0 where
   pub seen : Segment
-  pub sum : InSegment s first k seen at size
+  pub walk : Walking s from seen c
   pub word : out < 2 ^ 64
   pub missing : missed < 2 ^ 64
   pub words : Words P st seen (others out) (others missed)
 
-pub sweeping-none : (P : List ℕ) (st : ℕ) (s : List ℕ) (first : ℕ) → 0 < length P → st % 2 ≡ 1 → first ≤ length s
-    → Sweeping P st s first 0 first 0 0xffff_ffff_ffff_fffe 0xffff_ffff_ffff_ffff
-sweeping-none P st s first some odd l =
-    record { seen = []; sum = in-none s first l; word = lit< tt; missing = lit< tt; words = words-none P st some odd }
+pub sweeping-none : {P : List ℕ} {st : ℕ} {s : List ℕ} {from : ℕ} {c : Cursor} → 0 < length P → st % 2 ≡ 1 → Walking s from [] c
+    → Sweeping P st s from c 0xffff_ffff_ffff_fffe 0xffff_ffff_ffff_ffff
+sweeping-none {P} {st} some odd w =
+    record { seen = []; walk = w; word = lit< tt; missing = lit< tt; words = words-none P st some odd }
 
-module _ (P : List ℕ) (st : ℕ) (s : List ℕ) (first k at size out missed : ℕ) (t : Sweeping P st s first k at size out missed) where
-  module _ (r : Swept) (w : SweptAt P st s first k at missed r) where
-    pub sweeping-more : (behind more reached met : ℕ) → r ≡ To behind more reached met
-        → Sweeping P st s first (k + 1) behind (size + more) (bitAnd out reached) met
-    unfolding SweptAt
-    sweeping-more behind more reached met e =
-        let (read, count, turned) = subst (SweptAt P st s first k at missed) e w in
-        let far = ones-sub-lt 64 (turned .hits) in
-        let hits : bitOr (others missed) (turned .hits) ≡ others met =
-        ap (bitOr (others missed)) (sym (others-twice (turned .hits) (turned .near)))
-        ∙ others-and missed (t .missing) (others (turned .hits)) far ∙ ap others (sym (turned .rest)) in
-        record {
-          seen = t .seen ++ (valueOf s at ∷ []);
-          sum = in-next s first k (t .seen) at size (t .sum) _ more read count;
-          word = and-lt 64 out reached (t .word) (turned .word);
-          missing = subst (λ (n : ℕ). n < 2 ^ 64) (sym (turned .rest)) (and-lt 64 missed (others (turned .hits)) (t .missing) far);
-          words =
-              subst₂ (λ (a b : ℕ). Words P st (t .seen ++ (valueOf s at ∷ [])) a b) (others-and out (t .word) reached (turned .word)) hits
-              (words-more P st (t .seen) (valueOf s at) (others out) (others missed) (others reached) (turned .hits) (t .words)
-              (turned .words));
-        }
-
-    -- the print of that variant is in the set
-    pub sweeping-noted : (behind more reached met : ℕ) → r ≡ To behind more reached met → (n set : ℕ) → Noted s n first k set
-        → Noted s n first (k + 1) (bitOr set (printAt s n at))
-    unfolding SweptAt sweeping-more
-    sweeping-noted behind more reached met e n set noted =
-        let (read, count, turned) = subst (SweptAt P st s first k at missed) e w in
-        noted-more s n first k set at (t .seen) noted (variant-read s _ at _ read .inside) (in-values s first k (t .seen) at size (t .sum))
-        (in-values s first (k + 1) _ behind (size + more) (sweeping-more behind more reached met e .sum))
-
-    pub sweeping-refused : (n : ℕ) → k < n → (j p : ℕ) → r ≡ Refused (record { number = j; place = p })
-        → many (variantAt s) n [] first ≡ refused j p
-    unfolding SweptAt
-    sweeping-refused n l j p e = in-not s first k (t .seen) at size (t .sum) n l j p (subst (SweptAt P st s first k at missed) e w)
+module _ {P : List ℕ} {st : ℕ} {s : List ℕ} {from : ℕ} {c : Cursor} {out missed : ℕ} (t : Sweeping P st s from c out missed) where
+  -- one more is passed
+  pub sweeping-more : {d : Cursor} → Walking s from (t .seen ++ (valueOf s (c .at) ∷ [])) d → {reached met : ℕ}
+      → Turned P st (valueOf s (c .at) ∷ []) missed reached met → Sweeping P st s from d (bitAnd out reached) met
+  sweeping-more w {reached} {met} turned =
+      let far = ones-sub-lt 64 (turned .hits) in
+      let hits : bitOr (others missed) (turned .hits) ≡ others met =
+      ap (bitOr (others missed)) (sym (others-twice (turned .hits) (turned .near)))
+      ∙ others-and missed (t .missing) (others (turned .hits)) far ∙ ap others (sym (turned .rest)) in
+      record {
+        seen = t .seen ++ (valueOf s (c .at) ∷ []);
+        walk = w;
+        word = and-lt 64 out reached (t .word) (turned .word);
+        missing = subst (λ (n : ℕ). n < 2 ^ 64) (sym (turned .rest)) (and-lt 64 missed (others (turned .hits)) (t .missing) far);
+        words =
+            subst₂ (λ (a b : ℕ). Words P st (t .seen ++ (valueOf s (c .at) ∷ [])) a b)
+            (others-and out (t .word) reached (turned .word)) hits
+            (words-more P st (t .seen) (valueOf s (c .at)) (others out) (others missed) (others reached) (turned .hits) (t .words)
+            (turned .words));
+      }
 
   -- the bits from m up are cleared behind the last one
   pub sweeping-taken : 0 < length P → length P ≤ 64 → (high : ℕ) → high ≡ 0xffff_ffff_ffff_ffff * 2 ^ (length P - 1) % 2 ^ 64
-      → Taking P st s first k at size (others (bitOr out (high * 2 ^ 1 % 2 ^ 64))) (ltb missed high)
+      → Taking P st s from c (others (bitOr out (high * 2 ^ 1 % 2 ^ 64))) (ltb missed high)
   sweeping-taken some short high e =
       let near : length P - 1 < 64 = omega (arith, some, short) in
       let long : suc (length P - 1) ≡ length P = omega (arith, some) in
@@ -219,7 +191,7 @@ module _ (P : List ℕ) (st : ℕ) (s : List ℕ) (first k at size out missed : 
       low-others (length P - 1) high near e ∙ ap (λ (n : ℕ). 2 ^ n - 1) long in
       record {
         seen = t .seen;
-        sum = t .sum;
+        walk = t .walk;
         reached =
             sym (others-or out (t .word) (high * 2 ^ 1 % 2 ^ 64) (mod-lt (high * 2 ^ 1) (pow-pos 64)))
             ∙ ap (bitAnd (others out)) low

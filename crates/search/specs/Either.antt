@@ -8,18 +8,14 @@ use Rattle.text.specs.Refusal.{Outcome, ok, refused, demand, Answer}
 use Rattle.text.specs.Strand.{opposite}
 use Rattle.layout.specs.Reading.{Taken}
 use Rattle.search.specs.Answers.{Sums, entering, stretchInto}
-use Rattle.search.specs.Masks.{Ready}
 use Rattle.search.specs.Method.{Founded, Tools}
-use Rattle.search.specs.Words.{SweptAt}
 use Rattle.search.specs.declared.method.Method.the-variants.{Bits}
 use Rattle.search.specs.declared.segment.Passed.{Passed}
-use Rattle.search.specs.declared.segment.Swept.{Swept}
 use Rattle.search.specs.declared.both.SoughtBoth.{SoughtBoth}
 use Rattle.search.specs.declared.both.SoughtBoth.the-variants.{Marked}
 use Rattle.search.specs.declared.both.run.RanBoth.{RanBoth}
 use Rattle.search.specs.declared.both.run.RanBoth.the-variants.{To, Refused}
 use Rattle.search.specs.declared.both.segment.PassedBoth.{PassedBoth}
-use Rattle.search.specs.declared.both.segment.SweptBoth.{SweptBoth}
 
 -- two rows of marks united: 1 where either row has it
 unfoldable pub united : List ℕ → List ℕ → List ℕ
@@ -104,19 +100,6 @@ Founds P masks = Founded Bits P masks
 -- and with the table of letters
 abbrev pub Vectors : List ℕ → List ℕ → List ℕ → Type 0
 Vectors P masks classes = Tools Bits P masks classes
-
--- what a sweep over a variant comes to, for every pattern whose tables these are
-abbrev pub SweptBy : List ℕ → List ℕ → ℕ → List ℕ → ℕ → ℕ → ℕ → ℕ → Swept → Type 0
-SweptBy masks classes st s first k at before r = (P : List ℕ) → Ready P masks classes st → SweptAt P st s first k at before r
-
--- what a sweep over a variant on both strands says of the strand as given, and of the opposite one
-abbrev pub sweptGiven : SweptBoth → Swept
-sweptGiven (SweptBoth.To next size out missed) = Swept.To next size (out .given) (missed .given)
-sweptGiven (SweptBoth.Refused r) = Swept.Refused r
-
-abbrev pub sweptOpposite : SweptBoth → Swept
-sweptOpposite (SweptBoth.To next size out missed) = Swept.To next size (out .opposite) (missed .opposite)
-sweptOpposite (SweptBoth.Refused r) = Swept.Refused r
 
 -- what a step over a segment on both strands says of the strand as given, and of the opposite one
 abbrev pub passedGiven : PassedBoth → Passed

@@ -6,14 +6,10 @@ use mathlib.Core.List.{List, [], _∷_}
 use lib.Bits.{bitAnd}
 use lib.ListN.{length}
 use Rattle.text.specs.Letter.{letter, meant, every}
-use Rattle.text.specs.Text.{Variant, Segment, weight}
+use Rattle.text.specs.Text.{Variant, Segment}
 use Rattle.text.specs.Bits.{bit}
 use Rattle.text.specs.State.{next, ends}
-use Rattle.text.specs.Refusal.{ok, refused}
-use Rattle.layout.specs.Reading.{valueOf, variantAt, valuesFrom}
 use Rattle.search.specs.Masks.{others, Ready}
-use Rattle.search.specs.declared.segment.Swept.{Swept}
-use Rattle.search.specs.declared.segment.Swept.the-variants.{To, Refused}
 
 -- from the state st the variants of g lead to the state that `bits` has below m, and the last bit of `hits` tells whether an
 -- occurrence ends in one of them
@@ -39,10 +35,3 @@ ScannedBy masks classes st before v out missed wrong =
 abbrev pub LettersBy : List ℕ → ℕ → ℕ → Variant → ℕ → ℕ → Bool → Type 0
 LettersBy P st before v out missed wrong =
     (wrong ≡ not (every letter v)) × (every letter v ≡ true → Turned P st (meant v ∷ []) before out missed)
-
--- what a sweep over the variant at `at` comes to, behind the k of its segment that stand from `first` on, with what they missed
-unfoldable pub SweptAt : List ℕ → ℕ → List ℕ → ℕ → ℕ → ℕ → ℕ → Swept → Type 0
-SweptAt P st s first k at before (To next size out missed) =
-    (variantAt s (valuesFrom s k first) at ≡ ok (record { value = valueOf s at; next = next }))
-    × (size ≡ weight (valueOf s at)) × Turned P st (valueOf s at ∷ []) before out missed
-SweptAt P st s first k at before (Refused r) = variantAt s (valuesFrom s k first) at ≡ refused (r .number) (r .place)

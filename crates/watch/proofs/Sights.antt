@@ -1,39 +1,36 @@
 -- The walk of a record over a sound stretch: letter by letter, variant by variant, segment by segment, up to the first end.
-use Prim.Native.Nat.{ℕ, zero, suc, _+_, _-_, _*_, _%_, _^_, _≤_, _<_}
+use Prim.Native.Nat.{ℕ, _+_, _-_, _*_, _%_, _^_, _≤_, _<_}
 use native.Mathlib.Omega.{arith}
-use native.Mathlib.Numerals.{add-one}
 use native.Mathlib.Decide.{ℕ-discrete}
-use mathlib.Core.Path.{_≡_, refl, sym, ap, subst, _∙_}
+use mathlib.Core.Path.{_≡_, refl, sym, ap, _∙_}
 use mathlib.Core.Logic.{by-cases}
 use mathlib.Core.Bool.{Bool, true, false, cond}
 use mathlib.Core.List.{List, [], _∷_, _++_}
 use lib.Bits.{bitAnd, bitOr}
 use lib.Dec.{ltb, eqb}
-use lib.ListN.{length, getD, take, drop, set, replicate, length-set, length-replicate}
+use lib.ListN.{length, getD, take, set, replicate, length-set, length-replicate}
 use lib.Pow.{pow-mono}
 use lib.Seq.{getD-set-same, getD-set-other, take-all}
-use Rattle.text.specs.Letter.{letter, meant, raised, every, Classes}
-use Rattle.text.specs.Text.{Variant, Segment, Text, counted}
+use Rattle.text.specs.Letter.{letter, meant, raised, Classes}
+use Rattle.text.specs.Text.{Variant, Segment, Text}
 use Rattle.text.specs.State.{fresh, next, ends, run, marksFrom, marks}
 use Rattle.text.specs.Card.{none, later, firstEnd, tabulate}
-use Rattle.text.specs.Refusal.{Outcome, ok, refused}
+use Rattle.text.specs.Refusal.{ok, refused}
 use Rattle.text.proofs.Outcomes.{ok-inj, refused-ok}
 use Rattle.text.proofs.Ends.{later-none, later-zero, later-add, firstEnd-le}
 use Rattle.text.proofs.Rows.{length-tabulate, getD-tabulate}
-use Rattle.layout.specs.Pieces.{openAt, variantsAt, headAt, nextOf, mostInStretch}
-use Rattle.layout.specs.Reading.{Taken, valueOf, valuesFrom, variantAt, many, segmentAt, stretchOf}
-use Rattle.layout.proofs.Frames.{variants-met, open-met}
-use Rattle.layout.proofs.Heads.{Whole, head-is, head-found}
-use Rattle.layout.proofs.Units.{Read, variant-read}
-use Rattle.layout.proofs.Segments.{in-values, in-not, in-all}
+use Rattle.layout.specs.Pieces.{openAt, mostInStretch}
+use Rattle.layout.specs.Reading.{Taken, segmentAt, stretchOf}
+use Rattle.layout.proofs.Frames.{open-met}
+use Rattle.layout.specs.declared.cursor.Cursor.{Cursor}
+use Rattle.layout.proofs.Walking.{walk-done}
 use Rattle.layout.proofs.Rows.{Row}
 use Rattle.layout.proofs.Decoding.{stretch-read}
 use Rattle.layout.proofs.Stretches.{stretch-most}
 use Rattle.search.specs.Masks.{maskOf, bases, Masks, others, Others, StateOf, Ready}
-use Rattle.search.specs.Words.{Turned, SweptAt}
-use Rattle.search.specs.declared.segment.Swept.the-variants.{To}
+use Rattle.search.specs.Words.{Turned}
 use Rattle.search.proofs.BitScans.{Turning, turning-none, turning-more, turning-all}
-use Rattle.search.proofs.Words.{Sweeping, sweeping-none, sweeping-more, sweeping-taken, swept-to}
+use Rattle.search.proofs.Words.{Sweeping, sweeping-taken}
 use Rattle.search.proofs.Searches.{run-state}
 use Rattle.watch.specs.Watching.{basesOf, sound, firstOf}
 use Rattle.watch.specs.Sight.{Vectors, Armed, Readable, Stepped}
@@ -97,86 +94,13 @@ pub scanning-all : (P : List ℕ) (st : ℕ) (v : Variant) (i before out missed 
     → Turned P st (meant v ∷ []) before out missed
 scanning-all P st v i before out missed s l = turning-all P st v i before out missed (s .bad) (s .turning) l
 
--- a sound segment has its count, and its variants behind it
-pub count-there : (s : List ℕ) (at : ℕ) → Readable s at → (n p : ℕ) → variantsAt s at ≡ refused n p → ⊥
-unfolding segmentAt
-count-there s at g n p e = refused-ok n p (g .read) (rw e at (g .is))
-
-pub count-inside : (s : List ℕ) (at all : ℕ) → variantsAt s at ≡ ok all → at < length s
-count-inside s at all e = variants-met s at all e .inside
-
-count-many : (s : List ℕ) (at all : ℕ) → variantsAt s at ≡ ok all → segmentAt s at ≡ many (variantAt s) all [] (at + 1)
-unfolding segmentAt
-count-many s at all e = rw e
-
--- `left` of the variants of the segment at `at` are left
-pub record Sweep (P : List ℕ) (st : ℕ) (s : List ℕ) (at all next out missed left : ℕ) : Type 0 where
-  pub most : left ≤ all
-  pub size : ℕ
-  pub sweeping : Sweeping P st s (at + 1) (all - left) next size out missed
-
-pub sweep-none : (P vectors : List ℕ) (st : ℕ) (s : List ℕ) (at all : ℕ) → Armed P vectors st → variantsAt s at ≡ ok all
-    → Sweep P st s at all (at + 1) 0xffff_ffff_ffff_fffe 0xffff_ffff_ffff_ffff all
-sweep-none P vectors st s at all y e =
-    let none : all - all ≡ 0 = omega arith in
-    let inside : at + 1 ≤ length s = omega (arith, count-inside s at all e) in
-    record { most = omega arith; size = 0; sweeping = rw none (sweeping-none P st s (at + 1) (y .tables .some) (y .state .odd) inside) }
-
-module _ (P : List ℕ) (st : ℕ) (s : List ℕ) (at all next out missed left : ℕ) (w : Sweep P st s at all next out missed left)
-    (g : Readable s at) (e : variantsAt s at ≡ ok all) where
-  -- one variant more is there to be read
-  module _ (l : 0 < left) where
-    abbrev seen : Segment
-    seen = valuesFrom s (all - left) (at + 1)
-
-    there : (o : Outcome (Taken Variant ℕ)) → variantAt s seen next ≡ o → (y : Taken Variant ℕ) × (variantAt s seen next ≡ ok y)
-    there (ok y) is = (y, is)
-    there (refused n p) is =
-        let ahead : all - left < all = omega (arith, l, w .most) in
-        let not = in-not s (at + 1) (all - left) _ next _ (w .sweeping .sum) all ahead n p is in
-        absurd (refused-ok n p (g .read) (sym not ∙ sym (count-many s at all e) ∙ g .is))
-
-    whole : (y : Taken Variant ℕ) × (variantAt s seen next ≡ ok y)
-    whole = there (variantAt s seen next) refl
-
-    read : Read s seen next (whole .0)
-    read = variant-read s seen next (whole .0) (whole .1)
-
-    pub sweep-whole : (n p : ℕ) → headAt s next ≡ refused n p → ⊥
-    sweep-whole n p is = refused-ok n p _ (sym is ∙ head-found s next _ refl (read .inside))
-
-    pub sweep-more : (start behind reached met : ℕ) → headAt s next ≡ ok (record { start = start; next = behind })
-        → Turned P st (meant (take (behind - start) (drop start s)) ∷ []) missed reached met
-        → Sweep P st s at all behind (bitAnd out reached) met (left - 1)
-    sweep-more start behind reached met h t =
-        let p : Whole s next start behind = head-is s next start behind h in
-        let is : variantAt s seen next ≡ ok (record { value = valueOf s next; next = behind }) =
-        whole .1 ∙ ap ok (read .is) ∙ ap (λ (n : ℕ). ok (record { value = valueOf s next; next = n })) (sym (p .ends)) in
-        let size : ℕ = counted (behind - start) in
-        let swept : SweptAt P st s (at + 1) (all - left) next missed (To behind size reached met) =
-        swept-to P st s (at + 1) (all - left) next missed start behind p is size reached met refl (λ _. t) in
-        let one : all - left + 1 ≡ all - (left - 1) = omega (arith, l, w .most) in
-        record {
-          most = omega (arith, w .most);
-          size = w .size + size;
-          sweeping = rw one at (sweeping-more P st s (at + 1) (all - left) next (w .size) out missed
-              (w .sweeping) _ swept behind size reached met refl);
-        }
-
-  -- all are taken
-  pub sweep-all : (vectors : List ℕ) → Armed P vectors st → left ≤ 0 → (high : ℕ)
-      → high ≡ 0xffff_ffff_ffff_ffff * 2 ^ (length P - 1) % 2 ^ 64
-      → Stepped P st s at next (others (bitOr out (high * 2 ^ 1 % 2 ^ 64))) (ltb missed high)
-  sweep-all vectors y l high is =
-      let t = sweeping-taken P st s (at + 1) (all - left) next (w .size) out missed (w .sweeping) (y .tables .some)
-      (y .tables .short) high is in
-      let done : all - left ≡ all = omega (arith, l) in
-      record {
-        segment = t .seen;
-        read = count-many s at all e ∙ in-all s (at + 1) (all - left) (t .seen) next (w .size) (t .sum) all done;
-        reached = t .reached;
-        ended = t .ended;
-      }
+-- all variants of a segment are taken
+pub sweep-all : {P : List ℕ} {st : ℕ} {s : List ℕ} {at : ℕ} {c : Cursor} {out missed : ℕ} → Sweeping P st s at c out missed
+    → (vectors : List ℕ) → Armed P vectors st → c .left ≡ 0 → (high : ℕ) → high ≡ 0xffff_ffff_ffff_ffff * 2 ^ (length P - 1) % 2 ^ 64
+    → Stepped P st s at (c .at) (others (bitOr out (high * 2 ^ 1 % 2 ^ 64))) (ltb missed high)
+sweep-all w vectors y none high is =
+    let t = sweeping-taken w (y .tables .some) (y .tables .short) high is in
+    record { segment = t .seen; read = walk-done (t .walk) none; reached = t .reached; ended = t .ended }
 
 -- a sound stretch has its count
 pub open-there : (s : List ℕ) (t : Text) → stretchOf s ≡ ok t → (n p : ℕ) → openAt s ≡ refused n p → ⊥

@@ -1,21 +1,19 @@
 // Where a record is first seen in a stretch. The stretch was found sound once for the whole list, so this walk asks nothing of its bytes
 // again. It is the search by bit-vectors with words turned (search/src/bits.rt), up to the first end.
 use crate::watched::Watched;
-use layout::pieces::Counted;
+use layout::cursor::Cursor;
+use layout::cursor::Entered;
 use layout::pieces::FIRST_SEGMENT;
-use layout::pieces::FIRST_VARIANT;
 use layout::pieces::Opened;
 use layout::pieces::Part;
-use layout::pieces::head;
 use layout::pieces::open;
-use layout::pieces::variants;
 use search::masks;
 use text::refusal;
 ghost use mathlib.Core.Path.{_≡_};
 ghost use Rattle.text.specs.Refusal.{ok};
 ghost use Rattle.text.specs.State.{marks};
 ghost use Rattle.text.specs.Card.{firstEnd};
-ghost use Rattle.layout.specs.Pieces.{openAt, variantsAt};
+ghost use Rattle.layout.specs.Pieces.{openAt};
 ghost use Rattle.layout.specs.Reading.{stretchOf};
 ghost use Rattle.search.specs.Masks.{bases, Others};
 ghost use Rattle.watch.specs.Watching.{firstOf};
@@ -66,52 +64,41 @@ fn scan(vectors: &[u64; 256], bits: u64, before: u64, variant: &[u8]) -> Scanned
     Scanned { out, missed }
 }
 
-// How many variants the segment at `at` has, a sound one.
-fn count(stretch: &[u8], at: usize) -> usize
-    requires { ⌜ Readable (now stretch) at ⌝ }
-    ensures { λ r. ⌜ variantsAt (now (stretch .entry)) at ≡ ok r ⌝ }
-{
-    match variants(stretch, at) {
-        Counted::Variants(all) => all,
-        // A sound segment has its count.
-        Counted::Refused(_) => 0,
-    }
-}
-
 // The state behind the segment at `at`, a sound one.
 fn over(pattern: &[u8], vectors: &[u64; 256], bits: u64, stretch: &[u8], at: usize) -> Behind
     requires { ⌜ Armed (now pattern) (now vectors) bits × Readable (now stretch) at ⌝ }
     ensures { λ r. ⌜ Stepped (now (pattern .entry)) bits (now (stretch .entry)) at (r .next) (r .state) (r .ends) ⌝ }
 {
-    let all = count(stretch, at);
-    let mut next = at + FIRST_VARIANT;
+    let Entered::At(entered) = Cursor::enter(stretch, at) else {
+        // A sound segment has its count.
+        return Behind {
+            next: at,
+            state: bits,
+            ends: false,
+        };
+    };
+    let mut cursor = entered;
     let mut out = 0xffff_ffff_ffff_fffe;
     let mut missed = 0xffff_ffff_ffff_ffff;
-    let mut left = all;
-    while 0 < left {
-        let Part::At {
-            start,
-            next: behind,
-        } = head(stretch, next)
-        else {
+    while 0 < cursor.left {
+        let Part::At { start, next } = cursor.head(stretch) else {
             // In a sound segment no variant is cut off.
             return Behind {
-                next,
+                next: at,
                 state: bits,
                 ends: false,
             };
         };
-        let letters = &stretch[start..behind];
+        let letters = &stretch[start..next];
         let scanned = scan(vectors, bits, missed, letters);
         out = out & scanned.out;
         missed = scanned.missed;
-        next = behind;
-        left -= 1;
+        cursor = cursor.past(stretch, next, letters.len());
     }
     let high = 0xffff_ffff_ffff_ffff << (pattern.len() - 1);
     let state = !(out | (high << 1));
     Behind {
-        next,
+        next: cursor.at,
         state,
         ends: missed < high,
     }

@@ -1,91 +1,111 @@
--- `search::State::over` meets its contract. The loop's invariant, `Sweeping`: the variants before `next` are read, and the words are
--- theirs. The measure is the number of variants left.
-use Prim.Native.Nat.{_+_, _-_, _≤_, _<_}
+-- `search::State::over` meets its contract. The loop's invariant, `Sweeping`: the cursor stands after the variants that were read, and the
+-- words are theirs. The measure is the number of variants left.
 use borrow.Author.Needs.{needs}
+use Prim.Native.Nat.{_^_, _<_}
 use native.Mathlib.Omega.{arith}
-use mathlib.Core.Path.{_≡_, refl, sym, _∙_}
-use Rattle.layout.specs.Prints.{Noted}
-use Rattle.layout.proofs.Prints.{noted-none}
-use Rattle.layout.proofs.Frames.{Counts, count-refused, count-met, count-many}
-use Rattle.layout.proofs.Segments.{in-whole, in-all}
+use mathlib.Core.Path.{_≡_, refl, sym, ap, _∙_}
+use mathlib.Core.Logic.{⊎-elim}
+use lib.ListN.{length}
+use Rattle.layout.specs.Pieces.{toldPart}
+use Rattle.layout.proofs.Heads.{Whole, head-is}
+use Rattle.layout.proofs.Walking.{walk-not, walk-none, walk-cut, walk-misspelt, walk-again}
+use Rattle.layout.proofs.Walking.{walk-new, walk-unsuspected, walk-past, walk-less}
 use Rattle.search.proofs.Passes.{segment-passed-not, segment-passed}
-use Rattle.search.proofs.Words.{Sweeping, sweeping-none, sweeping-more, sweeping-noted, sweeping-refused, sweeping-taken}
+use Rattle.search.proofs.Words.{Sweeping, swept, sweeping-none, sweeping-more, sweeping-taken}
 use Rattle.search.proofs.state.State.over.Statement.{statement}
 use Rattle.search.proofs.state.State.over.Tie as tie
 
 abbrev Inv-loop : tie.InvT-loop
-Inv-loop method pattern table classes stretch at count bits first next₀ size₀ out₀ missed₀ prints₀ left₀ next size out missed prints left =
-    Sweeping pattern bits stretch first (count - left) next size out missed × (left ≤ count) × Noted stretch count first
-    (count - left) prints
+Inv-loop method pattern table classes stretch at cursor₀ bits out₀ missed₀ cursor out missed =
+    Sweeping pattern bits stretch at cursor out missed
 
 abbrev μ-loop : tie.MeasureT-loop
-μ-loop method pattern table classes stretch at count bits first next₀ size₀ out₀ missed₀ prints₀ left₀ next size out missed prints left =
-    left
+μ-loop method pattern table classes stretch at cursor₀ bits out₀ missed₀ cursor out missed =
+    cursor .left
+
+-- the stretch is no longer than a number can say
+narrow : (c : tie.After-enter Inv-loop μ-loop) → length (c .before .before .before .args .stretch .now) < 2 ^ 64
+narrow c = omega arith
 
 returns : tie.Need-returns Inv-loop μ-loop
-returns c =
-    sym (segment-passed-not _ _ _ _ _ _ (count-refused _ _ (c .before .before .before .variants .ensures) (c .before .wrong .given .1)))
-
--- the count is there
-counts : (c : tie.After-count Inv-loop μ-loop)
-    → Counts (c .before .before .before .before .before .args .stretch .now) (c .before .before .before .before .before .args .at)
-    (c .count .given .0 .0)
-counts c = count-met _ _ (c .before .before .variants .ensures) (c .count .given .1)
-
-add-first : tie.Need-add-first Inv-loop μ-loop
-add-first c = omega (arith, counts (c .before) .inside)
+returns c = sym (segment-passed-not _ _ _ _ _ _ (walk-not _ _ (c .before .before .before .enter .ensures) (c .before .wrong .given .1)))
 
 loop-holds : tie.Need-loop-holds Inv-loop μ-loop
 loop-holds c =
+    let few : c .before .cursor .given .0 .0 .count < 2 ^ 64 = omega arith in
     let n = c .before in
     let p = n .before .before .before .before .before .pre in
-    let all = n .count .given .0 .0 in
-    let none : all - all ≡ 0 = omega arith in
-    rw none (sweeping-none _ _ _ _ (p .0 .founded .some) (p .1 .odd) (omega (arith, counts n .inside)), omega arith, noted-none _ _ _)
-
-variant-by-requires : tie.Need-variant-by-requires Inv-loop μ-loop
-variant-by-requires c κs =
-    let q = c .before .loop .inv in
-    (search needs, (in-whole _ _ _ _ _ _ (q .0 .sum), q .2, omega (arith, c .loop-test .taken, q .1)))
+    sweeping-none (p .0 .founded .some) (p .1 .odd) (walk-none _ _ (n .before .before .enter .ensures) (n .cursor .given .1) few)
 
 returns-2 : tie.Need-returns-2 Inv-loop μ-loop
 returns-2 c =
-    let d = c .before .before .before in
-    let a = d .before .before in
-    let n = a .before .before in
-    let wrong = c .before .wrong2 .given .1 in
-    let count = n .count .given .0 .0 in
-    let ahead : count - a .loop .left < count = omega (arith, d .before .loop-test .taken, a .loop .inv .1) in
-    let all = sweeping-refused _ _ _ _ _ _ _ _ _ (a .loop .inv .0) _ (d .variant-by .ensures) _ ahead _ _ wrong in
-    sym (segment-passed-not _ _ _ _ _ _ (count-many _ _ (n .before .before .variants .ensures) (n .count .given .1) ∙ all))
+    let h = c .before .before .before in
+    let t = h .before in
+    sym (segment-passed-not _ _ _ _ _ _ (walk-cut (t .before .before .loop .inv .walk) (t .if1 .taken) (h .head .ensures)
+    (c .before .wrong2 .given .1)))
 
-loop-again : tie.Need-loop-again Inv-loop μ-loop
-loop-again c =
-    let d = c .before .before .before .before in
-    let q = d .before .before .loop .inv in
-    let is = c .before .before .behind .given .1 in
-    let more = sweeping-more _ _ _ _ _ _ _ _ _ (q .0) _ (d .variant-by .ensures) _ _ _ _ is in
-    let noted = sweeping-noted _ _ _ _ _ _ _ _ _ (q .0) _ (d .variant-by .ensures) _ _ _ _ is _ _ (q .2) in
-    let all = d .before .before .before .before .count .given .0 .0 in
-    let left = d .before .before .loop .left in
-    let less : all - (left - 1) ≡ all - left + 1 = omega (arith, d .before .loop-test .taken, q .1) in
-    rw less (more, omega arith, rw (c .print .ensures) noted)
+-- where the letters stand
+here : (c : tie.After-start Inv-loop μ-loop)
+    → let a = c .before .before .before .before .before in
+    Whole (a .before .before .before .before .before .before .before .args .stretch .now) (a .loop .cursor .at) (c .start .given .0 .0)
+    (c .start .given .0 .1 .0)
+here c = head-is _ _ _ _ (sym (c .before .before .head .ensures) ∙ ap toldPart (c .start .given .1))
 
-add-size : tie.Need-add-size Inv-loop μ-loop
-add-size c =
-    let d = c .before .before .before in
-    let q = d .before .before .loop .inv in
-    let m = sweeping-more _ _ _ _ _ _ _ _ _ (q .0) _ (d .variant-by .ensures) _ _ _ _ (c .before .behind .given .1) .sum in
-    omega (arith, m .small, m .inside)
+sub-letters : tie.Need-sub-letters Inv-loop μ-loop
+sub-letters c = let w = here (c .before) in omega (arith, w .starts, w .ends)
+
+part-letters-start : tie.Need-part-letters-start Inv-loop μ-loop
+part-letters-start c = let w = here (c .before) in omega (arith, w .starts, w .ends)
+
+part-letters-end : tie.Need-part-letters-end Inv-loop μ-loop
+part-letters-end c = let w = here (c .before) in omega (arith, w .ends, w .inside)
 
 returns-3 : tie.Need-returns-3 Inv-loop μ-loop
 returns-3 c =
-    let a = c .before in
-    let n = a .before .before in
-    let p = n .before .before .before .before .before .pre in
-    let t = sweeping-taken _ _ _ _ _ _ _ _ _ (a .loop .inv .0) (p .0 .founded .some) (p .0 .founded .short) _ refl in
-    let all = in-all _ _ _ _ _ _ (t .sum) (n .count .given .0 .0) (omega arith) in
-    sym (segment-passed _ _ _ _ _ _ _ _ _ t (count-many _ _ (n .before .before .variants .ensures) (n .count .given .1) ∙ all))
+    let d = c .before .before in
+    let s = d .before .before .before in
+    let t = s .before .before .before in
+    sym (segment-passed-not _ _ _ _ _ _ (walk-misspelt (t .before .before .loop .inv .walk) (t .if1 .taken) (here s)
+    (d .scan-by .ensures .0) (c .before .if2 .taken) (c .misspelt .ensures)))
+
+returns-4 : tie.Need-returns-4 Inv-loop μ-loop
+returns-4 c =
+    let p = c .before .before .before in
+    let e = p .before .before .before in
+    let d = e .before in
+    let s = d .before .before .before in
+    let t = s .before .before .before in
+    sym (segment-passed-not _ _ _ _ _ _ (walk-again (t .before .before .loop .inv .walk) (t .if1 .taken) (here s)
+    (d .scan-by .ensures .0) (e .if2 .left) (p .compared .ensures) (c .before .wrong3 .given .1)))
+
+loop-less : tie.Need-loop-less Inv-loop μ-loop
+loop-less c =
+    let t = c .before .before .before .before .before .before .before .before .before .before .before in
+    walk-less (t .before .before .loop .inv .walk) (t .if1 .taken) _ _ (c .past .ensures)
+
+loop-again : tie.Need-loop-again Inv-loop μ-loop
+loop-again c =
+    let j = c .before .before in
+    let u = j .before in
+    let e = u .before in
+    let d = e .before in
+    let s = d .before .before .before in
+    let t = s .before .before .before in
+    let a = t .before .before in
+    let w = a .loop .inv .walk in
+    let spelt = d .scan-by .ensures .0 in
+    let fits = narrow (a .before .before .before .before) in
+    let new = ⊎-elim (λ y. walk-new w (t .if1 .taken) (here s) spelt (y .1 .ensures) (y .3 .given .1))
+    (λ y. walk-unsuspected w (t .if1 .taken) (here s) spelt (sym (u .suspects .ensures) ∙ y .left)) (j .if3 .came) in
+    let on = walk-past w (t .if1 .taken) (here s) spelt fits (e .if2 .left) new refl (c .past .ensures) in
+    sweeping-more (a .loop .inv) on (swept _ _ (here s) (d .scan-by .ensures) (e .if2 .left))
+
+returns-5 : tie.Need-returns-5 Inv-loop μ-loop
+returns-5 c =
+    let a = c .before .before in
+    let p = a .before .before .before .before .before .before .before .pre in
+    let none : a .loop .cursor .left ≡ 0 = omega arith in
+    sym (segment-passed (sweeping-taken (a .loop .inv) (p .0 .founded .some) (p .0 .founded .short) _ refl) none)
 
 pub over-spec : {M : Type 1} → statement M
 over-spec =
@@ -97,17 +117,25 @@ over-spec =
     (λ c. search needs)
     returns
     (λ c. search needs)
-    add-first
     loop-holds
-    variant-by-requires
+    (λ c κs. search needs)
     (λ c. search needs)
     returns-2
     (λ c. search needs)
-    add-size
+    sub-letters
+    part-letters-start
+    part-letters-end
+    (λ c κs. search needs)
+    (λ c κs. search needs)
+    returns-3
+    (λ c κs. search needs)
     (λ c κs. search needs)
     (λ c. search needs)
+    returns-4
     (λ c. search needs)
+    (λ c κs. search needs)
+    loop-less
     loop-again
     (λ c. search needs)
     (λ c. search needs)
-    returns-3)
+    returns-5)
