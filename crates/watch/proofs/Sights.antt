@@ -37,7 +37,7 @@ use Rattle.watch.specs.Sight.{Vectors, Armed, Readable, Stepped}
 use Rattle.watch.specs.declared.watched.Watched.{Watched}
 use Rattle.watch.proofs.Records.{sound-spells}
 
--- the letter vectors, turned one after another
+-- the letter vectors, complemented one after another
 pub record Turn (P vectors turned : List ℕ) (c : ℕ) : Type 0 where
   pub full : length turned ≡ 256
   pub each : (b : ℕ) → b < c → getD turned b 0 ≡ others (maskOf P (raised b))
@@ -108,7 +108,7 @@ unfolding stretchOf
 open-there s t e n p is = refused-ok n p t (rw is at e)
 
 -- k of the segments of a text are walked over, and none ends; the first end of the text is that of what is left
-pub record Walking (P : List ℕ) (s : List ℕ) (t : Text) (all bits at k : ℕ) : Type 0 where
+pub record Unended (P : List ℕ) (s : List ℕ) (t : Text) (all bits at k : ℕ) : Type 0 where
   pub seen : Text
   pub left : Text
   pub row : Row (λ _. segmentAt s) seen at left (length s)
@@ -117,10 +117,10 @@ pub record Walking (P : List ℕ) (s : List ℕ) (t : Text) (all bits at k : ℕ
   pub state : StateOf P bits
   pub rest : firstEnd (marks P t) ≡ later k (firstEnd (marksFrom P bits left))
 
-pub walking-none : (P vectors s : List ℕ) (t : Text) (all : ℕ) → Vectors P vectors → stretchOf s ≡ ok t → openAt s ≡ ok all
-    → Walking P s t all fresh 2 0
+pub unended-none : (P vectors s : List ℕ) (t : Text) (all : ℕ) → Vectors P vectors → stretchOf s ≡ ok t → openAt s ≡ ok all
+    → Unended P s t all fresh 2 0
 unfolding marks
-walking-none P vectors s t all y e o =
+unended-none P vectors s t all y e o =
     let r = stretch-read s t e in
     let n : all ≡ length t = open-met s all o .count ∙ r .count in
     let more : 2 ^ 1 ≤ 2 ^ length P = pow-mono (y .some) in
@@ -144,7 +144,7 @@ front : (P : List ℕ) (bits state : ℕ) (g : Segment) (T : Text) (end : Bool) 
 unfolding marksFrom firstEnd
 front P bits state g T end e r = rw (e, r) (marked (ends P bits g) (firstEnd (marksFrom P (next P bits g) T)))
 
-module _ (P s : List ℕ) (t : Text) (all bits at k : ℕ) (w : Walking P s t all bits at k) where
+module _ (P s : List ℕ) (t : Text) (all bits at k : ℕ) (w : Unended P s t all bits at k) where
   -- the next segment
   record Ahead (left : Text) : Type 0 where
     segment : Segment
@@ -163,8 +163,8 @@ module _ (P s : List ℕ) (t : Text) (all bits at k : ℕ) (w : Walking P s t al
     here : Ahead (w .left)
     here = ahead (w .left) (w .row) (omega (arith, l, w .count))
 
-    pub walking-readable : Readable s at
-    walking-readable = record { read = record { value = here .segment; next = here .place }; is = here .read }
+    pub unended-readable : Readable s at
+    unended-readable = record { read = record { value = here .segment; next = here .place }; is = here .read }
 
     module _ (behind state : ℕ) (end : Bool) (p : Stepped P bits s at behind state end) where
       same : here .segment ≡ p .segment
@@ -179,16 +179,16 @@ module _ (P s : List ℕ) (t : Text) (all bits at k : ℕ) (w : Walking P s t al
           ∙ front P bits state (here .segment) (here .more) end (p .ended ∙ ap (ends P bits) (sym same)) (p .reached
           ∙ ap (next P bits) (sym same))
 
-      pub walking-ends : end ≡ true → k ≡ firstEnd (marks P t)
+      pub unended-ends : end ≡ true → k ≡ firstEnd (marks P t)
       unfolding later
-      walking-ends hit =
+      unended-ends hit =
           let one : firstEnd (marks P t) ≡ later k 0 = w .rest ∙ ap (later k) (split
           ∙ ap (λ (b : Bool). cond b 0 (later 1 (firstEnd (marksFrom P state (here .more))))) hit) in
           omega (arith, one, l, w .few)
 
-      pub walking-more : 0 < length P → end ≡ false → Walking P s t all state behind (k + 1)
+      pub unended-more : 0 < length P → end ≡ false → Unended P s t all state behind (k + 1)
       unfolding run
-      walking-more some miss =
+      unended-more some miss =
           record {
             seen = w .seen ++ (here .segment ∷ []);
             left = here .more;
@@ -201,9 +201,9 @@ module _ (P s : List ℕ) (t : Text) (all bits at k : ℕ) (w : Walking P s t al
                 ∙ sym (later-add k 1 (firstEnd (marksFrom P state (here .more))));
           }
 
-  pub walking-all : all ≤ k → none ≡ firstEnd (marks P t)
+  pub unended-all : all ≤ k → none ≡ firstEnd (marks P t)
   unfolding marksFrom firstEnd
-  walking-all l = last (w .left) (omega (arith, l, w .count)) (w .rest)
+  unended-all l = last (w .left) (omega (arith, l, w .count)) (w .rest)
     where
       last : (left : Text) → length left ≤ 0 → firstEnd (marks P t) ≡ later k (firstEnd (marksFrom P bits left))
           → none ≡ firstEnd (marks P t)

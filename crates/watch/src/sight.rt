@@ -1,5 +1,5 @@
 // Where a record is first seen in a stretch. The stretch was found sound once for the whole list, so this walk asks nothing of its bytes
-// again. It is the search by bit-vectors with words turned (search/src/bits.rt), up to the first end.
+// again. It is the search by complemented bit-vectors (search/src/bits.rt), from state to state up to the first end.
 use crate::watched::Watched;
 use layout::cursor::Cursor;
 use layout::cursor::Entered;
@@ -7,6 +7,7 @@ use layout::pieces::FIRST_SEGMENT;
 use layout::pieces::Opened;
 use layout::pieces::Part;
 use layout::pieces::open;
+use search::State;
 use search::masks;
 use text::refusal;
 ghost use mathlib.Core.Path.{_≡_};
@@ -20,31 +21,31 @@ ghost use Rattle.watch.specs.Watching.{firstOf};
 ghost use Rattle.watch.specs.Rounds.{Sought, textOf};
 ghost use Rattle.watch.specs.Sight.{Armed, Vectors, ScannedBy, Readable, Stepped};
 
-// The other bits of the word behind a variant, and those that no word has had so far.
+// The complement of the word after a variant, and the bits that no word has had so far.
 struct Scanned {
     out: u64,
     missed: u64,
 }
 
-// The place behind a segment, the state there, and whether an occurrence ends in it.
-struct Behind {
+// The place after a segment, the state there, and whether an occurrence ends in it.
+struct Passed {
     next: usize,
-    state: u64,
+    state: State,
     ends: bool,
 }
 
-// The other bits of the letter vector of what each byte means.
+// The complement of the letter vector of what each byte means.
 fn others(pattern: &[u8]) -> [u64; 256]
     ensures { λ r. ⌜ Others (bases (now (pattern .entry))) r ⌝ }
 {
     let vectors = masks(pattern);
-    let mut turned = [0u64; 256];
+    let mut complements = [0u64; 256];
     let mut c = 0;
     while c < 256 {
-        turned[c] = !vectors[c];
+        complements[c] = !vectors[c];
         c += 1;
     }
-    turned
+    complements
 }
 
 // The word that the letters of a variant lead to.
@@ -64,28 +65,29 @@ fn scan(vectors: &[u64; 256], bits: u64, before: u64, variant: &[u8]) -> Scanned
     Scanned { out, missed }
 }
 
-// The state behind the segment at `at`, a sound one.
-fn over(pattern: &[u8], vectors: &[u64; 256], bits: u64, stretch: &[u8], at: usize) -> Behind
-    requires { ⌜ Armed (now pattern) (now vectors) bits × Readable (now stretch) at ⌝ }
-    ensures { λ r. ⌜ Stepped (now (pattern .entry)) bits (now (stretch .entry)) at (r .next) (r .state) (r .ends) ⌝ }
+// The state after the segment at `at`, a sound one.
+fn over(state: State, pattern: &[u8], vectors: &[u64; 256], stretch: &[u8], at: usize) -> Passed
+    requires { ⌜ Armed (now pattern) (now vectors) (state .bits) × Readable (now stretch) at ⌝ }
+    ensures { λ r. ⌜ Stepped (now (pattern .entry)) (state .bits) (now (stretch .entry)) at (r .next) (r .state .bits) (r .ends) ⌝ }
 {
     let Entered::At(entered) = Cursor::enter(stretch, at) else {
         // A sound segment has its count.
-        return Behind {
+        return Passed {
             next: at,
-            state: bits,
+            state,
             ends: false,
         };
     };
+    let bits = state.bits;
     let mut cursor = entered;
     let mut out = 0xffff_ffff_ffff_fffe;
     let mut missed = 0xffff_ffff_ffff_ffff;
     while 0 < cursor.left {
         let Part::At { start, next } = cursor.head(stretch) else {
             // In a sound segment no variant is cut off.
-            return Behind {
+            return Passed {
                 next: at,
-                state: bits,
+                state,
                 ends: false,
             };
         };
@@ -96,10 +98,12 @@ fn over(pattern: &[u8], vectors: &[u64; 256], bits: u64, stretch: &[u8], at: usi
         cursor = cursor.past(stretch, next, letters.len());
     }
     let high = 0xffff_ffff_ffff_ffff << (pattern.len() - 1);
-    let state = !(out | (high << 1));
-    Behind {
+    let reached = State {
+        bits: !(out | (high << 1)),
+    };
+    Passed {
         next: cursor.at,
-        state,
+        state: reached,
         ends: missed < high,
     }
 }
@@ -122,16 +126,16 @@ fn first_end(pattern: &[u8], vectors: &[u64; 256], stretch: &[u8]) -> usize
     ensures { λ r. ⌜ r ≡ firstEnd (marks (now (pattern .entry)) (textOf (now (stretch .entry)))) ⌝ }
 {
     let all = segments(stretch);
-    let mut bits = 1;
+    let mut state = State::FRESH;
     let mut at = FIRST_SEGMENT;
     let mut k = 0;
     while k < all {
-        let behind = over(pattern, vectors, bits, stretch, at);
-        if behind.ends {
+        let passed = over(state, pattern, vectors, stretch, at);
+        if passed.ends {
             return k;
         }
-        bits = behind.state;
-        at = behind.next;
+        state = passed.state;
+        at = passed.next;
         k += 1;
     }
     refusal::NO_SEGMENT

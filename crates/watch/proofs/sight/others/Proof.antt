@@ -1,4 +1,4 @@
--- `watch::sight::others` meets its contract. The loop's invariant, `Turn`: the vectors of the bytes so far are turned.
+-- `watch::sight::others` meets its contract. The loop's invariant, `Turn`: the vectors of the bytes so far are complemented.
 use Prim.Native.Nat.{_-_}
 use borrow.Author.Needs.{needs}
 use Rattle.search.specs.Masks.{bases}
@@ -7,10 +7,10 @@ use Rattle.watch.proofs.sight.others.Statement.{statement}
 use Rattle.watch.proofs.sight.others.Tie as tie
 
 abbrev Inv-loop : tie.InvT-loop
-Inv-loop pattern vectors turned₀ c₀ turned c = Turn (bases pattern) vectors turned c
+Inv-loop pattern vectors complements₀ c₀ complements c = Turn (bases pattern) vectors complements c
 
 abbrev μ-loop : tie.MeasureT-loop
-μ-loop pattern vectors turned₀ c₀ turned c = 256 - c
+μ-loop pattern vectors complements₀ c₀ complements c = 256 - c
 
 loop-holds : tie.Need-loop-holds Inv-loop μ-loop
 loop-holds c = turn-none _ _

@@ -14,11 +14,11 @@ use Rattle.watch.proofs.sight.over.Statement.{statement}
 use Rattle.watch.proofs.sight.over.Tie as tie
 
 abbrev Inv-loop : tie.InvT-loop
-Inv-loop pattern vectors bits stretch at cursor₀ out₀ missed₀ cursor out missed =
+Inv-loop state pattern vectors stretch at bits cursor₀ out₀ missed₀ cursor out missed =
     Sweeping pattern bits stretch at cursor out missed
 
 abbrev μ-loop : tie.MeasureT-loop
-μ-loop pattern vectors bits stretch at cursor₀ out₀ missed₀ cursor out missed =
+μ-loop state pattern vectors stretch at bits cursor₀ out₀ missed₀ cursor out missed =
     cursor .left
 
 -- the stretch is no longer than a number can say
