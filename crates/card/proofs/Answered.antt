@@ -2,17 +2,15 @@
 use Prim.Native.Nat.{ℕ, _-_, _^_, _<_, _≤_, _+_}
 use native.Mathlib.Omega.{arith}
 use mathlib.Core.Path.{_≡_, ap, _∙_}
-use mathlib.Core.List.{List}
 use mathlib.Core.Bool.{true, false}
 use borrow.Author.Tests.{le-leb, lt-leb, eq-eqb, ne-eqb, ltb-true}
 use lib.Dec.{ltb}
 use Rattle.text.specs.Bits.{bit}
 use Rattle.text.specs.State.{isState}
 use Rattle.text.specs.Compare.{same}
-use Rattle.text.specs.Refusal.{ok, refused, pattern}
-use Rattle.text.specs.Card.{Row, Card, mostSegments, follow, wellFormed, samePattern, emptyCard, empty, joined, join, ask}
+use Rattle.text.specs.Refusal.{ok, refused}
+use Rattle.text.specs.Card.{Row, Card, mostSegments, follow, wellFormed, samePattern, joined, join, ask}
 use Rattle.text.proofs.Truth.{and-right}
-use Rattle.text.proofs.Patterns.{SoundPattern, pattern-refused, sound-pattern}
 use Rattle.text.proofs.Cards.Formed.{WellFormed, well}
 use Rattle.card.proofs.Joins.{exit-small}
 use Rattle.card.proofs.Follows.{follow-short}
@@ -26,16 +24,6 @@ module _ (a b : Card) where
   pub sizes-same : a .m ≡ b .m → same (a .pattern) (b .pattern) ≡ samePattern a b
   unfolding samePattern
   sizes-same e = rw (eq-eqb (a .m) (b .m) e)
-
--- the empty card: 1, 2, 3
-module _ (P : List ℕ) where
-  pub empty-wrong : (n p : ℕ) → pattern P (ok (tt {0})) ≡ refused n p → empty P ≡ refused n p
-  unfolding empty
-  empty-wrong n p e = pattern-refused P n p e (ok (emptyCard P))
-
-  pub empty-sound : SoundPattern P → empty P ≡ ok (emptyCard P)
-  unfolding empty
-  empty-sound s = sound-pattern P s (ok (emptyCard P))
 
 -- a join: 11 of the left, 11 of the right, 12, 13
 module _ (a b : Card) where

@@ -3,19 +3,19 @@ use Prim.Native.Nat.{ℕ}
 use mathlib.Core.Path.{_≡_}
 use mathlib.Core.List.{List}
 use Rattle.text.specs.Refusal.{Outcome}
-use Rattle.text.specs.Card.{Row, empty, join, ask}
+use Rattle.text.specs.Card.{Row, join, ask}
+use Rattle.text.specs.declared.strand.Strand.{Strand}
 use Rattle.card.specs.declared.cards.Card.{Card as Held}
 use Rattle.card.specs.declared.answers.Made.{Made}
 use Rattle.card.specs.Cards.{cardIn}
-use Rattle.rows.specs.Rows.{carding}
-use Rattle.card.specs.Answers.{made}
+use Rattle.card.specs.Answers.{emptyOn, cardingOn, made}
 
 -- `Card::empty`, `Card::of`, `Card::join`, and what is told of `Card::ask`
-abbrev pub emptying : List ℕ → Made
-emptying P = made (empty P)
+abbrev pub emptying : List ℕ → Strand → Made
+emptying P strand = made (emptyOn P strand)
 
-abbrev pub making : List ℕ → List ℕ → Made
-making P s = made (carding P s)
+abbrev pub making : List ℕ → Strand → List ℕ → Made
+making P strand s = made (cardingOn P strand s)
 
 abbrev pub joining : Held → Held → Made
 joining a b = made (join (cardIn a) (cardIn b))

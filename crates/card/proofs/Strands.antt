@@ -1,18 +1,27 @@
--- The card of a strand is the card of the pattern that the strand reads, once 1, 2, 3 of the pattern as given are asked.
+-- The card of a strand, on every input: 1, 2, 3 of the pattern as given, then the card of the pattern that the strand reads.
 use Prim.Native.Nat.{ℕ}
 use mathlib.Core.Path.{_≡_, _∙_}
 use mathlib.Core.List.{List}
-use Rattle.text.specs.Refusal.{ok, refused, pattern}
-use Rattle.text.specs.Card.{emptyCard}
+use Rattle.text.specs.Refusal.{ok, refused, after, pattern}
+use Rattle.text.specs.Card.{emptyCard, cardOf, empty}
 use Rattle.text.specs.Strand.{onStrand}
 use Rattle.text.specs.declared.strand.Strand.{Strand}
 use Rattle.text.proofs.Patterns.{SoundPattern, pattern-refused, sound-pattern}
-use Rattle.text.proofs.Strands.{strand-sound}
+use Rattle.text.proofs.Strands.{strand-asked}
+use Rattle.layout.specs.Reading.{stretchOf}
 use Rattle.rows.specs.Rows.{carding}
+use Rattle.rows.proofs.Carded.{Carded}
 use Rattle.card.specs.Answers.{emptyOn, cardingOn}
-use Rattle.card.proofs.Answered.{empty-sound}
 
 module _ (P : List ℕ) (strand : Strand) where
+  pub empty-strand : emptyOn P strand ≡ pattern P (ok (emptyCard (onStrand strand P)))
+  unfolding emptyOn empty
+  empty-strand = strand-asked strand P _
+
+  pub carding-strand : (s : List ℕ) → cardingOn P strand s ≡ pattern P (after (stretchOf s) λ t. ok (cardOf (onStrand strand P) t))
+  unfolding cardingOn carding
+  carding-strand s = strand-asked strand P _
+
   pub empty-on-wrong : (n p : ℕ) → pattern P (ok (tt {0})) ≡ refused n p → emptyOn P strand ≡ refused n p
   unfolding emptyOn
   empty-on-wrong n p e = pattern-refused P n p e _
@@ -23,9 +32,12 @@ module _ (P : List ℕ) (strand : Strand) where
 
   module _ (y : SoundPattern P) where
     pub empty-on : emptyOn P strand ≡ ok (emptyCard (onStrand strand P))
-    unfolding emptyOn
-    empty-on = sound-pattern P y _ ∙ empty-sound (onStrand strand P) (strand-sound strand P y)
+    empty-on = empty-strand ∙ sound-pattern P y _
 
     pub carding-on : (s : List ℕ) → cardingOn P strand s ≡ carding (onStrand strand P) s
     unfolding cardingOn
     carding-on s = sound-pattern P y _
+
+  -- of a sound pattern and a sound stretch
+  pub carded-on : {s : List ℕ} (c : Carded P s) → cardingOn P strand s ≡ ok (cardOf (onStrand strand P) (c .text))
+  carded-on {s} c = carding-strand s ∙ sound-pattern P (c .sound) _ ∙ rw (c .read)

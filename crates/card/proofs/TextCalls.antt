@@ -13,18 +13,19 @@ use lib.Seq.{take-length}
 use Rattle.text.specs.Text.{Text}
 use Rattle.text.specs.Occurrence.{EndsIn}
 use Rattle.text.specs.State.{isState, fresh, run, marksFrom}
-use Rattle.text.specs.Refusal.{Outcome, ok, refused}
+use Rattle.text.specs.Refusal.{Outcome, ok, refused, after, pattern}
+use Rattle.text.specs.Strand.{onStrand}
 use Rattle.text.specs.Card.{Row, Card, mostSegments, row, firstEnd, ran, cardOf}
 use Rattle.text.proofs.Truth.{and-left, and-right}
 use Rattle.text.proofs.Outcomes.{ok-inj}
-use Rattle.text.specs.declared.strand.Strand.the-variants.{Given}
-use Rattle.text.proofs.Strands.{strand-sound}
-use Rattle.text.proofs.Patterns.{SoundPattern}
+use Rattle.text.specs.declared.refusal.Refusal.{Refusal}
+use Rattle.text.specs.declared.strand.Strand.{Strand}
+use Rattle.text.proofs.Strands.{strand-length, strand-sound}
+use Rattle.text.proofs.Patterns.{SoundPattern, pattern-after}
 use Rattle.text.proofs.Marks.{marks-length, run-append, marks-append}
 use Rattle.text.proofs.TextCards.{IsFirst, row-text, fresh-first, join-text, ask-text}
 use Rattle.layout.specs.Bytes.{greatestStretch, wordBytes}
 use Rattle.layout.specs.Encoding.{encodeSegment, encode, bytesOf, all, writableSegment, writable}
-use Rattle.layout.specs.Pieces.{mostInStretch}
 use Rattle.layout.specs.Reading.{stretchOf}
 use Rattle.layout.proofs.Stands.{Bytes}
 use Rattle.layout.proofs.Stretches.{stretch-most}
@@ -37,9 +38,10 @@ use Rattle.search.proofs.Chains.{steps, feeds-steps, steps-marks, steps-states}
 use Rattle.rows.specs.Held.{rowOf}
 use Rattle.card.specs.Cards.{cardOut}
 use Rattle.rows.specs.Rows.{carding, rowed}
-use Rattle.rows.proofs.Carded.{Carded, carded, carded-text}
+use Rattle.rows.proofs.Carded.{Carded, carded}
 use Rattle.card.specs.Answers.{accepted, made}
 use Rattle.card.proofs.Held.{in-out}
+use Rattle.card.proofs.Strands.{carding-strand, carded-on}
 use Rattle.card.proofs.Calls.{making, joining, asking, Accepts}
 
 -- joining the cards of two texts makes the card of the texts end to end
@@ -52,62 +54,93 @@ pub asking-text : (P : List ℕ) (T : Text) → SoundPattern P → (st : ℕ) �
     → asking (cardOut (cardOf P T)) st ≡ ok (ran P st T)
 asking-text P T s st l e = rw (in-out (cardOf P T)) (ask-text P T s st l e)
 
-module _ (P s : List ℕ) where
-  -- a card is accepted where its rows are
-  alike : (o : Outcome Card) → rowed o .refusal .number ≡ made o .refusal .number
-  alike (ok c) = refl
-  alike (refused n p) = refl
+-- a stretch, of the pattern as a strand reads it
+module _ (P : List ℕ) (strand : Strand) (s : List ℕ) where
+  -- the strand says which card is made, and not whether one is
+  alike : making P strand s .refusal ≡ rowed (carding P s) .refusal
+  unfolding carding
+  alike =
+      ap (λ (o : Outcome Card). made o .refusal) (carding-strand P strand s ∙ pattern-after P _)
+      ∙ each (pattern P (ok (tt {0}))) (stretchOf s)
+      ∙ sym (ap (λ (o : Outcome Card). rowed o .refusal) (pattern-after P _))
+    where
+      each : (a : Outcome (Unit {0})) (o : Outcome Text)
+          → made (after a (λ _. after o (λ t. ok (cardOf (onStrand strand P) t)))) .refusal
+          ≡ rowed (after a (λ _. after o (λ t. ok (cardOf P t)))) .refusal
+      each (ok u) (ok t) = refl
+      each (ok u) (refused n p) = refl
+      each (refused n p) o = refl
 
-  of-carded : Accepts (making P s) → Carded P s
-  of-carded z = carded P s (alike (carding P s) ∙ z)
+  of-carded : Accepts (making P strand s) → Carded P s
+  of-carded z = carded P s (ap (λ (r : Refusal). r .number) (sym alike) ∙ z)
 
-  pub of-accepts : Accepts (making P s) ↔ Carded P s
-  of-accepts = (of-carded, λ c. ap (λ (o : Outcome Card). made o .refusal .number) (carded-text P s c))
+  pub of-accepts : Accepts (making P strand s) ↔ Carded P s
+  of-accepts = (of-carded, λ c. ap (λ (o : Outcome Card). made o .refusal .number) (carded-on P strand c))
 
-  pub of-text : (T : Text) → Accepts (making P s) → stretchOf s ≡ ok T → making P s ≡ accepted (cardOut (cardOf P T))
-  of-text T a e = ap made (carded-text P s (record { sound = of-carded a .sound; text = T; read = e }))
+  -- from here on an accepted one
+  module _ (T : Text) (a : Accepts (making P strand s)) (e : stretchOf s ≡ ok T) where
+    pub of-text : making P strand s ≡ accepted (cardOut (cardOf (onStrand strand P) T))
+    of-text = ap made (carded-on P strand (record { sound = of-carded a .sound; text = T; read = e }))
 
-  -- a text of a stretch is far from the limit of a card
-  few : (T : Text) → stretchOf s ≡ ok T → length T ≤ mostInStretch
-  few T e = stretch-most s T e
+    sound : SoundPattern (onStrand strand P)
+    sound = strand-sound strand P (of-carded a .sound)
 
-  pub asking-of : (T : Text) (st : ℕ) → Accepts (making P s) → stretchOf s ≡ ok T → isState (length P) st ≡ true
-      → asking (making P s .card) st ≡ ok (rowOf (run P st T) (firstEnd (marksFrom P st T)))
-  unfolding ran
-  asking-of T st a e i =
-      let small : length T ≤ mostSegments = omega (arith, few T e) in
-      rw (of-text T a e) (asking-text P T (of-carded a .sound) st small i)
+    pub asking-of : (st : ℕ) → isState (length P) st ≡ true
+        → let Q : List ℕ = onStrand strand P in
+        asking (making P strand s .card) st ≡ ok (rowOf (run Q st T) (firstEnd (marksFrom Q st T)))
+    unfolding ran
+    asking-of st i =
+        let small : length T ≤ mostSegments = omega (arith, stretch-most s T e) in
+        rw of-text (asking-text (onStrand strand P) T sound st small (rw (strand-length strand P) i))
 
 -- two stretches
-module _ (P s t : List ℕ) (T U : Text) (a : Accepts (making P s)) (b : Accepts (making P t))
+module _ (P : List ℕ) (strand : Strand) (s t : List ℕ) (T U : Text) (a : Accepts (making P strand s)) (b : Accepts (making P strand t))
     (e : stretchOf s ≡ ok T) (f : stretchOf t ≡ ok U) where
-  sound : SoundPattern P
-  sound = of-carded P s a .sound
+  Q : List ℕ
+  Q = onStrand strand P
 
-  pub joining-of : joining (making P s .card) (making P t .card) ≡ accepted (cardOut (cardOf P (T ++ U)))
-  joining-of =
-      let small : length T + length U ≤ mostSegments = omega (arith, few P s T e, few P t U f) in
-      rw (of-text P s T a e, of-text P t U b f) (joining-texts P T U sound small)
+  given : SoundPattern P
+  given = of-carded P strand s a .sound
 
-  both : (st : ℕ) → isState (length P) st ≡ true → asking (joining (making P s .card) (making P t .card) .card) st ≡ ok (ran P st (T ++ U))
+  read : SoundPattern Q
+  unfolding Q
+  read = strand-sound strand P given
+
+  few : length T + length U ≤ mostSegments
+  few = omega (arith, stretch-most s T e, stretch-most t U f)
+
+  pub joining-of : joining (making P strand s .card) (making P strand t .card) ≡ accepted (cardOut (cardOf (onStrand strand P) (T ++ U)))
+  unfolding Q
+  joining-of = rw (of-text P strand s T a e, of-text P strand t U b f) (joining-texts Q T U read few)
+
+  -- the card of a stretch whose text is the two texts end to end
+  pub joining-append : (w : List ℕ) → stretchOf w ≡ ok (T ++ U)
+      → joining (making P strand s .card) (making P strand t .card) ≡ making P strand w
+  joining-append w g = joining-of ∙ ap made (sym (carded-on P strand (record { sound = given; text = T ++ U; read = g })))
+
+  both : (st : ℕ) → isState (length P) st ≡ true
+      → asking (joining (making P strand s .card) (making P strand t .card) .card) st ≡ ok (ran Q st (T ++ U))
+  unfolding Q
   both st i =
-      let small : length (T ++ U) ≤ mostSegments = omega (arith, length-append T U, few P s T e, few P t U f) in
-      rw joining-of (asking-text P (T ++ U) sound st small i)
+      let small : length (T ++ U) ≤ mostSegments = omega (arith, length-append T U, few) in
+      rw joining-of (asking-text Q (T ++ U) read st small (rw (strand-length strand P) i))
 
   pub asking-joined : (st : ℕ) → isState (length P) st ≡ true
-      → asking (joining (making P s .card) (making P t .card) .card) st
-      ≡ ok (rowOf (run P (run P st T) U) (firstEnd (marksFrom P st T ++ marksFrom P (run P st T) U)))
-  unfolding ran
+      → let Q : List ℕ = onStrand strand P in
+      asking (joining (making P strand s .card) (making P strand t .card) .card) st
+      ≡ ok (rowOf (run Q (run Q st T) U) (firstEnd (marksFrom Q st T ++ marksFrom Q (run Q st T) U)))
+  unfolding ran Q
   asking-joined st i =
-      both st i ∙ ap₂ (λ (x : ℕ) (l : List ℕ). ok (rowOf x (firstEnd l))) (run-append P st T U) (marks-append P st T U)
+      both st i ∙ ap₂ (λ (x : ℕ) (l : List ℕ). ok (rowOf x (firstEnd l))) (run-append Q st T U) (marks-append Q st T U)
 
   -- from the fresh state: the first segment of the two texts end to end in which an occurrence ends
-  pub asking-fresh : (r : Row) → asking (joining (making P s .card) (making P t .card) .card) fresh ≡ ok r
-      → IsFirst (EndsIn P (T ++ U)) (r .first)
+  pub asking-fresh : (r : Row) → asking (joining (making P strand s .card) (making P strand t .card) .card) fresh ≡ ok r
+      → IsFirst (EndsIn (onStrand strand P) (T ++ U)) (r .first)
+  unfolding Q
   asking-fresh r h =
-      let is : row (cardOf P (T ++ U) .rows) 0 ≡ r =
-      row-text P (T ++ U) (sound .some) (sound .short) 0 (sound .some) ∙ ok-inj (sym (both fresh (fresh-state P (sound .some))) ∙ h) in
-      subst (λ (x : Row). IsFirst (EndsIn P (T ++ U)) (x .first)) is (fresh-first P (T ++ U) (sound .some) (sound .short))
+      let is : row (cardOf Q (T ++ U) .rows) 0 ≡ r =
+      row-text Q (T ++ U) (read .some) (read .short) 0 (read .some) ∙ ok-inj (sym (both fresh (fresh-state P (given .some))) ∙ h) in
+      subst (λ (x : Row). IsFirst (EndsIn Q (T ++ U)) (x .first)) is (fresh-first Q (T ++ U) (read .some) (read .short))
 
 -- the state behind feeds that were answered one after another from the state st
 abbrev pub lastOf : ℕ → List Next → ℕ
@@ -128,21 +161,23 @@ module _ (P : List ℕ) (y : SoundPattern P) (st : ℕ) where
           steps-states P y st (g ∷ T) (length T) inside ∙ ap (run P st) (take-length (g ∷ T))
 
 -- what feeding lone segments one by one from the state st tells of the ask of a card
-pub record Fed (P : List ℕ) (st : ℕ) (ss : List (List ℕ)) (asked : Outcome Row) : Type 0 where
+pub record Fed (P : List ℕ) (strand : Strand) (st : ℕ) (ss : List (List ℕ)) (asked : Outcome Row) : Type 0 where
   pub answers : List Next
-  pub accepts : feeds P Given st ss ≡ ok answers
+  pub accepts : feeds P strand st ss ≡ ok answers
   pub tells : asked ≡ ok (rowOf (lastOf st answers) (firstEnd (map markOf answers)))
 
-pub asking-feeds : (P s : List ℕ) (T : Text) (st : ℕ) (ss : List (List ℕ)) → Accepts (making P s) → stretchOf s ≡ ok T
-    → segmentsText ss ≡ ok T → isState (length P) st ≡ true → Fed P st ss (asking (making P s .card) st)
-asking-feeds P s T st ss a e lone i =
-    let y = strand-sound Given P (of-carded P s a .sound) in
+pub asking-feeds : (P : List ℕ) (strand : Strand) (s : List ℕ) (T : Text) (st : ℕ) (ss : List (List ℕ)) → Accepts (making P strand s)
+    → stretchOf s ≡ ok T → segmentsText ss ≡ ok T → isState (length P) st ≡ true → Fed P strand st ss (asking (making P strand s .card) st)
+asking-feeds P strand s T st ss a e lone i =
+    let given = of-carded P strand s a .sound in
+    let Q : List ℕ = onStrand strand P in
+    let y : SoundPattern Q = strand-sound strand P given in
     record {
-      answers = steps P y st T;
-      accepts = feeds-steps P Given (of-carded P s a .sound) st ss T i lone;
+      answers = steps Q y st T;
+      accepts = feeds-steps P strand given st ss T i lone;
       tells =
-          asking-of P s T st a e i
-          ∙ sym (ap₂ (λ (x : ℕ) (l : List ℕ). ok (rowOf x (firstEnd l))) (steps-last P y st T) (steps-marks P y st T));
+          asking-of P strand s T a e st i
+          ∙ sym (ap₂ (λ (x : ℕ) (l : List ℕ). ok (rowOf x (firstEnd l))) (steps-last Q y st T) (steps-marks Q y st T));
     }
 
 -- the segments of a stretch are such lone segments, each as its bytes

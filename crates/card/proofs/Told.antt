@@ -1,5 +1,4 @@
 -- Answers that are told alike are the same answer, and what they say in numbers is what they tell.
-use Prim.Native.Nat.{ℕ}
 use mathlib.Core.Path.{_≡_, sym, ap, ap₂}
 use Rattle.text.specs.Card.{Row}
 use Rattle.text.specs.Refusal.{Outcome, answer}
