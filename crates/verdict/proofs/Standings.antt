@@ -1,29 +1,27 @@
 -- One more stretch on both strands, from what the search tells and the marks that it leaves.
-use Prim.Native.Nat.{ℕ, suc, _+_, _≤_}
+use Prim.Native.Nat.{ℕ, suc, _≤_}
 use native.Mathlib.Omega.{arith}
 use mathlib.Core.Path.{_≡_, refl, sym, ap, _∙_}
 use mathlib.Core.Bool.{Bool, true, false, _||_, cond}
-use mathlib.Core.List.{List, [], _∷_, _++_}
+use mathlib.Core.List.{List, [], _∷_}
 use borrow.Author.Tests.{leb-true}
 use lib.Dec.{leb}
-use lib.ListN.{length, take, drop}
-use lib.Seq.{take-at}
+use lib.ListN.{length}
 use Rattle.text.specs.Text.{Segment, Text, total}
 use Rattle.text.specs.State.{next, ends, run, marksFrom}
 use Rattle.text.specs.Strand.{opposite}
 use Rattle.text.specs.Refusal.{Outcome, ok, refused, demand, after}
 use Rattle.text.specs.declared.refusal.Refusal.{Refusal}
-use Rattle.text.proofs.Outcomes.{ok-inj, refused-ok, after-met, demand-met, told-met, told-refused}
-use Rattle.layout.specs.Bytes.{over}
-use Rattle.layout.specs.Reading.{stretchOf}
+use Rattle.text.proofs.Outcomes.{ok-inj, after-met, demand-met, told-met, told-refused}
 use Rattle.layout.specs.Bytes.{leftBy}
-use Rattle.search.specs.Answers.{into, stretchInto, MarksOf}
+use Rattle.layout.specs.Reading.{stretchOf}
+use Rattle.search.specs.Answers.{into, stretchInto}
 use Rattle.search.specs.Either.{united, eitherFrom, enteringBoth, seekingBoth, SeenBoth, seenBoth, toldBoth}
 use Rattle.search.specs.declared.both.words.Pair.{Pair}
 use Rattle.search.specs.declared.both.SoughtBoth.{SoughtBoth}
 use Rattle.search.specs.declared.both.SoughtBoth.the-variants.{Marked, Refused}
 use Rattle.search.proofs.Entries.{Entered}
-use Rattle.search.proofs.Eithers.{united-marks, from-length, both-after, both-entered}
+use Rattle.search.proofs.Eithers.{united-marks, both-after, both-entered}
 use Rattle.lines.specs.Answer.{markedFrom}
 use Rattle.verdict.specs.Standing.{plus, passing, bothMarks, stood, Behind, behind, toldPassed}
 use Rattle.verdict.specs.declared.standing.Standing.{Standing}
@@ -74,10 +72,10 @@ counted P Q st re j (g ∷ T) =
     (counted P Q (next P st g) (next Q re g) (suc j) T))
 
 module _ (P : List ℕ) (x : Standing) (s : List ℕ) (room : ℕ) where
-  -- what `pass` tells, and the marks that it leaves
-  abbrev pub Passes : Outcome Behind → List ℕ → Type 0
-  Passes told out =
-      (told ≡ after (passing P x s room) (λ t. ok (behind P x t))) × MarksOf (bothMarks P x) (passing P x s room) out
+  -- what `pass` tells, and what it leaves of the buffer d
+  abbrev pub Passes : Outcome Behind → List ℕ → List ℕ → Type 0
+  Passes told d out =
+      (told ≡ after (passing P x s room) (λ t. ok (behind P x t))) × (out ≡ leftBy (bothMarks P x) (passing P x s room) d)
 
   -- what the search answers
   abbrev sought : Outcome Text
@@ -86,12 +84,12 @@ module _ (P : List ℕ) (x : Standing) (s : List ℕ) (room : ℕ) where
   module _ (d left : List ℕ) (r : SoughtBoth)
       (told : toldBoth r ≡ after sought (λ t. ok (seenBoth P (x .given .bits) (x .opposite .bits) t)))
       (wrote : left ≡ leftBy (eitherFrom P (x .given .bits) (x .opposite .bits)) sought d) where
-    pub passes-not : (w : Refusal) → r ≡ Refused w → Passes (refused (w .number) (w .place)) left
-    unfolding passing
+    pub passes-not : (w : Refusal) → r ≡ Refused w → Passes (refused (w .number) (w .place)) d left
+    unfolding passing bothMarks
     passes-not w e =
         let none = told-refused sought (seenBoth P (x .given .bits) (x .opposite .bits)) (w .number) (w .place)
         (sym told ∙ ap toldBoth e) in
-        (rw none refl, λ t f. absurd (refused-ok (w .number) (w .place) t (sym none ∙ f)))
+        (rw none refl, wrote)
 
     pub passes-to : (n z m : ℕ) (y : Pair) → r ≡ Marked n z m y → (all more : ℕ) → all ≡ plus (x .segments) n → more ≡ plus (x .ends) m
         → Passes
@@ -99,8 +97,8 @@ module _ (P : List ℕ) (x : Standing) (s : List ℕ) (room : ℕ) where
           segments = n;
           standing =
               record { given = record { bits = y .given }; opposite = record { bits = y .opposite }; segments = all; ends = more };
-        })) left
-    unfolding passing stood bothMarks eitherFrom seenBoth over
+        })) d left
+    unfolding passing stood bothMarks eitherFrom seenBoth
     passes-to n z m y e all more a b =
         let st : ℕ = x .given .bits in
         let re : ℕ = x .opposite .bits in
@@ -130,10 +128,4 @@ module _ (P : List ℕ) (x : Standing) (s : List ℕ) (room : ℕ) where
                 ends = (b ∙ sum) i;
               };
         } in
-        let there : left ≡ marks ++ drop (0 + length marks) d =
-        wrote ∙ ap (λ (o : Outcome Text). leftBy (eitherFrom P st re) o d) (f .1) in
-        let front : take (length t) left ≡ marks =
-        ap (take (length t)) there ∙ take-at marks (drop (0 + length marks) d) (length t) (from-length P st re t) in (
-          ap ok is ∙ sym (ap (λ (o : Outcome Text). after o (λ u. ok (behind P x u))) (f .1)),
-          λ u h. let same : t ≡ u = ok-inj (sym (f .1) ∙ h) in rw (← same) front,
-        )
+        (ap ok is ∙ sym (ap (λ (o : Outcome Text). after o (λ u. ok (behind P x u))) (f .1)), wrote)

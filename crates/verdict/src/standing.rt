@@ -7,7 +7,7 @@ use text::Refusal;
 ghost use mathlib.Core.Path.{_≡_};
 ghost use lib.ListN.{length};
 ghost use Rattle.text.specs.Refusal.{ok, after};
-ghost use Rattle.search.specs.Answers.{MarksOf};
+ghost use Rattle.layout.specs.Bytes.{leftBy};
 ghost use Rattle.verdict.specs.Standing.{passing, behind, bothMarks, toldPassed};
 
 // What the strand as given and the opposite one carry, the number of segments, and the number of those in which the sequence ends on
@@ -36,12 +36,12 @@ pub enum Passed {
 }
 
 // Searches one more stretch on both strands at once, each from where it stands, and marks the segments in which the sequence ends on
-// either. A refusal is that of the search; the marks are then of no meaning.
+// either. A refusal is that of the search, and leaves the marks as they were.
 pub fn pass(pattern: &[u8], standing: Standing, stretch: &[u8], marks: &mut [u8]) -> Passed
     ensures { λ r. ⌜ toldPassed r ≡ after (passing (now (pattern .entry)) standing (now (stretch .entry)) (length (now (marks .entry))))
         (λ t. ok (behind (now (pattern .entry)) standing t)) ⌝ }
-    ensures { λ r. ⌜ MarksOf (bothMarks (now (pattern .entry)) standing)
-        (passing (now (pattern .entry)) standing (now (stretch .entry)) (length (now (marks .entry)))) (now (marks .exit)) ⌝ }
+    ensures { λ r. ⌜ now (marks .exit) ≡ leftBy (bothMarks (now (pattern .entry)) standing)
+        (passing (now (pattern .entry)) standing (now (stretch .entry)) (length (now (marks .entry)))) (now (marks .entry)) ⌝ }
 {
     let own = standing.given;
     let turned = standing.opposite;
