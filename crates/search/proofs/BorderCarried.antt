@@ -9,14 +9,14 @@ use mathlib.Core.List.{List, _++_, append-cancel-left}
 use lib.ListN.{length, take, drop, length-append, length-drop}
 use lib.Seq.{take-add, length-take-le}
 use Rattle.text.specs.Letter.{meant}
-use Rattle.text.specs.Compare.{same, prefix, alike}
+use Rattle.text.specs.Compare.{prefix}
 use Rattle.text.specs.Occurrence.{Prefix}
 use Rattle.text.proofs.Strings.{same-eq, eq-same, prefix-is, is-prefix}
 use Rattle.text.proofs.Likes.{meant-length}
 use Rattle.text.proofs.Steps.{split-length}
 use Rattle.search.specs.Border.{Sized}
 use Rattle.search.specs.BorderStep.{Holds, CarriesOne}
-use Rattle.search.proofs.BorderLetters.{alike-rest, alike-part}
+use Rattle.search.proofs.BorderLetters.{rest-meant}
 use Rattle.search.proofs.BorderHolds.{lone, holds-none, holds-lone, holds-map}
 
 module _ (P v : List ℕ) (q : ℕ) (near : q < length P) where
@@ -41,7 +41,7 @@ module _ (P v : List ℕ) (q : ℕ) (near : q < length P) where
   }
 
   -- v has fewer: it may lead on, to q + |v|
-  module _ {fits : Bool} (short : length v < length P - q) (e : fits ≡ same v (take (length v) (drop q P))) where
+  module _ {fits : Bool} (short : length v < length P - q) (e : fits ≡ prefix v (drop q P)) where
     no-end : (false ≡ true) ↔ Prefix (drop q P) v
     no-end = (
       λ e. absurd (false≢true e),
@@ -49,6 +49,7 @@ module _ (P v : List ℕ) (q : ℕ) (near : q < length P) where
     )
 
     led-on : Sized P → fits ≡ true → CarriesOne P q v (1 * 2 ^ (q + length v) % 2 ^ 64) false
+    unfolding prefix
     led-on sized t =
         let end = q + length v in
         let within : end < length P = omega arith in
@@ -66,6 +67,7 @@ module _ (P v : List ℕ) (q : ℕ) (near : q < length P) where
         only r l = (λ (f : q + length v ≡ r). rw f at led, led-far r l)
 
     led-not : fits ≡ false → CarriesOne P q v 0 false
+    unfolding prefix
     led-not t = record {
       lengths = unled (λ r l s. false≢true (sym t ∙ e ∙ eq-same v (take (length v) (drop q P)) (led-spelt r l s)));
       end = no-end;
@@ -73,21 +75,20 @@ module _ (P v : List ℕ) (q : ℕ) (near : q < length P) where
 
 -- the same of a variant with the bytes w, compared by what they mean
 module _ (P w : List ℕ) (q : ℕ) (near : q < length P) (sized : Sized P) where
-  pub carries-end : {ends : Bool} → length P - q ≤ length w → ends ≡ alike (take (length P - q) (drop q P)) (take (length P - q) w)
+  pub carries-end : {ends : Bool} → length P - q ≤ length w → ends ≡ prefix (meant (take (length P - q) (drop q P))) (meant w)
       → CarriesOne P q (meant w) 0 ends
-  carries-end long e = ended P (meant w) q near (rw (meant-length w) long) (e ∙ alike-rest P w q (sized .bases))
+  carries-end long e =
+      ended P (meant w) q near (rw (meant-length w) long) (e ∙ ap (λ (p : List ℕ). prefix p (meant w)) (rest-meant P (sized .bases) q))
 
-  module _ {fits : Bool} (short : length w < length P - q) (e : fits ≡ alike w (take (q + length w - q) (drop q P))) where
+  module _ {fits : Bool} (short : length w < length P - q) (e : fits ≡ prefix (meant w) (meant (take (length P - q) (drop q P)))) where
     fewer : length (meant w) < length P - q
     fewer = rw (meant-length w) short
 
-    spelt : fits ≡ same (meant w) (take (length (meant w)) (drop q P))
-    spelt =
-        let n : q + length w - q ≡ length (meant w) = omega (arith, meant-length w) in
-        e ∙ alike-part P w q (sized .bases) (q + length w - q) ∙ ap (λ (k : ℕ). same (meant w) (take k (drop q P))) n
+    begins : fits ≡ prefix (meant w) (drop q P)
+    begins = e ∙ ap (prefix (meant w)) (rest-meant P (sized .bases) q)
 
     pub carries-on : fits ≡ true → CarriesOne P q (meant w) (1 * 2 ^ (q + length w) % 2 ^ 64) false
-    carries-on t = rw (meant-length w) at (led-on P (meant w) q near fewer spelt sized t)
+    carries-on t = rw (meant-length w) at (led-on P (meant w) q near fewer begins sized t)
 
     pub carries-not : fits ≡ false → CarriesOne P q (meant w) 0 false
-    carries-not t = led-not P (meant w) q near fewer spelt t
+    carries-not t = led-not P (meant w) q near fewer begins t

@@ -1,19 +1,17 @@
--- The letters of a variant as the search by borders looks at them: a letter is raised where one bit of it is cleared, and bases are
--- compared by what they mean.
+-- The letters of a variant as the search by borders looks at them: a letter is raised where one bit of it is cleared, and the bases of
+-- a pattern, which mean themselves, are compared by what they mean.
 use Prim.Native.Nat.{ℕ, zero, suc, _-_, _≤_, _<_}
 use native.Mathlib.Omega.{arith}
-use mathlib.Core.Path.{_≡_, refl, sym, ap, ap₂, _∙_}
-use mathlib.Core.Bool.{Bool, true, false}
+use mathlib.Core.Path.{_≡_, sym, ap, _∙_}
+use mathlib.Core.Bool.{Bool, true}
 use mathlib.Core.List.{List, [], _∷_}
 use lib.Bits.{bitAnd}
-use lib.ListN.{length, getD, take, drop, length-drop}
-use Rattle.text.specs.Letter.{base, raised, capital, letter, meant, every}
-use Rattle.text.specs.Compare.{same, prefix, alike}
+use lib.ListN.{length, getD, take, drop}
+use Rattle.text.specs.Letter.{base, letter, meant, every}
 use Rattle.text.proofs.Truth.{and-left, and-right}
-use Rattle.text.proofs.Likes.{meant-length, meant-at}
+use Rattle.text.proofs.Likes.{meant-length, meant-at, take-meant, drop-meant}
 use Rattle.text.proofs.Meanings.{bases-meant, cleared}
 use Rattle.text.proofs.Strings.{part-end}
-use Rattle.layout.proofs.Raised.{part-meant}
 use Rattle.search.specs.Border.{Next}
 
 every-at : (f : ℕ → Bool) (s : List ℕ) (i : ℕ) → every f s ≡ true → i < length s → f (getD s i 0) ≡ true
@@ -38,19 +36,10 @@ module _ (v : List ℕ) (i : ℕ) (l : i < length v) where
 pub spelt-read : (v : List ℕ) (i : ℕ) → length v ≤ i → length (meant v) ≤ i
 spelt-read v i l = rw (meant-length v) l
 
--- the bases from q on mean themselves
-module _ (P v : List ℕ) (q : ℕ) (own : every base P ≡ true) where
-  bases-part : (n : ℕ) → meant (take n (drop q P)) ≡ take n (drop q P)
-  bases-part n = part-meant P q n ∙ ap (λ (l : List ℕ). take n (drop q l)) (bases-meant P own)
+-- the first bases of a pattern, and those from q on, mean themselves
+module _ (P : List ℕ) (own : every base P ≡ true) where
+  pub front-meant : (k : ℕ) → meant (take k P) ≡ take k P
+  front-meant k = sym (take-meant k P) ∙ ap (take k) (bases-meant P own)
 
-  -- all of them, and the letters in front of v
-  pub alike-rest : alike (take (length P - q) (drop q P)) (take (length P - q) v) ≡ prefix (drop q P) (meant v)
-  unfolding alike prefix
-  alike-rest =
-      ap₂ same (bases-part (length P - q) ∙ part-end P q)
-      (part-meant v 0 (length P - q) ∙ ap (λ (n : ℕ). take n (meant v)) (sym (length-drop q P)))
-
-  -- n of them, and all of v
-  pub alike-part : (n : ℕ) → alike v (take n (drop q P)) ≡ same (meant v) (take n (drop q P))
-  unfolding alike
-  alike-part n = ap (same (meant v)) (bases-part n)
+  pub rest-meant : (q : ℕ) → meant (take (length P - q) (drop q P)) ≡ drop q P
+  rest-meant q = ap meant (part-end P q) ∙ sym (drop-meant q P) ∙ ap (drop q) (bases-meant P own)

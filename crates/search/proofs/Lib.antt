@@ -20,6 +20,7 @@ pub mod BorderFalls
 pub mod BorderLetters
 pub mod BorderTables
 pub mod BorderScans
+pub mod BorderEnds
 pub mod BorderHolds
 pub mod BorderChains
 pub mod BorderCarried

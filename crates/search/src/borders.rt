@@ -1,6 +1,7 @@
-// One variant's step by border tables (Grossi et al., CPM 2017, section 4): a scan after Knuth, Morris and Pratt for what begins
-// in the variant, and one comparison for each carried length. The cost is linear in the variant's letters, with at most m more
-// for the chain of borders at its end and for each carried length.
+// One variant's step by border tables (Grossi et al., CPM 2017, section 4): a scan after Knuth, Morris and Pratt for what begins in the
+// variant, or suffix tests of it where it is shorter than the pattern, and one prefix test for each carried length. The scan is linear in
+// the variant's letters; suffix tests compare at most half of a variant for each of its letters, and few as a rule. The chain of borders
+// at its end and each carried length cost at most m more.
 use crate::borders::begun::begun;
 use crate::borders::carried::carried;
 ghost use mathlib.Core.Path.{_≡_};

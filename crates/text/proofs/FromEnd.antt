@@ -1,10 +1,10 @@
 -- Two strings compared from the end: what is the same from a place on, and bytes taken two, four and eight at a time.
-use Prim.Native.Nat.{ℕ, zero, suc, _+_, _-_, _*_, _/_, _%_, _<_, _≤_}
+use Prim.Native.Nat.{ℕ, suc, _+_, _-_, _*_, _/_, _%_, _<_, _≤_}
 use native.Mathlib.Numerals.{add-one}
 use native.Mathlib.Omega.{arith}
-use mathlib.Core.Path.{_≡_, refl, sym, ap, ap₂, subst, _∙_}
+use mathlib.Core.Path.{_≡_, sym, ap, ap₂, subst, _∙_}
 use mathlib.Core.Bool.{Bool, true, false, not}
-use mathlib.Core.List.{List, [], _∷_, map}
+use mathlib.Core.List.{List, _∷_}
 use borrow.Author.Tests.{eqb-true, eqb-false, not-true, not-false}
 use lib.Arith.{digits-div, digits-mod}
 use lib.Dec.{eqb}
@@ -15,7 +15,7 @@ use Rattle.text.specs.Compare.{same, alike}
 use Rattle.text.specs.FromEnd.{two, four, eight, SameFrom}
 use Rattle.text.proofs.Truth.{not-true-false}
 use Rattle.text.proofs.Strings.{same-eq, eq-same}
-use Rattle.text.proofs.Likes.{meant-length, meant-at}
+use Rattle.text.proofs.Likes.{meant-length, meant-at, drop-meant}
 
 -- a list of bytes
 abbrev pub Bytes : List ℕ → Type 0
@@ -99,11 +99,6 @@ module _ (s t : List ℕ) where
                   subst (λ (n : ℕ). drop n s ≡ drop n t) far
                   (sym (drop-drop (8 - i) i s) ∙ ap (drop (8 - i)) (a .behind) ∙ drop-drop (8 - i) i t);
             }
-
-drop-meant : (n : ℕ) (s : List ℕ) → drop n (meant s) ≡ meant (drop n s)
-drop-meant zero s = refl
-drop-meant (suc n) [] = refl
-drop-meant (suc n) (c ∷ s) = drop-meant n s
 
 -- the same bytes mean the same letters
 module _ (s t : List ℕ) where

@@ -1,8 +1,8 @@
--- Strings that mean the same letters, compared letter by letter.
-use Prim.Native.Nat.{ℕ, _+_, _≤_, _<_}
+-- Strings that mean the same letters, compared letter by letter; a beginning and an end, by what they mean.
+use Prim.Native.Nat.{ℕ, zero, suc, _+_, _-_, _≤_, _<_}
 use mathlib.Core.Path.{_≡_, refl, sym, ap, _∙_}
 use mathlib.Core.Bool.{Bool, true, false, not, cond}
-use mathlib.Core.List.{List, map}
+use mathlib.Core.List.{List, [], _∷_}
 use borrow.Author.Tests.{eqb-true, eqb-false, not-true, not-false, eq-eqb, ne-eqb}
 use lib.Bits.{bitOr}
 use mathlib.Core.Bool.{_||_, Bool·beq, true≢false}
@@ -11,10 +11,11 @@ use Rattle.text.proofs.Tests.{beq-test}
 use Rattle.text.specs.Letter.{letter, capital, base}
 use Rattle.text.specs.Bits.{anyBelow}
 use lib.Dec.{eqb}
-use lib.ListN.{length, getD, length-map, List·getD-map}
+use lib.ListN.{length, getD, take, drop, length-map, List·getD-map}
 use Rattle.text.specs.Letter.{raised, meant}
-use Rattle.text.specs.Compare.{same, alike}
+use Rattle.text.specs.Compare.{same, prefix, suffix, alike}
 use Rattle.text.proofs.Strings.{same-lengths, Alike, alike-none, alike-more, alike-stop, alike-all}
+use Rattle.text.proofs.Strings.{prefix-short, suffix-short, part-end}
 
 -- what is spelt has as many letters, and each is what its byte means
 pub meant-length : (s : List ℕ) → length (meant s) ≡ length s
@@ -23,6 +24,17 @@ meant-length s = length-map s raised
 pub meant-at : (s : List ℕ) (i : ℕ) → getD (meant s) i 0 ≡ raised (getD s i 0)
 unfolding raised
 meant-at s i = List·getD-map raised s i 0
+
+-- a part of what is spelt is what the part spells
+pub take-meant : (n : ℕ) (s : List ℕ) → take n (meant s) ≡ meant (take n s)
+take-meant zero s = refl
+take-meant (suc n) [] = refl
+take-meant (suc n) (c ∷ s) = ap (λ (l : List ℕ). raised c ∷ l) (take-meant n s)
+
+pub drop-meant : (n : ℕ) (s : List ℕ) → drop n (meant s) ≡ meant (drop n s)
+drop-meant zero s = refl
+drop-meant (suc n) [] = refl
+drop-meant (suc n) (c ∷ s) = drop-meant n s
 
 -- two letters that do not differ, and two that do
 pub differ-same : (a b : ℕ) → a ≡ b → false ≡ not (eqb (raised a) (raised b))
@@ -95,3 +107,21 @@ module _ (s t : List ℕ) where
     pub like-all : length s ≤ i → alike s t ≡ true
     unfolding alike
     like-all l = alike-all (meant s) (meant t) i a (rw (meant-length s) l)
+
+-- a beginning and an end: a string has none that is longer, and as many of its letters as p has mean those of p
+module _ (p s : List ℕ) where
+  pub like-prefix-short : length s < length p → prefix (meant p) (meant s) ≡ false
+  like-prefix-short l = prefix-short (meant p) (meant s) (rw (meant-length s, meant-length p) l)
+
+  pub like-prefix : alike p (take (length p) s) ≡ prefix (meant p) (meant s)
+  unfolding alike prefix
+  like-prefix = ap (same (meant p)) (rw (meant-length p) (sym (take-meant (length p) s)))
+
+  pub like-suffix-short : length s < length p → suffix (meant p) (meant s) ≡ false
+  like-suffix-short l = suffix-short (meant p) (meant s) (rw (meant-length s, meant-length p) l)
+
+  pub like-suffix : alike p (take (length s - (length s - length p)) (drop (length s - length p) s)) ≡ suffix (meant p) (meant s)
+  unfolding alike suffix
+  like-suffix =
+      let start = length s - length p in
+      ap (same (meant p)) (ap meant (part-end s start) ∙ rw (meant-length s, meant-length p) (sym (drop-meant start s)))

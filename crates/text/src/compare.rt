@@ -1,10 +1,10 @@
-// Tests on strings: the same bytes, a beginning, an end; and the same letters by what they mean. Parts are passed as they stand, without
-// copying.
+// Tests on strings: by bytes, the same and a beginning; by what the bytes mean, the same letters, a beginning and an end. Parts are passed
+// as they stand, without copying.
 use crate::letter::is_letter;
 ghost use mathlib.Core.Path.{_≡_};
 ghost use mathlib.Core.Bool.{not};
 ghost use lib.Dec.{eqb};
-ghost use Rattle.text.specs.Letter.{raised};
+ghost use Rattle.text.specs.Letter.{raised, meant};
 ghost use Rattle.text.specs.Compare.{same, prefix, suffix, alike};
 
 // Whether a and b are the same bytes: the lengths first, then byte by byte.
@@ -33,17 +33,6 @@ pub fn prefix(p: &[u8], s: &[u8]) -> bool
     }
     let end = p.len();
     same(p, &s[..end])
-}
-
-// Whether s ends with p.
-pub fn suffix(p: &[u8], s: &[u8]) -> bool
-    ensures { λ r. ⌜ r ≡ suffix (now (p .entry)) (now (s .entry)) ⌝ }
-{
-    if s.len() < p.len() {
-        return false;
-    }
-    let start = s.len() - p.len();
-    same(p, &s[start..])
 }
 
 // Whether two bytes mean something else. Equal bytes need no second look, nor do bytes that differ by more than the bit of a letter's
@@ -75,4 +64,26 @@ pub fn alike(a: &[u8], b: &[u8]) -> bool
         k += 1;
     }
     true
+}
+
+// Whether s begins with letters that mean those of p.
+pub fn alike_prefix(p: &[u8], s: &[u8]) -> bool
+    ensures { λ r. ⌜ r ≡ prefix (meant (now (p .entry))) (meant (now (s .entry))) ⌝ }
+{
+    let n = p.len();
+    if s.len() < n {
+        return false;
+    }
+    alike(p, &s[..n])
+}
+
+// Whether s ends with letters that mean those of p.
+pub fn alike_suffix(p: &[u8], s: &[u8]) -> bool
+    ensures { λ r. ⌜ r ≡ suffix (meant (now (p .entry))) (meant (now (s .entry))) ⌝ }
+{
+    if s.len() < p.len() {
+        return false;
+    }
+    let start = s.len() - p.len();
+    alike(p, &s[start..])
 }

@@ -1,13 +1,14 @@
 // What a variant makes of carried lengths: where it leads them, and whether it has the bases that remain.
 use crate::borders::Stepped;
-use text::compare::alike;
+use text::compare::alike_prefix;
 ghost use Prim.Native.Nat.{_<_, _^_};
 ghost use lib.ListN.{length};
 ghost use Rattle.text.specs.Letter.{meant};
 ghost use Rattle.search.specs.Border.{Sized};
 ghost use Rattle.search.specs.BorderStep.{CarriesOne, CarriesAll};
 
-// One carried length q. A variant shorter than the remaining bases may lead on, one that is not may end an occurrence.
+// One carried length q. A variant that has the remaining bases as a prefix ends an occurrence; one that is a prefix of them, and not
+// all of them, leads on.
 fn carried_one(pattern: &[u8], q: usize, variant: &[u8]) -> Stepped
     requires { ⌜ Sized (now pattern) ⌝ }
     requires { ⌜ q < length (now pattern) ⌝ }
@@ -19,12 +20,11 @@ fn carried_one(pattern: &[u8], q: usize, variant: &[u8]) -> Stepped
     if rest <= n {
         return Stepped {
             bits: 0,
-            ends: alike(&pattern[q..], &variant[..rest]),
+            ends: alike_prefix(&pattern[q..], variant),
         };
     }
-    let end = q + n;
-    if alike(variant, &pattern[q..end]) {
-        let bits = 1 << end;
+    if alike_prefix(variant, &pattern[q..]) {
+        let bits = 1 << (q + n);
         Stepped { bits, ends: false }
     } else {
         Stepped {

@@ -17,7 +17,7 @@ shl-bits : tie.Need-shl-bits Inv-loop μ-loop
 shl-bits c = omega arith
 
 loop-holds : tie.Need-loop-holds Inv-loop μ-loop
-loop-holds c = chain-none (c .before .before .before .pre .0) (c .scan .ensures)
+loop-holds c = chain-none (c .before .before .before .pre .0) (c .looked-through .ensures)
 
 mul-k : tie.Need-mul-k Inv-loop μ-loop
 mul-k c = omega arith
@@ -40,7 +40,7 @@ loop-again c =
     chain-more (start .pre .1 .0) (d .loop .inv) (c .before .loop-test .taken) (start .pre .0)
 
 returns : tie.Need-returns Inv-loop μ-loop
-returns c = chain-all (c .before .before .scan .ensures) (c .before .loop .inv) (c .loop-test .left)
+returns c = chain-all (c .before .before .looked-through .ensures) (c .before .loop .inv) (c .loop-test .left)
 
 pub begun-spec : {M : Type 1} → statement M
 begun-spec =
