@@ -1,13 +1,18 @@
 -- The card of a strand, on every input: 1, 2, 3 of the pattern as given, then the card of the pattern that the strand reads.
 use Prim.Native.Nat.{ℕ}
 use mathlib.Core.Path.{_≡_, _∙_}
+use mathlib.Core.Bool.{false}
 use mathlib.Core.List.{List}
+use lib.Dec.{leb}
+use lib.ListN.{length}
 use Rattle.text.specs.Refusal.{ok, refused, after, pattern}
 use Rattle.text.specs.Card.{emptyCard, cardOf, empty}
 use Rattle.text.specs.Strand.{onStrand}
 use Rattle.text.specs.declared.strand.Strand.{Strand}
 use Rattle.text.proofs.Patterns.{SoundPattern, pattern-refused, sound-pattern}
 use Rattle.text.proofs.Strands.{strand-asked}
+use Rattle.layout.specs.Bytes.{greatestStretch}
+use Rattle.layout.specs.Pieces.{openAt}
 use Rattle.layout.specs.Reading.{stretchOf}
 use Rattle.rows.specs.Rows.{carding}
 use Rattle.rows.proofs.Carded.{Carded}
@@ -37,6 +42,11 @@ module _ (P : List ℕ) (strand : Strand) where
     pub carding-on : (s : List ℕ) → cardingOn P strand s ≡ carding (onStrand strand P) s
     unfolding cardingOn
     carding-on s = sound-pattern P y _
+
+    -- the length is asked first of a stretch
+    pub carding-long : (s : List ℕ) → leb (length s) greatestStretch ≡ false → cardingOn P strand s ≡ refused 4 0
+    unfolding stretchOf openAt
+    carding-long s long = carding-strand s ∙ sound-pattern P y _ ∙ rw long
 
   -- of a sound pattern and a sound stretch
   pub carded-on : {s : List ℕ} (c : Carded P s) → cardingOn P strand s ≡ ok (cardOf (onStrand strand P) (c .text))

@@ -2,7 +2,7 @@
 use Prim.Native.Nat.{ℕ}
 use mathlib.Core.List.{List}
 use lib.ListN.{replicate}
-use Rattle.text.specs.Refusal.{Outcome, ok, refused, pattern, Answer}
+use Rattle.text.specs.Refusal.{Outcome, ok, refused, greatestPattern, pattern, Answer}
 use Rattle.text.specs.Card.{Row, Card, empty}
 use Rattle.text.specs.Strand.{onStrand}
 use Rattle.text.specs.declared.strand.Strand.{Strand}
@@ -23,7 +23,8 @@ cardingOn P strand s = pattern P (carding (onStrand strand P) s)
 -- the card of all zeros
 unfoldable pub zeroCard : Held
 zeroCard =
-    record { pattern = replicate 64 0; m = 0; segments = 0; exits = replicate 64 0; firsts = replicate 64 0 }
+    let zeros : List ℕ = replicate greatestPattern 0 in
+    record { pattern = zeros; m = 0; segments = 0; exits = zeros; firsts = zeros }
 
 abbrev pub accepted : Held → Made
 accepted c = record { refusal = record { number = 0; place = 0 }; card = c }

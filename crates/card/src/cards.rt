@@ -18,6 +18,9 @@ use text::state::is_state;
 use text::strand::Strand;
 use text::strand::read_on;
 ghost use mathlib.Core.Path.{_≡_};
+ghost use lib.Dec.{leb};
+ghost use lib.ListN.{length};
+ghost use Rattle.layout.specs.Bytes.{greatestStretch};
 ghost use Rattle.text.specs.Refusal.{answer};
 ghost use Rattle.text.specs.Card.{join, ask};
 ghost use Rattle.card.specs.Cards.{cardIn};
@@ -25,11 +28,18 @@ ghost use Rattle.card.specs.Answers.{emptyOn, cardingOn, made, toldAsked
 
 // What comes of each carried length: row q says what comes of a lone q carried in, row 0 of nothing carried in.
 pub struct Card {
-    pub pattern: [u8; refusal::GREATEST_PATTERN],
+    pub pattern: [u8; Card::GREATEST_PATTERN],
     pub m: u8,
     pub segments: u32,
-    pub exits: [u64; refusal::GREATEST_PATTERN],
-    pub firsts: [u32; refusal::GREATEST_PATTERN],
+    pub exits: [u64; Card::GREATEST_PATTERN],
+    pub firsts: [u32; Card::GREATEST_PATTERN],
+}
+
+// Whether a stretch is no longer than a stretch may be: asked before any room is made for its rows.
+fn is_short(stretch: &[u8]) -> bool
+    ensures { λ r. ⌜ r ≡ leb (length (now (stretch .entry))) greatestStretch ⌝ }
+{
+    stretch.len() <= Card::GREATEST_STRETCH
 }
 
 impl Card {
@@ -69,6 +79,9 @@ impl Card {
         match check(pattern) {
             PatternIs::Refused(wrong) => refused(wrong.number, wrong.place),
             PatternIs::Sound => {
+                if !is_short(stretch) {
+                    return refused(refusal::STRETCH_LONG, 0);
+                }
                 let m = pattern.len();
                 let bytes = read_on(strand, pattern);
                 let rows = over(&bytes[..m], stretch);

@@ -2,6 +2,7 @@
 use crate::cards::Card;
 use rows::earlier;
 ghost use mathlib.Core.Path.{_≡_};
+ghost use Rattle.text.specs.Refusal.{greatestPattern};
 ghost use Rattle.text.specs.Card.{follow};
 ghost use Rattle.rows.specs.Held.{rowsIn, Full};
 ghost use Rattle.card.specs.Cards.{rowIn};
@@ -15,7 +16,7 @@ pub struct Row {
 // The union of exits and the earliest end over the bits of a state. It stops behind the highest bit, since most states have few.
 pub fn follow(exits: &[u64], firsts: &[u32], state: u64) -> Row
     requires { ⌜ Full (now exits) (now firsts) ⌝ }
-    ensures { λ r. ⌜ rowIn r ≡ follow 64 (rowsIn (now (exits .entry)) (now (firsts .entry))) state ⌝ }
+    ensures { λ r. ⌜ rowIn r ≡ follow greatestPattern (rowsIn (now (exits .entry)) (now (firsts .entry))) state ⌝ }
 {
     let mut exit: u64 = 0;
     let mut first: u32 = Card::NONE;

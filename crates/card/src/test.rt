@@ -10,13 +10,14 @@ ghost use mathlib.Core.Path.{_≡_};
 ghost use Prim.Native.Nat.{ℕ, _<_, _≤_};
 ghost use lib.ListN.{length};
 ghost use Rattle.text.specs.Bits.{low};
+ghost use Rattle.text.specs.Refusal.{greatestPattern};
 ghost use Rattle.text.specs.Card.{isRow, areRows, wellFormed, samePattern};
 ghost use Rattle.rows.specs.Held.{rowOf, rowsIn, Full};
 ghost use Rattle.card.specs.Cards.{cardIn, isPadded, IsTest};
 
 // Whether the first m of 64 bytes are a pattern, and the others 0.
 fn is_padded(bytes: &[u8], m: usize) -> bool
-    requires { ⌜ (length (now bytes) ≡ 64) × (m ≤ 64) ⌝ }
+    requires { ⌜ (length (now bytes) ≡ greatestPattern) × (m ≤ greatestPattern) ⌝ }
     ensures { λ r. ⌜ r ≡ isPadded (now (bytes .entry)) m ⌝ }
 {
     let bases = &bytes[..m];
@@ -42,7 +43,7 @@ fn is_row(m: usize, all: u64, segments: u32, q: usize, exit: u64, first: u32) ->
 
 // Whether the rows below m are. No branch depends on a row, so that the compiler tests several at once.
 fn rows_below(m: usize, segments: u32, exits: &[u64], firsts: &[u32]) -> bool
-    requires { ⌜ Full (now exits) (now firsts) × (m ≤ 64) ⌝ }
+    requires { ⌜ Full (now exits) (now firsts) × (m ≤ greatestPattern) ⌝ }
     ensures { λ r. ⌜ IsTest m segments (now (exits .entry)) (now (firsts .entry)) 0 m r ⌝ }
 {
     let all = low(m);
@@ -67,8 +68,8 @@ fn is_idle(exit: u64, first: u32) -> bool
 
 // Whether the rows from m up are, without a branch either.
 fn rows_behind(m: usize, exits: &[u64], firsts: &[u32]) -> bool
-    requires { ⌜ Full (now exits) (now firsts) × (m ≤ 64) ⌝ }
-    ensures { λ r. ⌜ ((n : ℕ) → IsTest m n (now (exits .entry)) (now (firsts .entry)) m 64 r) ⌝ }
+    requires { ⌜ Full (now exits) (now firsts) × (m ≤ greatestPattern) ⌝ }
+    ensures { λ r. ⌜ ((n : ℕ) → IsTest m n (now (exits .entry)) (now (firsts .entry)) m greatestPattern r) ⌝ }
 {
     let mut sound = true;
     let mut q = m;
@@ -84,7 +85,7 @@ fn rows_behind(m: usize, exits: &[u64], firsts: &[u32]) -> bool
 
 // Whether all 64 rows are.
 fn are_rows(m: usize, segments: u32, exits: &[u64], firsts: &[u32]) -> bool
-    requires { ⌜ Full (now exits) (now firsts) × (m ≤ 64) ⌝ }
+    requires { ⌜ Full (now exits) (now firsts) × (m ≤ greatestPattern) ⌝ }
     ensures { λ r. ⌜ r ≡ areRows m segments 0 (rowsIn (now (exits .entry)) (now (firsts .entry))) ⌝ }
 {
     let below = rows_below(m, segments, exits, firsts);

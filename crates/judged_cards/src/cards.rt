@@ -17,7 +17,7 @@ use text::refusal::Refusal;
 
 // PATTERN STRETCH: the card of a stretch, or of no segments where it is a dash.
 pub fn of(line: &[u8]) -> Made {
-    let mut bytes = [0u8; 40000];
+    let mut bytes = [0u8; Card::GREATEST_STRETCH + 1];
     let n = notation::stretch(&mut bytes, word(line, 2), 2);
     let p = pattern(line);
     let strand = strand(line);

@@ -1,4 +1,4 @@
--- `card::Card::of` meets its contract, by what `check`, `read_on` and `over` ensure.
+-- `card::Card::of` meets its contract, by what `check`, `is_short`, `read_on` and `over` ensure.
 use borrow.Author.Needs.{needs}
 use native.Mathlib.Omega.{arith}
 use mathlib.Core.Path.{sym, ap, _∙_}
@@ -6,7 +6,8 @@ use Rattle.text.specs.Refusal.{toldPattern}
 use Rattle.text.proofs.Patterns.{SoundPattern, pattern-sound}
 use Rattle.search.proofs.ReadOns.{read-length, read-room}
 use Rattle.card.specs.Answers.{made}
-use Rattle.card.proofs.Strands.{carding-on-wrong}
+use Rattle.card.proofs.Tests.{failed}
+use Rattle.card.proofs.Strands.{carding-on-wrong, carding-long}
 use Rattle.card.proofs.Making.{of-refused, of-made}
 use Rattle.card.proofs.cards.Card.of.Statement.{statement}
 use Rattle.card.proofs.cards.Card.of.Tie as tie
@@ -15,33 +16,42 @@ use Rattle.card.proofs.cards.Card.of.Tie as tie
 sound : (c : tie.After-enum-told) → SoundPattern (c .before .before .before .before .before .args .pattern .now)
 sound c = pattern-sound _ (sym (c .before .before .check .ensures) ∙ ap toldPattern (c .enum-told .given .1))
 
-array-share-prefix-bytes : tie.Need-array-share-prefix-bytes
-array-share-prefix-bytes c = read-room _ _ _ (c .read-on .ensures) (sound (c .before))
-
-slice-aggregate-over : tie.Need-slice-aggregate-over
-slice-aggregate-over c = read-length _ _ _ (c .before .read-on .ensures) (sound (c .before .before))
-
 returns : tie.Need-returns
 returns c =
-    let o = c .before .before .before .before in
-    let r = o .before .before in
-    c .refused2 .ensures ∙ of-refused _ _ _ (r .read-on .ensures) (sound (r .before)) _ _ (o .over .ensures) (c .before .if1 .taken)
+    let d = c .before .before in
+    let long = failed (d .is-short .ensures) (c .before .if1 .taken) in
+    c .refused2 .ensures ∙ ap made (sym (carding-long _ _ (sound (d .before)) _ long))
 
-cast-t17 : tie.Need-cast-t17
-cast-t17 c = let short = sound (c .before .before .before .before .before .before .before .before) .short in record { fits = omega arith }
+-- so it was where the pattern was read
+read : (c : tie.After-read-on) → SoundPattern (c .before .before .before .before .before .before .before .before .args .pattern .now)
+read c = sound (c .before .before .before)
+
+array-share-prefix-bytes : tie.Need-array-share-prefix-bytes
+array-share-prefix-bytes c = read-room _ _ _ (c .read-on .ensures) (read c)
+
+slice-aggregate-over : tie.Need-slice-aggregate-over
+slice-aggregate-over c = read-length _ _ _ (c .before .read-on .ensures) (read (c .before))
 
 returns-2 : tie.Need-returns-2
 returns-2 c =
+    let o = c .before .before .before .before in
+    let r = o .before .before in
+    c .refused3 .ensures ∙ of-refused _ _ _ (r .read-on .ensures) (read r) _ _ (o .over .ensures) (c .before .if2 .taken)
+
+cast-t18 : tie.Need-cast-t18
+cast-t18 c = let short = read (c .before .before .before .before .before .before .before) .short in record { fits = omega arith }
+
+returns-3 : tie.Need-returns-3
+returns-3 c =
     let d = c .before .before in
     let wrong = sym (d .before .before .check .ensures) ∙ ap toldPattern (d .wrong .given .1) in
     c .refused .ensures ∙ ap made (sym (carding-on-wrong _ _ _ _ _ wrong))
 
-returns-3 : tie.Need-returns-3
-returns-3 c =
+returns-4 : tie.Need-returns-4
+returns-4 c =
     let o = c .before .before .before .before .before .before in
     let r = o .before .before in
-    c .accepted .ensures
-    ∙ of-made _ _ _ (r .read-on .ensures) (sound (r .before)) _ _ (o .over .ensures) (c .before .before .before .if1 .left)
+    c .accepted .ensures ∙ of-made _ _ _ (r .read-on .ensures) (read r) _ _ (o .over .ensures) (c .before .before .before .if2 .left)
 
 pub of-spec : {M : Type 1} → statement M
 of-spec =
@@ -52,12 +62,15 @@ of-spec =
     (λ c κs. search needs)
     (λ c. search needs)
     (λ c κs. search needs)
+    (λ c κs. search needs)
+    returns
+    (λ c κs. search needs)
     array-share-prefix-bytes
     slice-aggregate-over
     (λ c κs. search needs)
     (λ c κs. search needs)
-    returns
-    cast-t17
-    (λ c κs. search needs)
     returns-2
-    returns-3)
+    cast-t18
+    (λ c κs. search needs)
+    returns-3
+    returns-4)
