@@ -11,7 +11,7 @@ use Rattle.text.specs.Text.{Variant, Segment, Text}
 use Rattle.layout.specs.Bytes.{wordBytes, greatestStretch}
 use Rattle.layout.specs.Encoding.{bytesOf, encodeVariant, encodeSegment, encode}
 use Rattle.layout.proofs.Rows.{bytes-append}
-use Rattle.clinic.specs.Room.{opened, withBases, withRecord}
+use Rattle.clinic.specs.Room.{nothing, opened, withBases, withRecord}
 use Rattle.clinic.specs.declared.held.Held.{Held}
 use Rattle.clinic.specs.declared.held.Fit.{Fit}
 use Rattle.clinic.specs.declared.held.Fit.the-variants.{Fits, Full}
@@ -30,6 +30,11 @@ more-segments T g = rw (bytes-append encodeSegment T (g ∷ [])) (simp length-ap
 abbrev pub Counted : Fit → Text → Type 0
 Counted (Fits k) T = (k .bytes ≡ length (encode T)) × (length (encode T) ≤ greatestStretch)
 Counted Full T = greatestStretch < length (encode T)
+
+-- a stretch of no segments has the bytes that are counted
+pub counted-nothing : nothing .bytes ≡ length (encode [])
+unfolding encode wordBytes bytesOf
+counted-nothing = refl
 
 pub counted-record :
     (h : Held) (T : Text) (g : Segment) →

@@ -7,6 +7,10 @@ use Rattle.clinic.specs.declared.held.Held.{Held}
 use Rattle.clinic.specs.declared.held.Fit.{Fit}
 use Rattle.clinic.specs.declared.held.Fit.the-variants.{Fits, Full}
 
+-- no segment: a segment count alone
+abbrev pub nothing : Held
+nothing = record { bytes = 2; running = false }
+
 -- the bytes with which a base more begins: a segment's count and a variant's length, unless the last segment goes on
 unfoldable pub opened : Held → ℕ
 opened h = h .bytes + cond (h .running) 0 3

@@ -3,7 +3,7 @@
 // bytes more.
 use text::refusal;
 ghost use mathlib.Core.Path.{_≡_};
-ghost use Rattle.clinic.specs.Room.{roomIn, withBases, withRecord};
+ghost use Rattle.clinic.specs.Room.{nothing, roomIn, withBases, withRecord};
 
 pub struct Held {
     // The bytes of the stretch.
@@ -20,10 +20,14 @@ pub enum Fit {
 
 impl Held {
     // No segment: a segment count alone.
-    pub const NOTHING: Held = Held {
-        bytes: 2,
-        running: false,
-    };
+    pub fn nothing() -> Held
+        ensures { λ r. ⌜ r ≡ nothing ⌝ }
+    {
+        Held {
+            bytes: 2,
+            running: false,
+        }
+    }
 
     // How many bases more there is room for.
     pub fn room(self) -> usize

@@ -108,8 +108,9 @@ fn over_file(work: Work, list: &[u8], files: Files, i: usize) -> Work {
 
 // Takes every sequence over every file, up to the first that is not read or refused, or behind which all have ended.
 fn over_files(list: &[u8], files: Files, first: bool) -> Work {
+    let begun = Standing::begun();
     let mut work = Work {
-        standings: [Standing::BEGUN; MOST],
+        standings: [begun; MOST],
         whole: true,
         first,
         ended: false,

@@ -1,5 +1,5 @@
 // The files of a text: the name itself for one stretch, and the name, a point and five digits for one of many.
-use lines::MOST_NUMBERED;
+use lines::is_numbered;
 use lines::put_numbered;
 
 // Makes a new file of the first n of these bytes. Whether all went well.
@@ -25,7 +25,7 @@ pub fn make_stretch(name: &[u8], number: u64, bytes: &[u8], n: usize) -> bool {
     if number == 0 {
         return make(name, bytes, n);
     }
-    if MOST_NUMBERED < number {
+    if !is_numbered(number) {
         return false;
     }
     let mut path = io::buffer();

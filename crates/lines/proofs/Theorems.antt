@@ -1,5 +1,6 @@
 -- What the lines tell. Those of an accepted input name exactly the segments in which an occurrence ends, in rising order, with their
--- number before and the first of them behind; `first none` stands exactly where that number is 0; and the digits tell a number.
+-- number before and the first of them behind; `first none` stands exactly where that number is 0; the digits tell a number; and the
+-- files of a text have different names.
 use Prim.Native.Nat.{ℕ, zero, suc, _+_, _-_, _*_, _/_, _%_, _≤_, _<_}
 use native.Mathlib.Omega.{arith}
 use native.Mathlib.Decide.{decLt}
@@ -22,6 +23,8 @@ use Rattle.lines.specs.Screening.{marksOn, EndsOn}
 use Rattle.lines.specs.declared.strands.Strands.{Strands}
 use Rattle.lines.proofs.Screens.{on-row, on-sums, on-ends}
 use Rattle.lines.proofs.Enough.{searched-sound}
+-- numbers up to 99,999 have names of their own, and the next one has the name of 0
+pub use Rattle.lines.proofs.FileNames.{numbered-apart, numbered-again}
 
 -- the lines of a text, where the segments of this list are named
 unfoldable pub naming : Text → List ℕ → List ℕ

@@ -1,8 +1,8 @@
 -- The decimal digits of a number, as bytes, and a line that ends with a number.
 use Prim.Native.Nat.{ℕ, zero, suc, _+_, _/_, _%_}
-use mathlib.Core.Bool.{cond}
+use mathlib.Core.Bool.{Bool, cond}
 use mathlib.Core.List.{List, [], _∷_, _++_}
-use lib.Dec.{ltb}
+use lib.Dec.{leb, ltb}
 
 -- the byte of a digit, 0 to 9
 abbrev pub digit : ℕ → ℕ
@@ -20,6 +20,10 @@ digits n = digitsIn (suc n) n
 -- a line: a word, a number, the line's end
 unfoldable pub line : List ℕ → ℕ → List ℕ
 line word n = word ++ digits n ++ (10 ∷ [])
+
+-- five digits write it
+abbrev pub isNumbered : ℕ → Bool
+isNumbered n = leb n 99999
 
 -- the name of a file of several: a name, a point and the last five digits of a number
 unfoldable pub numbered : List ℕ → ℕ → List ℕ

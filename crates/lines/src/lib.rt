@@ -7,7 +7,7 @@ pub mod strands;
 pub use answer::MOST_BYTES;
 pub use answer::put_refusal;
 pub use answer::screened;
-pub use numbered::MOST_NUMBERED;
+pub use numbered::is_numbered;
 pub use numbered::put_numbered;
 pub use put::put_bytes;
 pub use put::put_line;

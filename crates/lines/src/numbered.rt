@@ -2,11 +2,18 @@
 use crate::put::put_bytes;
 ghost use mathlib.Core.Path.{_≡_};
 ghost use Prim.Native.Nat.{_%_};
-ghost use Rattle.lines.specs.Decimal.{digit, numbered};
+ghost use Rattle.lines.specs.Decimal.{digit, isNumbered, numbered};
 ghost use Rattle.lines.specs.Puts.{Put};
 
 // The most that five digits count.
-pub const MOST_NUMBERED: u64 = 99999;
+const MOST: u64 = 99999;
+
+// Whether five digits write a number, so that its name is no other's.
+pub fn is_numbered(number: u64) -> bool
+    ensures { λ r. ⌜ r ≡ isNumbered number ⌝ }
+{
+    number <= MOST
+}
 
 // A digit of a number: the lowest.
 fn last_digit(number: u64) -> u8

@@ -1,7 +1,7 @@
 // The files of a text: those of its stretches, and the one with their names.
 use crate::words::TEXT;
 use crate::words::tell;
-use lines::MOST_NUMBERED;
+use lines::is_numbered;
 use lines::put_bytes;
 use lines::put_numbered;
 use withheld::part;
@@ -26,7 +26,7 @@ fn make(path: &[u8], bytes: &[u8]) -> bool {
 
 // Makes the file of stretch `number`, counted from 1. Whether that was done; else it is said why not.
 pub fn make_stretch(number: u64, bytes: &[u8]) -> bool {
-    if MOST_NUMBERED < number {
+    if !is_numbered(number) {
         tell(TEXT, b"the text needs more than 99999 stretches");
         return false;
     }

@@ -66,10 +66,11 @@ pub enum Came {
 
 // Before the first base: nothing of the reference is read yet.
 pub fn start(fd: i32, records: Records) -> Walk {
+    let held = Held::nothing();
     Walk {
         first: 1,
         count: 0,
-        held: Held::NOTHING,
+        held,
         lines: LINES + HEADING,
         stretches: 0,
         fd,
@@ -119,7 +120,7 @@ pub fn cut_window(walk: Walk, window: &[u8]) -> Came {
             Came::Stop
         }
         Written::Bytes(n) => {
-            let nothing = Held::NOTHING;
+            let nothing = Held::nothing();
             let mut next = walk;
             next.first = next_position(walk);
             next.count = 0;

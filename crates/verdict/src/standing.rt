@@ -8,7 +8,7 @@ ghost use mathlib.Core.Path.{_≡_};
 ghost use lib.ListN.{length};
 ghost use Rattle.text.specs.Refusal.{ok, after};
 ghost use Rattle.layout.specs.Bytes.{leftBy};
-ghost use Rattle.verdict.specs.Standing.{passing, behind, bothMarks, toldPassed};
+ghost use Rattle.verdict.specs.Standing.{begun, passing, behind, bothMarks, toldPassed};
 
 // What the strand as given and the opposite one carry, the number of segments, and the number of those in which the sequence ends on
 // either strand.
@@ -21,12 +21,16 @@ pub struct Standing {
 
 impl Standing {
     // Nothing is searched yet.
-    pub const BEGUN: Standing = Standing {
-        given: State { bits: 1 },
-        opposite: State { bits: 1 },
-        segments: 0,
-        ends: 0,
-    };
+    pub fn begun() -> Standing
+        ensures { λ r. ⌜ r ≡ begun ⌝ }
+    {
+        Standing {
+            given: State { bits: 1 },
+            opposite: State { bits: 1 },
+            segments: 0,
+            ends: 0,
+        }
+    }
 }
 
 // The segment count of a stretch, and where the sequence stands behind it.
