@@ -5,3 +5,4 @@ pub mod Lines
 pub mod Builds
 pub mod Haplotypes
 pub mod Formed
+pub mod EmptyWindows

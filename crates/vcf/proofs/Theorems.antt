@@ -1,12 +1,14 @@
 -- What is proved about `build`, by name. Its contract says what it answers by the definition `building` of specs/; here stands what that
 -- comes to. A hypothesis that begins with `told`, or says what a buffer holds, is the call's contract word by word.
-use Prim.Native.Nat.{ℕ, _<_}
+use Prim.Native.Nat.{ℕ, _+_, _≤_, _<_}
 use native.Mathlib.Omega.{arith}
 use mathlib.Core.Path.{_≡_, refl, sym, ap, _∙_}
 use mathlib.Core.Logic.{_↔_}
 use mathlib.Core.Bool.{Bool, true, false}
-use mathlib.Core.List.{List}
-use lib.ListN.{length, take, getD}
+use mathlib.Core.List.{List, [], _∷_, _++_}
+use borrow.Author.Tests.{leb-true, le-leb}
+use lib.Dec.{leb}
+use lib.ListN.{length, take, drop, getD}
 use Rattle.text.specs.Letter.{letter, meant, every, firstNot}
 use Rattle.text.specs.Text.{Text}
 use Rattle.text.specs.Occurrence.{Inside, Spells}
@@ -14,7 +16,7 @@ use Rattle.text.specs.State.{marks}
 use Rattle.text.proofs.Theorems.{marks-ends, read-ends}
 use Rattle.text.specs.Compare.{prefix}
 use Rattle.text.specs.Refusal.{Outcome, ok, refused, demand, after}
-use Rattle.text.proofs.Outcomes.{demand-met, after-met, told-met}
+use Rattle.text.proofs.Outcomes.{ok-inj, refused-ok, demand-met, after-met, told-met}
 use Rattle.text.proofs.Meanings.{letters-capital}
 use Rattle.layout.specs.Reading.{stretchOf}
 use Rattle.layout.specs.Encoding.{encode, all, writable}
@@ -23,8 +25,9 @@ use Rattle.writer.specs.Putting.{formedSegment, putting}
 use Rattle.stretch.specs.Onward.{ReadsAs}
 use Rattle.stretch.specs.Answers.{toldWritten}
 use Rattle.writer.specs.Answers.{written}
-use Rattle.layout.specs.Bytes.{leftBy}
-use Rattle.stretch.specs.declared.writing.Written.the-variants.{Bytes as Count}
+use Rattle.layout.specs.Bytes.{over, leftBy}
+use Rattle.stretch.specs.declared.writing.Written.{Written}
+use Rattle.stretch.specs.declared.writing.Written.the-variants.{Bytes as Count, Refused}
 use Rattle.layout.proofs.Overs.{over-front}
 use Rattle.layout.proofs.Encoding.{standing-encoded}
 use Rattle.stretch.proofs.ReadsOnward.{reads-as}
@@ -38,6 +41,7 @@ use Rattle.vcf.specs.Haplotypes.{Haplotype}
 use Rattle.records.proofs.Kept.{Kept, kept, kept-records, records-refused}
 use Rattle.vcf.proofs.Formed.{text-formed, formed-filled}
 use Rattle.vcf.proofs.Haplotypes.{spelt, reference-spelt}
+use Rattle.vcf.proofs.EmptyWindows.{Sound, sound-only, nothing-encoded, nothing-put, some-placed}
 
 -- The text that is built: bases of the window, and the records that have a base in it.
 abbrev pub builtText : List ℕ → List ℕ → ℕ → Text
@@ -168,3 +172,37 @@ part-built file part window p name room sound same own =
         let all : noted (lines part) ≡ ls = own ∙ sym is in
         let h = kept-records name (meant window) p (lines part) 1 0 (rw all k) in
         rw (f, h, all)
+
+-- An empty window is built exactly if it has a position, the file's first line and its records are right, and there is room for two bytes.
+module _ (file : List ℕ) (p : ℕ) (name : List ℕ) (room : ℕ) where
+  abbrev pub Right : Type 0
+  Right = (0 < p) × (prefix heading file ≡ true) × Sound name 0 (noted (lines file)) × (2 ≤ room)
+
+  pub empty-built : Right → building file [] p name room ≡ ok []
+  empty-built x = nothing-put file p name room (x .0) (x .1) (x .2) ∙ rw (le-leb 2 room (x .3))
+
+  pub empty-right : (U : Text) → building file [] p name room ≡ ok U → Right
+  empty-right U e =
+      let a = asked file [] p name room U e in
+      let some = some-placed p (a .put) in
+      let sound = sound-only name p (lines file) (a .kept) 1 0 (a .accepted) in
+      let (fits, _) = demand-met (leb 2 room) 15 0 (ok []) U (sym (nothing-put file p name room some (a .begun) sound) ∙ e) in
+      (some, a .begun, sound, leb-true 2 room fits)
+
+-- Then 00 00 is in front of the buffer, and the rest stays.
+pub empty-window :
+    (file : List ℕ) (p : ℕ) (name d : List ℕ) (r : Written) (out : List ℕ) →
+    toldWritten r ≡ written (building file [] p name (length d)) → out ≡ leftBy encode (building file [] p name (length d)) d →
+    Right file p name (length d) → (r ≡ Count 2) × (out ≡ 0 ∷ 0 ∷ drop 2 d)
+unfolding over
+empty-window file p name d r out told left right =
+    let e = empty-built file p name (length d) right in
+    let two : written (building file [] p name (length d)) ≡ ok 2 =
+    ap written e ∙ ap (λ (b : List ℕ). ok (length b)) nothing-encoded in (
+      written-two r (told ∙ two),
+      left ∙ ap (λ (o : Outcome Text). leftBy encode o d) e ∙ ap (λ (b : List ℕ). b ++ drop (0 + length b) d) nothing-encoded,
+    )
+  where
+    written-two : (r : Written) → toldWritten r ≡ ok 2 → r ≡ Count 2
+    written-two (Count n) e = ap Count (ok-inj e)
+    written-two (Refused w) e = absurd (refused-ok (w .number) (w .place) 2 e)
