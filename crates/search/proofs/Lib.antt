@@ -28,6 +28,7 @@ pub mod BorderWalks
 pub mod BorderSteps
 pub mod Chains
 pub mod FirstHits
+pub mod Fronts
 pub mod Told
 pub mod Turns
 pub mod Theorems

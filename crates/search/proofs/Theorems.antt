@@ -21,10 +21,10 @@ use Rattle.text.proofs.Strands.{opposite-length, strand-length, strand-sound}
 use Rattle.text.proofs.Outcomes.{ok-inj}
 use Rattle.text.proofs.Marks.{marks-length}
 use Rattle.text.proofs.Occurrences.{marks-ends, state-carried}
-use Rattle.layout.specs.Bytes.{over}
+use Rattle.layout.specs.Bytes.{greatestStretch, over}
 use Rattle.layout.specs.Pieces.{mostInStretch}
 use Rattle.layout.specs.Bytes.{leftBy}
-use Rattle.layout.specs.Reading.{segmentAt, stretchOf}
+use Rattle.layout.specs.Reading.{Taken, many, segmentAt, stretchOf}
 use Rattle.search.specs.Answers.{Next, sumsOf, searching, seeking, Seen, seenFrom, toldSearched}
 use Rattle.search.specs.Either.{eitherMarks, eitherSums, eitherFrom, seekingBoth, SeenBoth, seenBoth}
 use Rattle.search.specs.First.{endsIn, clear, firsting}
@@ -36,6 +36,7 @@ use Rattle.search.proofs.Eithers.{one, either-length, either-ones, eith
 use Rattle.search.proofs.Chains.{steps, feeds-steps, steps-marks, steps-states, seeks-text}
 use Rattle.search.proofs.FirstHits.{hitOf, Reads, hit-first, hit-fault, first-sound, asks-clear, asks-ends, zeros-at, ones-none}
 use Rattle.search.proofs.FirstHits.{ends-clear}
+use Rattle.search.proofs.Fronts.{front-read, front-alike}
 
 -- the byte that a search of an accepted text leaves for segment j is its mark
 left-at : (f : Text → List ℕ) (o : Outcome Text) (out : List ℕ) (t : Text) (j : ℕ) → o ≡ ok t → j < length (f t)
@@ -221,3 +222,13 @@ asks-text P strand ss T y e =
           absurd (ends-clear _ _ (ok-inj (sym (one .1) ∙ h)))),
       λ h. asks-clear P strand y fresh ss T i e (ones-none Q fresh T (λ j m. h j (at j .0 m))),
     )
+
+-- nothing is read after the segment of the first hit: the segments up to it read whole, and every stretch that begins with the same bytes
+-- up to where they end has the same first hit, whatever stands there or whether anything does
+module _ (P : List ℕ) (strand : Strand) (st : ℕ) (s : List ℕ) (k : ℕ) (e : firsting P strand st s ≡ ok (endsIn k)) where
+  pub first-reads : (x : Taken Text ℕ) × (many (λ _. segmentAt s) (k + 1) [] 2 ≡ ok x) × (x .next ≤ length s)
+  first-reads = front-read P strand st s k e
+
+  pub first-no-further : (x : Taken Text ℕ) → many (λ _. segmentAt s) (k + 1) [] 2 ≡ ok x → (z : List ℕ) → length z ≤ greatestStretch
+      → take (x .next) z ≡ take (x .next) s → firsting P strand st z ≡ ok (endsIn k)
+  first-no-further = front-alike P strand st s k e
