@@ -43,7 +43,8 @@ none-kept name p (l ∷ ls) n from k =
     cases false k i j = rw (k .0, le-leb from (position l) (k .1), j (k .2))
 
 -- and an accepted file has such records alone
-pub sound-only : (name : List ℕ) (p : ℕ) (ls rs : List (List ℕ)) (n from : ℕ) → records name [] p n from ls ≡ ok rs → Sound name from (noted ls)
+pub sound-only : (name : List ℕ) (p : ℕ) (ls rs : List (List ℕ)) (n from : ℕ) → records name [] p n from ls ≡ ok rs
+    → Sound name from (noted ls)
 unfolding records noted Sound fitting
 sound-only name p [] rs n from e = tt
 sound-only name p (l ∷ ls) rs n from e =
