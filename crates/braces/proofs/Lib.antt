@@ -2,7 +2,9 @@
 pub mod Acts
 pub mod Cuts
 pub mod Fillings
+pub mod Kept
 pub mod Lines
 pub mod ReadsBack
+pub mod Repeats
 pub mod Shows
 pub mod Theorems

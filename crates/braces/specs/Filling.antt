@@ -1,73 +1,29 @@
--- The buffers of a write while they are filled, and what the calls leave in them.
-use Prim.Native.Nat.{ℕ, _+_, _<_, _≤_}
-use mathlib.Core.Path.{_≡_}
-use mathlib.Core.Bool.{Bool, true}
-use mathlib.Core.List.{List, []}
-use lib.ListN.{length, take, drop, getD, set}
+-- The buffers of a write while they are filled: what an act comes to, and what the buffers have then.
+use Prim.Native.Nat.{ℕ, _+_, _-_, _*_}
+use mathlib.Core.Bool.{Bool, false, _&&_, cond}
+use mathlib.Core.List.{List, [], _∷_}
+use lib.Dec.{eqb, leb, ltb}
+use lib.ListN.{length, drop, set}
+use Rattle.text.specs.Bits.{anyOf}
+use Rattle.text.specs.Compare.{alike}
+use Rattle.layout.specs.Bytes.{greatestStretch, part}
+use Rattle.writer.specs.Cuts.{cut}
 use Rattle.braces.specs.Notation.{nothing, actOf}
-use Rattle.braces.specs.Reading.{Read, onto, acted, reads}
 use Rattle.braces.specs.declared.notation.Begun.{Begun}
 use Rattle.braces.specs.declared.notation.Act.{Act}
-use Rattle.braces.specs.declared.notation.Act.the-variants.{Wrong}
+use Rattle.braces.specs.declared.notation.Act.the-variants.{Pass, Letter, Variant, Segment, Wrong}
 use Rattle.braces.specs.declared.filling.Tape.{Tape}
 use Rattle.braces.specs.declared.filling.Step.{Step}
 use Rattle.braces.specs.declared.filling.Step.the-variants.{Done, Full}
 use Rattle.braces.specs.declared.filling.Filled.{Filled}
 use Rattle.braces.specs.declared.filling.Filled.the-variants.{All}
 
--- what the buffers hold of a tape, before what is still to come
-abbrev pub held : Tape → List ℕ → List ℕ → List ℕ → Read → Read
-held t letters lengths counts r = onto (take (t .letters) letters) (take (t .lengths) lengths) (take (t .counts) counts) r
+abbrev pub tapeOf : ℕ → ℕ → ℕ → Begun → Tape
+tapeOf letters lengths counts o = record { letters = letters; lengths = lengths; counts = counts; begun = o }
 
 -- nothing is filled, and nothing stands open
 abbrev pub emptyTape : Tape
-emptyTape = record { letters = 0; lengths = 0; counts = 0; begun = nothing }
-
--- the answer where there is no room: a number that is not the notation's own, or the wish for a cut
-unfoldable pub isFull : Step → Type 0
-isFull (Done t) = ⊥
-isFull Full = Unit {0}
-isFull (Step.Wrong n) = 7 ≤ n
-
--- a tape whose numbers are sound
-pub record Roomy (t : Tape) : Type 0 where
-  pub letters : t .begun .letters ≤ t .letters
-  pub lengths : t .begun .variants ≤ t .lengths
-  pub spelt : t .begun .spelt ≤ 32768
-  pub variants : t .begun .variants ≤ 254
-
--- the answer of the question whether there is room
-abbrev pub FitsTape : Tape → Bool → Type 0
-FitsTape t b = b ≡ true → Roomy t
-
--- the tape behind one letter, and what the buffer has then
-unfoldable pub LetterPut : Tape → Begun → ℕ → List ℕ → Step → List ℕ → Type 0
-LetterPut t o x letters (Done u) left =
-    (u ≡ record { letters = t .letters + 1; lengths = t .lengths; counts = t .counts; begun = o })
-    × (left ≡ set letters (t .letters) x)
-    × (t .letters < length letters)
-LetterPut t o x letters Full left = left ≡ letters
-LetterPut t o x letters (Step.Wrong n) left = (left ≡ letters) × (7 ≤ n)
-
--- the tape behind one variant
-unfoldable pub VariantPut : Tape → Begun → List ℕ → Step → List ℕ → Type 0
-VariantPut t o lengths (Done u) left =
-    (u ≡ record { letters = t .letters; lengths = t .lengths + 1; counts = t .counts; begun = o })
-    × (left ≡ set lengths (t .lengths) (t .begun .spelt))
-    × (t .lengths < length lengths)
-VariantPut t o lengths Full left = left ≡ lengths
-VariantPut t o lengths (Step.Wrong n) left = (left ≡ lengths) × (7 ≤ n)
-
--- the tape behind one segment
-unfoldable pub SegmentPut : Tape → Begun → List ℕ → List ℕ → Step → List ℕ → List ℕ → Type 0
-SegmentPut t o lengths counts (Done u) left behind =
-    (u ≡ record { letters = t .letters; lengths = t .lengths + 1; counts = t .counts + 1; begun = o })
-    × (left ≡ set lengths (t .lengths) (t .begun .spelt))
-    × (behind ≡ set counts (t .counts) (t .begun .variants + 1))
-    × (t .lengths < length lengths)
-    × (t .counts < length counts)
-SegmentPut t o lengths counts Full left behind = (left ≡ lengths) × (behind ≡ counts)
-SegmentPut t o lengths counts (Step.Wrong n) left behind = (left ≡ lengths) × (behind ≡ counts) × (7 ≤ n)
+emptyTape = tapeOf 0 0 0 nothing
 
 -- three buffers
 pub record Buffers : Type 0 where
@@ -78,28 +34,108 @@ pub record Buffers : Type 0 where
 abbrev pub buffers : List ℕ → List ℕ → List ℕ → Buffers
 buffers letters lengths counts = record { letters = letters; lengths = lengths; counts = counts }
 
-abbrev pub heldIn : Tape → Buffers → Read → Read
-heldIn t b r = held t (b .letters) (b .lengths) (b .counts) r
+-- the letters of the open segment, and the lengths of its closed variants
+abbrev pub openLetters : Tape → List ℕ → List ℕ
+openLetters t letters = part letters (t .letters - t .begun .letters) (t .begun .letters)
 
--- an act of the byte x is done on a tape: the buffers hold what it puts, whatever comes behind; else they are as they were, and it is
--- this very act that is wrong, if the number is one of the notation
-unfoldable pub ActDone : Tape → Act → ℕ → Buffers → Step → Buffers → Type 0
-ActDone t a x b (Done u) c = (f : Begun → Read) → heldIn u c (f (u .begun)) ≡ heldIn t b (acted (t .begun) x a f)
-ActDone t a x b Full c = c ≡ b
-ActDone t a x b (Step.Wrong n) c = (c ≡ b) × (n < 7 → a ≡ Wrong n)
+abbrev pub openLengths : Tape → List ℕ → List ℕ
+openLengths t lengths = part lengths (t .lengths - t .begun .variants) (t .begun .variants)
 
--- what the buffers hold, and what the rest of the piece puts, is what it was at `from`
-abbrev pub Keeps : Tape → List ℕ → ℕ → Buffers → Tape → ℕ → Buffers → Type 0
-Keeps t piece from b u at c = heldIn u c (reads (u .begun) (drop at piece)) ≡ heldIn t b (reads (t .begun) (drop from piece))
+-- the last n letters of a segment spell what one of its variants of these lengths spells
+unfoldable pub stands : List ℕ → List ℕ → ℕ → Bool
+stands letters lengths n = anyOf (alike (drop (length letters - n) letters)) (cut lengths letters)
 
--- all before the byte at `at` is put, and this byte is wrong; the notation says so itself, if the number is one of its own
-pub record Stuck (t : Tape) (piece : List ℕ) (from : ℕ) (b : Buffers) (at n : ℕ) (c : Buffers) : Type 0 where
-  pub tape : Tape
-  pub kept : Keeps t piece from b tape at c
-  pub is : n < 7 → actOf (tape .begun) (getD piece at 0) ≡ Wrong n
+-- the open variant is equal to an earlier one of its segment
+abbrev pub repeated : Tape → List ℕ → List ℕ → Bool
+repeated t letters lengths = stands (openLetters t letters) (openLengths t lengths) (t .begun .spelt)
 
--- what reading a piece from `from` on leaves
-unfoldable pub PieceRead : Tape → List ℕ → ℕ → Buffers → Filled → Buffers → Type 0
-PieceRead t piece from b (All u) c = heldIn u c (reads (u .begun) []) ≡ heldIn t b (reads (t .begun) (drop from piece))
-PieceRead t piece from b (Filled.Full at u) c = Keeps t piece from b u at c
-PieceRead t piece from b (Filled.Wrong at n) c = Stuck t piece from b at n c
+-- what stands open lies within the tape, and is at most variant 255 of its segment
+unfoldable pub sound : Tape → Bool
+sound t =
+    leb (t .begun .spelt) (t .begun .letters)
+    && leb (t .begun .letters) (t .letters)
+    && leb (t .begun .variants) (t .lengths)
+    && leb (t .begun .variants) 254
+
+-- all that is held, with `more` letters and `another` variants more and the open segment closed, has room in a stretch
+unfoldable pub fits : Tape → ℕ → ℕ → Bool
+fits t more another =
+    sound t && leb (2 + (t .counts + 1) + 2 * (t .lengths + 1 + another) + t .letters + more) greatestStretch
+
+-- there is no room: full where a segment is closed, so that a cut gives room; else the open segment is too long
+unfoldable pub noRoom : Tape → Step
+noRoom t = cond (eqb (t .counts) 0) (Step.Wrong 8) Full
+
+-- an act that leads to tape u: it must have room, and then the variant that ends with it may not be repeated
+abbrev pub leads : Tape → Bool → Bool → Tape → Step
+leads t room again u = cond room (cond again (Step.Wrong 7) (Done u)) (noRoom t)
+
+-- one letter more, where the buffer has this many
+unfoldable pub letterStep : Tape → Begun → ℕ → Step
+letterStep t o size =
+    leads t (ltb (t .letters) size && fits t 1 0) false (tapeOf (t .letters + 1) (t .lengths) (t .counts) o)
+
+-- the end of the open variant has room, with `another` after it, where the buffers have this many letters and lengths
+unfoldable pub endFits : Tape → ℕ → ℕ → ℕ → Bool
+endFits t another letters lengths = leb (t .letters) letters && ltb (t .lengths) lengths && fits t 0 another
+
+-- the open variant ends
+unfoldable pub variantStep : Tape → Begun → ℕ → List ℕ → List ℕ → Step
+variantStep t o another letters lengths =
+    leads t (endFits t another (length letters) (length lengths)) (repeated t letters lengths)
+    (tapeOf (t .letters) (t .lengths + 1) (t .counts) o)
+
+-- the open variant and its segment end
+unfoldable pub segmentStep : Tape → Begun → Buffers → Step
+segmentStep t o b =
+    leads t (ltb (t .counts) (length (b .counts)) && endFits t 0 (length (b .letters)) (length (b .lengths)))
+    (repeated t (b .letters) (b .lengths)) (tapeOf (t .letters) (t .lengths + 1) (t .counts + 1) o)
+
+-- what an act comes to
+unfoldable pub stepOf : Tape → Act → Buffers → Step
+stepOf t (Pass o) b = Done (tapeOf (t .letters) (t .lengths) (t .counts) o)
+stepOf t (Letter o) b = letterStep t o (length (b .letters))
+stepOf t (Variant o) b = variantStep t o 1 (b .letters) (b .lengths)
+stepOf t (Segment o) b = segmentStep t o b
+stepOf t (Wrong n) b = Step.Wrong n
+
+-- the lengths with the open variant's, and the counts with the open segment's
+abbrev pub lengthPut : Tape → List ℕ → List ℕ
+lengthPut t lengths = set lengths (t .lengths) (t .begun .spelt)
+
+abbrev pub countPut : Tape → List ℕ → List ℕ
+countPut t counts = set counts (t .counts) (t .begun .variants + 1)
+
+-- what an act of the byte x puts into the buffers
+unfoldable pub puts : Tape → Act → ℕ → Buffers → Buffers
+puts t (Pass o) x b = b
+puts t (Letter o) x b = buffers (set (b .letters) (t .letters) x) (b .lengths) (b .counts)
+puts t (Variant o) x b = buffers (b .letters) (lengthPut t (b .lengths)) (b .counts)
+puts t (Segment o) x b = buffers (b .letters) (lengthPut t (b .lengths)) (countPut t (b .counts))
+puts t (Wrong n) x b = b
+
+-- what is there after an act: what it puts where it is done, else what was there
+unfoldable pub ifDone : {A : Type 0} → Step → A → A → A
+ifDone (Done u) new old = new
+ifDone Full new old = old
+ifDone (Step.Wrong n) new old = old
+
+-- what a piece comes to, and what the buffers have then
+pub record Came : Type 0 where
+  pub told : Filled
+  pub left : Buffers
+
+abbrev pub came : Filled → Buffers → Came
+came r b = record { told = r; left = b }
+
+-- on from the step of the byte at `at`
+abbrev pub onFrom : Step → ℕ → Tape → Buffers → (Tape → Came) → Came
+onFrom (Done u) at t b rest = rest u
+onFrom Full at t b rest = came (Filled.Full at t) b
+onFrom (Step.Wrong n) at t b rest = came (Filled.Wrong at n) b
+
+-- the bytes of a piece from place `at` on, read onto a tape and its buffers: all of them, or up to one that has no room or is wrong
+unfoldable pub readOn : Tape → Buffers → ℕ → List ℕ → Came
+readOn t b at [] = came (All t) b
+readOn t b at (x ∷ s) =
+    onFrom (stepOf t (actOf (t .begun) x) b) at t b (λ u. readOn u (puts t (actOf (t .begun) x) x b) (at + 1) s)

@@ -6,12 +6,16 @@ use text::Refusal;
 use text::refusal;
 ghost use Prim.Native.Nat.{_+_, _≤_};
 ghost use mathlib.Core.Path.{_≡_};
-ghost use lib.ListN.{length, take, drop};
-ghost use Rattle.braces.specs.Cutting.{IsWithin, ClosedWritten, Cut};
+ghost use lib.ListN.{length};
+ghost use Rattle.layout.specs.Bytes.{part, over, leftBy};
+ghost use Rattle.layout.specs.Encoding.{encode};
+ghost use Rattle.writer.specs.Answers.{written};
+ghost use Rattle.stretch.specs.Answers.{toldWritten};
+ghost use Rattle.braces.specs.Cutting.{within, closedWriting, rest, cutOff};
 
 // Whether a tape lies within buffers of these lengths, and what stands open within the tape.
 fn is_within(tape: Tape, letters: usize, lengths: usize) -> bool
-    ensures { λ r. ⌜ IsWithin tape letters lengths r ⌝ }
+    ensures { λ r. ⌜ r ≡ within tape letters lengths ⌝ }
 {
     let begun = tape.begun;
     if letters < tape.letters {
@@ -29,7 +33,7 @@ fn is_within(tape: Tape, letters: usize, lengths: usize) -> bool
 // Moves n members from place `from` on to the front.
 fn move_letters(letters: &mut [u8], from: usize, n: usize)
     requires { ⌜ from + n ≤ length (now letters) ⌝ }
-    ensures { λ r. ⌜ take n (now (letters .exit)) ≡ take n (drop from (now (letters .entry))) ⌝ }
+    ensures { λ r. ⌜ now (letters .exit) ≡ over (now (letters .entry)) 0 (part (now (letters .entry)) from n) ⌝ }
 {
     let mut i = 0;
     while i < n {
@@ -40,7 +44,7 @@ fn move_letters(letters: &mut [u8], from: usize, n: usize)
 
 fn move_lengths(lengths: &mut [u16], from: usize, n: usize)
     requires { ⌜ from + n ≤ length (now lengths) ⌝ }
-    ensures { λ r. ⌜ take n (now (lengths .exit)) ≡ take n (drop from (now (lengths .entry))) ⌝ }
+    ensures { λ r. ⌜ now (lengths .exit) ≡ over (now (lengths .entry)) 0 (part (now (lengths .entry)) from n) ⌝ }
 {
     let mut i = 0;
     while i < n {
@@ -57,8 +61,10 @@ pub fn write_closed(
     counts: &[u8],
     out: &mut [u8],
 ) -> Written
-    ensures { λ r. ⌜ ClosedWritten tape (now (letters .entry)) (now (lengths .entry)) (now (counts .entry))
-        (now (out .entry)) r (now (out .exit)) ⌝ }
+    ensures { λ r. ⌜ toldWritten r ≡ written (closedWriting tape (now (letters .entry)) (now (lengths .entry)) (now (counts .entry))
+        (length (now (out .entry)))) ⌝ }
+    ensures { λ r. ⌜ now (out .exit) ≡ leftBy encode (closedWriting tape (now (letters .entry)) (now (lengths .entry))
+        (now (counts .entry)) (length (now (out .entry)))) (now (out .entry)) ⌝ }
 {
     let begun = tape.begun;
     let wild = Written::Refused(Refusal {
@@ -84,7 +90,7 @@ pub fn write_closed(
 
 // The tape of what stands open, moved to the front. Numbers that no tape has leave all as it is.
 pub fn cut(tape: Tape, letters: &mut [u8], lengths: &mut [u16]) -> Tape
-    ensures { λ r. ⌜ Cut tape (now (letters .entry)) (now (lengths .entry)) r (now (letters .exit)) (now (lengths .exit)) ⌝ }
+    ensures { λ r. ⌜ rest r (now (letters .exit)) (now (lengths .exit)) ≡ cutOff tape (now (letters .entry)) (now (lengths .entry)) ⌝ }
 {
     let begun = tape.begun;
     let spelt = begun.letters;

@@ -7,8 +7,10 @@ use crate::wrong;
 use layout::number::wide;
 use text::refusal;
 ghost use mathlib.Core.Path.{_≡_};
+ghost use lib.ListN.{length, drop, set};
 ghost use Rattle.braces.specs.Notation.{ended};
-ghost use Rattle.braces.specs.Filling.{FitsTape, LetterPut, VariantPut, SegmentPut, buffers, ActDone, PieceRead, emptyTape, isFull};
+ghost use Rattle.braces.specs.Filling.{emptyTape, noRoom, fits, buffers, letterStep, variantStep, segmentStep, lengthPut, countPut};
+ghost use Rattle.braces.specs.Filling.{stepOf, puts, ifDone, came, readOn};
 
 // How much of each buffer is filled, and what stands open.
 pub struct Tape {
@@ -49,7 +51,7 @@ impl Tape {
 
 // No room for what stands open: without a closed segment there never is.
 fn full(tape: Tape) -> Step
-    ensures { λ r. ⌜ isFull r ⌝ }
+    ensures { λ r. ⌜ r ≡ noRoom tape ⌝ }
 {
     if tape.counts == 0 {
         return Step::Wrong(wrong::LONG);
@@ -57,9 +59,9 @@ fn full(tape: Tape) -> Step
     Step::Full
 }
 
-// Whether the open segment, with so many letters and variants more, can be closed within a stretch, and its numbers are sound.
+// Whether the open segment, with this many letters and variants more, can be closed within a stretch, and its numbers are sound.
 fn fits(tape: Tape, more: u8, another: u8) -> bool
-    ensures { λ r. ⌜ FitsTape tape r ⌝ }
+    ensures { λ r. ⌜ r ≡ fits tape more another ⌝ }
 {
     let letters = tape.letters;
     let lengths = tape.lengths;
@@ -74,13 +76,13 @@ fn fits(tape: Tape, more: u8, another: u8) -> bool
     if refusal::GREATEST_STRETCH < counts {
         return false;
     }
+    if begun.letters < begun.spelt {
+        return false;
+    }
     if letters < begun.letters {
         return false;
     }
     if lengths < begun.variants {
-        return false;
-    }
-    if refusal::GREATEST_STRETCH < begun.spelt {
         return false;
     }
     if 254 < begun.variants {
@@ -92,7 +94,8 @@ fn fits(tape: Tape, more: u8, another: u8) -> bool
 
 // One letter more.
 fn put_letter(tape: Tape, begun: Begun, byte: u8, letters: &mut [u8]) -> Step
-    ensures { λ r. ⌜ LetterPut tape begun byte (now (letters .entry)) r (now (letters .exit)) ⌝ }
+    ensures { λ r. ⌜ r ≡ letterStep tape begun (length (now (letters .entry))) ⌝ }
+    ensures { λ r. ⌜ now (letters .exit) ≡ ifDone r (set (now (letters .entry)) (tape .letters) byte) (now (letters .entry)) ⌝ }
 {
     let at = tape.letters;
     if letters.len() <= at {
@@ -112,7 +115,8 @@ fn put_letter(tape: Tape, begun: Begun, byte: u8, letters: &mut [u8]) -> Step
 
 // The open variant ends, and `another` may follow it.
 fn put_variant(tape: Tape, begun: Begun, another: u8, letters: &[u8], lengths: &mut [u16]) -> Step
-    ensures { λ r. ⌜ VariantPut tape begun (now (lengths .entry)) r (now (lengths .exit)) ⌝ }
+    ensures { λ r. ⌜ r ≡ variantStep tape begun another (now (letters .entry)) (now (lengths .entry)) ⌝ }
+    ensures { λ r. ⌜ now (lengths .exit) ≡ ifDone r (lengthPut tape (now (lengths .entry))) (now (lengths .entry)) ⌝ }
 {
     let at = tape.lengths;
     let end = tape.letters;
@@ -128,7 +132,7 @@ fn put_variant(tape: Tape, begun: Begun, another: u8, letters: &[u8], lengths: &
     }
     let first = at - before.variants;
     let from = end - before.letters;
-    if stands(&letters[..end], &lengths[first..at], from, before.spelt) {
+    if stands(&letters[from..end], &lengths[first..at], before.spelt) {
         return Step::Wrong(wrong::REPEATED);
     }
     lengths[at] = before.spelt as u16;
@@ -148,8 +152,9 @@ fn put_segment(
     lengths: &mut [u16],
     counts: &mut [u8],
 ) -> Step
-    ensures { λ r. ⌜ SegmentPut tape begun (now (lengths .entry)) (now (counts .entry)) r
-        (now (lengths .exit)) (now (counts .exit)) ⌝ }
+    ensures { λ r. ⌜ r ≡ segmentStep tape begun (buffers (now (letters .entry)) (now (lengths .entry)) (now (counts .entry))) ⌝ }
+    ensures { λ r. ⌜ now (lengths .exit) ≡ ifDone r (lengthPut tape (now (lengths .entry))) (now (lengths .entry)) ⌝ }
+    ensures { λ r. ⌜ now (counts .exit) ≡ ifDone r (countPut tape (now (counts .entry))) (now (counts .entry)) ⌝ }
 {
     let at = tape.counts;
     let before = tape.begun;
@@ -157,9 +162,6 @@ fn put_segment(
         return full(tape);
     }
     let segments = at + 1;
-    if 254 < before.variants {
-        return full(tape);
-    }
     match put_variant(tape, begun, 0, letters, &mut *lengths) {
         Step::Full => Step::Full,
         Step::Wrong(number) => Step::Wrong(number),
@@ -184,9 +186,10 @@ fn put(
     lengths: &mut [u16],
     counts: &mut [u8],
 ) -> Step
-    ensures { λ r. ⌜ ActDone tape act byte
-        (buffers (now (letters .entry)) (now (lengths .entry)) (now (counts .entry))) r
-        (buffers (now (letters .exit)) (now (lengths .exit)) (now (counts .exit))) ⌝ }
+    ensures { λ r. ⌜ r ≡ stepOf tape act (buffers (now (letters .entry)) (now (lengths .entry)) (now (counts .entry))) ⌝ }
+    ensures { λ r. ⌜ buffers (now (letters .exit)) (now (lengths .exit)) (now (counts .exit))
+        ≡ ifDone r (puts tape act byte (buffers (now (letters .entry)) (now (lengths .entry)) (now (counts .entry))))
+        (buffers (now (letters .entry)) (now (lengths .entry)) (now (counts .entry))) ⌝ }
 {
     match act {
         Act::Pass(begun) => Step::Done(Tape {
@@ -211,9 +214,9 @@ pub fn read_on(
     lengths: &mut [u16],
     counts: &mut [u8],
 ) -> Filled
-    ensures { λ r. ⌜ PieceRead tape (now (piece .entry)) from
-        (buffers (now (letters .entry)) (now (lengths .entry)) (now (counts .entry))) r
-        (buffers (now (letters .exit)) (now (lengths .exit)) (now (counts .exit))) ⌝ }
+    ensures { λ r. ⌜ came r (buffers (now (letters .exit)) (now (lengths .exit)) (now (counts .exit)))
+        ≡ readOn tape (buffers (now (letters .entry)) (now (lengths .entry)) (now (counts .entry))) from
+        (drop from (now (piece .entry))) ⌝ }
 {
     let mut done = tape;
     let mut at = from;
@@ -239,9 +242,12 @@ pub fn read_on(
 
 // The end of a text.
 pub fn finish(tape: Tape, letters: &mut [u8], lengths: &mut [u16], counts: &mut [u8]) -> Step
-    ensures { λ r. ⌜ ActDone tape (ended (tape .begun) (tape .begun .mode)) 0
-        (buffers (now (letters .entry)) (now (lengths .entry)) (now (counts .entry))) r
-        (buffers (now (letters .exit)) (now (lengths .exit)) (now (counts .exit))) ⌝ }
+    ensures { λ r. ⌜ r ≡ stepOf tape (ended (tape .begun) (tape .begun .mode))
+        (buffers (now (letters .entry)) (now (lengths .entry)) (now (counts .entry))) ⌝ }
+    ensures { λ r. ⌜ buffers (now (letters .exit)) (now (lengths .exit)) (now (counts .exit))
+        ≡ ifDone r (puts tape (ended (tape .begun) (tape .begun .mode)) 0
+        (buffers (now (letters .entry)) (now (lengths .entry)) (now (counts .entry))))
+        (buffers (now (letters .entry)) (now (lengths .entry)) (now (counts .entry))) ⌝ }
 {
     let begun = tape.begun;
     put(

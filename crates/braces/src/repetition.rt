@@ -1,28 +1,36 @@
 // Whether the variant that ends stands in its segment already. `write` asks this too; asked here, the place in the text is known.
 use text::from_end::alike_from_end;
+ghost use mathlib.Core.Path.{_≡_};
+ghost use Prim.Native.Nat.{_≤_, min};
+ghost use lib.ListN.{length};
+ghost use Rattle.braces.specs.Filling.{stands};
 
 // A length as a number.
-pub fn stated(length: u16) -> usize {
+fn stated(length: u16) -> usize
+    ensures { λ r. ⌜ r ≡ length ⌝ }
+{
     length as usize
 }
 
-// Whether the last `spelt` of the letters are equal to a variant of these lengths, the first of which begins at letter `from`.
-pub fn stands(letters: &[u8], lengths: &[u16], from: usize, spelt: usize) -> bool {
+// The smaller of two numbers.
+fn least(a: usize, b: usize) -> usize
+    ensures { λ r. ⌜ r ≡ min a b ⌝ }
+{
+    if a < b { a } else { b }
+}
+
+// Whether the last `spelt` letters of a segment spell what one of its variants of these lengths spells. A length that goes beyond the
+// letters, as no tape has it, ends with them.
+pub(crate) fn stands(letters: &[u8], lengths: &[u16], spelt: usize) -> bool
+    requires { ⌜ spelt ≤ length (now letters) ⌝ }
+    ensures { λ r. ⌜ r ≡ stands (now (letters .entry)) (now (lengths .entry)) spelt ⌝ }
+{
     let end = letters.len();
-    if end < spelt {
-        return false;
-    }
     let variant = &letters[end - spelt..];
-    let mut start = from;
+    let mut start = 0;
     let mut i = 0;
     while i < lengths.len() {
-        if end < start {
-            return false;
-        }
-        let size = stated(lengths[i]);
-        if end - start < size {
-            return false;
-        }
+        let size = least(stated(lengths[i]), end - start);
         let next = start + size;
         if alike_from_end(variant, &letters[start..next]) {
             return true;

@@ -1,13 +1,13 @@
 -- `braces::filling::finish` meets its contract.
 use borrow.Author.Needs.{needs}
-use Rattle.braces.proofs.Fillings.{done-as}
+use Rattle.braces.proofs.Fillings.{acted-as}
 use Rattle.braces.proofs.filling.finish.Statement.{statement}
 use Rattle.braces.proofs.filling.finish.Tie as tie
 
 returns : tie.Need-returns
 returns c =
     let d = c .before .before .before .before .before .before in
-    done-as _ _ _ _ _ _ _ (d .before .before .before .before .end .ensures) (d .put .ensures)
+    acted-as _ _ _ _ _ _ _ (d .before .before .before .before .end .ensures) (d .put .ensures)
 
 pub finish-spec : {M : Type 1} → statement M
 finish-spec =

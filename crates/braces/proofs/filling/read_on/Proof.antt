@@ -1,6 +1,6 @@
 -- `braces::filling::read_on` meets its contract.
--- The loop's invariant, `Reaching`: what is held and what the rest of the piece puts is what it was. The
--- measure is the number of bytes left.
+-- The loop's invariant, `Reaching`: the rest of the piece comes to what the whole comes to. The measure
+-- is the number of bytes left.
 use borrow.Author.Needs.{needs}
 use Prim.Native.Nat.{_-_}
 use mathlib.Core.Path.{_∙_}
@@ -64,21 +64,24 @@ returns c =
     let p = c .before .before .before .before .before .before .before .before in
     let a = p .before .before .before .before in
     let l = a .before .before .before in
-    reach-full (l .before .loop .inv) (l .loop-test .taken) _ (a .act .ensures) _ _ (p .put .ensures) (c .enum-told .given .1)
+    reach-full (l .before .loop .inv) (l .loop-test .taken) _ (a .act .ensures) _ _ (p .put .ensures .0) (p .put .ensures .1)
+    (c .enum-told .given .1)
 
 returns-2 : tie.Need-returns-2 Inv-loop μ-loop
 returns-2 c =
     let p = c .before .before .before .before .before .before .before .before .before in
     let a = p .before .before .before .before in
     let l = a .before .before .before in
-    reach-wrong (l .before .loop .inv) (l .loop-test .taken) _ (a .act .ensures) _ _ (p .put .ensures) _ (c .before .number .given .1)
+    reach-wrong (l .before .loop .inv) (l .loop-test .taken) _ (a .act .ensures) _ _ (p .put .ensures .0) (p .put .ensures .1) _
+    (c .before .number .given .1)
 
 loop-again : tie.Need-loop-again Inv-loop μ-loop
 loop-again c =
     let p = c .before .before .before .before .before .before .before .before .before in
     let a = p .before .before .before .before in
     let l = a .before .before .before in
-    reach-more (l .before .loop .inv) (l .loop-test .taken) _ (a .act .ensures) _ _ (p .put .ensures) _ (c .before .next .given .1)
+    reach-more (l .before .loop .inv) (l .loop-test .taken) _ (a .act .ensures) _ _ (p .put .ensures .0) (p .put .ensures .1) _
+    (c .before .next .given .1)
     (p .put .kept .1 .1 .1 .0) (p .put .kept .1 .1 .1 .1 .0) (p .put .kept .1 .1 .1 .1 .1 .0)
 
 returns-3 : tie.Need-returns-3 Inv-loop μ-loop
