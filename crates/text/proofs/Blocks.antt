@@ -1,20 +1,22 @@
 -- Laws of bytes that are tested many at a time: whether one of the first so many is no letter, in whole blocks, and by a table.
 use Prim.Native.Nat.{ℕ, _+_, _-_, _<_, _≤_}
 use native.Mathlib.Numerals.{add-one}
+use native.Mathlib.Decide.{decLt}
 use native.Mathlib.Omega.{arith}
-use mathlib.Core.Path.{_≡_, refl, sym, ap, _∙_}
+use mathlib.Core.Path.{_≡_, refl, sym, ap, ap₂, _∙_}
+use mathlib.Core.Logic.{by-cases}
 use mathlib.Core.Bool.{Bool, true, false, not, _||_, _&&_, cond, true≢false}
 use mathlib.Core.List.{List, [], _∷_, _++_}
-use borrow.Author.Tests.{ne-eqb}
-use lib.Bits.{bitAnd, bitOr, or-zero-r}
-use lib.Dec.{eqb}
+use borrow.Author.Tests.{eqb-true, eq-eqb, le-leb, lt-leb, lt-ltb, le-ltb}
+use lib.Bits.{bitAnd, bitOr, and-le-l, and-le-r, or-add-and}
+use lib.Dec.{eqb, leb, ltb}
 use lib.ListN.{length, getD, take, drop, length-drop, take-append-drop}
 use lib.Seq.{take-suc, take-all, take-add, take-take}
-use Rattle.text.specs.Letter.{base, raised, capital, letter, every, Classes}
-use Rattle.text.specs.Bits.{bit, anyBelow}
-use Rattle.text.proofs.Bits.{bit-or, bit-zero, bit-single}
+use Rattle.text.specs.Letter.{base, raised, capital, letter, every, Classes, zeroFor, wrongBy}
+use Rattle.text.specs.Bits.{anyBelow}
+use Rattle.text.proofs.Meanings.{letter-byte}
 use Rattle.text.proofs.Letters.{every-snoc, every-append, every-take, every-drop}
-use Rattle.text.proofs.Truth.{or-right, and-left, and-right, and-both, and-true, and-false, same-truth, some-anyBelow}
+use Rattle.text.proofs.Truth.{and-left, and-right, and-both, same-truth, not-true-false, some-anyBelow}
 
 -- a byte without the bit of lower case is none of five exactly where it is no letter: one computed test over all bytes
 apart : ℕ → Bool
@@ -112,32 +114,75 @@ module _ (f : ℕ → Bool) (s : List ℕ) where
       parts : every f s ≡ true → (every f (take at s) && every f (take n (drop (length s - n) s))) ≡ true
       parts h = and-both _ _ (every-take f at s h) (every-take f n (drop (length s - n) s) (every-drop f (length s - n) s h))
 
--- by a table: a byte more is bad where it is no letter
-classed : (bad : ℕ) (b : Bool) → eqb (bitOr bad (cond b 0 1)) 0 ≡ (eqb bad 0 && b)
-classed bad true = ap (λ (n : ℕ). eqb n 0) (or-zero-r bad) ∙ sym (and-true (eqb bad 0))
-classed bad false =
-    ne-eqb (bitOr bad 1) 0 (λ e. true≢false (sym odd ∙ ap (λ (n : ℕ). bit n 0) e ∙ bit-zero 0)) ∙ sym (and-false (eqb bad 0))
+-- numbers or-ed together are 0 exactly where both are
+or-none : (a b : ℕ) → eqb (bitOr a b) 0 ≡ (eqb a 0 && eqb b 0)
+or-none a b = same-truth _ _ both none
   where
-    odd : bit (bitOr bad 1) 0 ≡ true
-    odd = bit-or bad 1 0 ∙ or-right (bit bad 0) (bit 1 0) (bit-single 0 0)
+    both : eqb (bitOr a b) 0 ≡ true → (eqb a 0 && eqb b 0) ≡ true
+    both e =
+        let nothing : bitOr a b ≡ 0 = eqb-true (bitOr a b) 0 e in
+        let own : a ≡ 0 = omega (arith, nothing, or-add-and a b, and-le-r a b) in
+        let more : b ≡ 0 = omega (arith, nothing, or-add-and a b, and-le-l a b) in
+        and-both _ _ (eq-eqb a 0 own) (eq-eqb b 0 more)
 
--- the first i are letters exactly where nothing bad was seen
-module _ (v : List ℕ) where
+    none : (eqb a 0 && eqb b 0) ≡ true → eqb (bitOr a b) 0 ≡ true
+    none e =
+        let own : a ≡ 0 = eqb-true a 0 (and-left (eqb a 0) (eqb b 0) e) in
+        let more : b ≡ 0 = eqb-true b 0 (and-right (eqb a 0) (eqb b 0) e) in
+        rw (own, more) refl
+
+-- by a table: it has 0 for each of the first i exactly where nothing bad was seen
+module _ (table v : List ℕ) where
   abbrev pub Clean : ℕ → ℕ → Type 0
-  Clean i bad = eqb bad 0 ≡ every letter (take i v)
+  Clean i bad = eqb bad 0 ≡ every (zeroFor table) (take i v)
 
   pub clean-none : Clean 0 0
   unfolding every
   clean-none = refl
 
-  pub clean-more : (table : List ℕ) → Classes table → (i bad : ℕ) → Clean i bad → i < length v → (c : ℕ) → c ≡ getD v i 0 → c < 256
+  pub clean-more : (i bad : ℕ) → Clean i bad → i < length v → (c : ℕ) → c ≡ getD v i 0 → c < 256
       → Clean (i + 1) (bitOr bad (getD table c 0))
-  clean-more table classes i bad clean l c e small =
+  clean-more i bad clean l c e small =
       let longer : take (i + 1) v ≡ take i v ++ (c ∷ []) = rw (add-one, e) (take-suc v i 0 l) in
-      ap (λ (n : ℕ). eqb (bitOr bad n) 0) (classes .each c small)
-      ∙ classed bad (letter c)
-      ∙ ap (λ (t : Bool). t && letter c) clean
-      ∙ sym (ap (every letter) longer ∙ every-snoc letter (take i v) c)
+      or-none bad (getD table c 0)
+      ∙ ap₂ (λ (t in-table : Bool). t && (in-table && eqb (getD table c 0) 0)) clean (sym (lt-ltb c 256 small))
+      ∙ sym (ap (every (zeroFor table)) longer ∙ every-snoc (zeroFor table) (take i v) c)
 
-  pub clean-all : (i bad : ℕ) → Clean i bad → length v ≤ i → not (eqb bad 0) ≡ not (every letter v)
-  clean-all i bad clean l = ap not (clean ∙ ap (every letter) (take-all i v l))
+  pub clean-all : (i bad : ℕ) → Clean i bad → length v ≤ i → length v < 16 → not (eqb bad 0) ≡ wrongBy table v
+  unfolding wrongBy
+  clean-all i bad clean l short =
+      rw (lt-leb 16 (length v) short) (ap not (clean ∙ ap (every (zeroFor table)) (take-all i v l)))
+
+  -- of 16 and more the table is not asked
+  pub blocks-by : (wrong : Bool) → 16 ≤ length v → wrong ≡ not (every letter v) → wrong ≡ wrongBy table v
+  unfolding wrongBy
+  blocks-by wrong long e = rw (le-leb 16 (length v) long) e
+
+-- a table of classes has 0 for the letters alone
+zero-letter : (table : List ℕ) → Classes table → (c : ℕ) → zeroFor table c ≡ letter c
+zero-letter table classes c =
+    by-cases (decLt c 256)
+    (λ (l : c < 256).
+    ap₂ (λ (in-table : Bool) (n : ℕ). in-table && eqb n 0) (lt-ltb c 256 l) (classes .each c l) ∙ step (letter c))
+    (λ (l : ¬ (c < 256)).
+    let far : ltb c 256 ≡ false = le-ltb c 256 (omega arith) in
+    ap (λ (in-table : Bool). in-table && eqb (getD table c 0) 0) far
+    ∙ sym (not-true-false (letter c) (λ e. l (letter-byte c e))))
+  where
+    step : (b : Bool) → eqb (cond b 0 1) 0 ≡ b
+    step true = refl
+    step false = refl
+
+zero-letters : (table : List ℕ) → Classes table → (v : List ℕ) → every (zeroFor table) v ≡ every letter v
+unfolding every
+zero-letters table classes [] = refl
+zero-letters table classes (c ∷ v) = ap₂ _&&_ (zero-letter table classes c) (zero-letters table classes v)
+
+-- so by it wrong is what is no letter
+pub wrong-letters : {table : List ℕ} → Classes table → (v : List ℕ) → wrongBy table v ≡ not (every letter v)
+unfolding wrongBy
+wrong-letters {table} classes v = rw (zero-letters table classes v) (step (leb 16 (length v)) (not (every letter v)))
+  where
+    step : (b wrong : Bool) → cond b wrong wrong ≡ wrong
+    step true wrong = refl
+    step false wrong = refl

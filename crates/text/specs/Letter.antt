@@ -3,7 +3,7 @@ use Prim.Native.Nat.{ℕ, suc, _<_}
 use mathlib.Core.Path.{_≡_}
 use mathlib.Core.Bool.{Bool, true, not, _||_, _&&_, cond}
 use mathlib.Core.List.{List, [], _∷_, map}
-use lib.Dec.{eqb}
+use lib.Dec.{eqb, leb, ltb}
 use lib.ListN.{length, getD}
 use Rattle.text.specs.declared.letter.Letter.{Letter}
 use Rattle.text.specs.declared.letter.Letter.the-variants.{Base, Unknown, None}
@@ -53,6 +53,10 @@ pub record Classes (table : List ℕ) : Type 0 where
   pub full : length table ≡ 256
   pub each : (c : ℕ) → c < 256 → getD table c 0 ≡ cond (letter c) 0 1
 
--- whether one of the bytes is no letter, as such a table has them
-abbrev pub WrongBy : List ℕ → List ℕ → Bool → Type 0
-WrongBy table v wrong = Classes table → wrong ≡ not (every letter v)
+-- a table of 256 numbers has 0 for a byte
+abbrev pub zeroFor : List ℕ → ℕ → Bool
+zeroFor table c = ltb c 256 && eqb (getD table c 0) 0
+
+-- whether one of the bytes is wrong by a table: it has not 0 for it. Of 16 bytes and more the table is not asked: wrong is what is no letter
+unfoldable pub wrongBy : List ℕ → List ℕ → Bool
+wrongBy table v = cond (leb 16 (length v)) (not (every letter v)) (not (every (zeroFor table) v))

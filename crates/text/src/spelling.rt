@@ -6,7 +6,7 @@ ghost use Prim.Native.Nat.{_+_, _≤_};
 ghost use mathlib.Core.Path.{_≡_};
 ghost use mathlib.Core.Bool.{not};
 ghost use lib.ListN.{length, take, drop};
-ghost use Rattle.text.specs.Letter.{letter, every, Classes, WrongBy};
+ghost use Rattle.text.specs.Letter.{letter, every, Classes, wrongBy};
 
 // How many bytes are tested at once.
 const BLOCK: usize = 16;
@@ -78,9 +78,9 @@ pub fn any_wrong(part: &[u8]) -> bool
     wrong_in_blocks(part)
 }
 
-// The same by a table, for many short parts one after another.
+// The same by a table, for many short parts one after another: with that of `classes` the answer is that of `any_wrong`.
 pub fn any_wrong_by(classes: &[u8; 256], part: &[u8]) -> bool
-    ensures { λ r. ⌜ WrongBy (now (classes .entry)) (now (part .entry)) r ⌝ }
+    ensures { λ r. ⌜ r ≡ wrongBy (now (classes .entry)) (now (part .entry)) ⌝ }
 {
     if BLOCK <= part.len() {
         return wrong_in_blocks(part);

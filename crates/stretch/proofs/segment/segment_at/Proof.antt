@@ -8,6 +8,7 @@ use mathlib.Core.Logic.{⊎-elim}
 use mathlib.Core.List.{[]}
 use lib.ListN.{length}
 use Rattle.text.specs.Text.{Segment}
+use Rattle.text.proofs.Blocks.{wrong-letters}
 use Rattle.layout.specs.Pieces.{toldPart}
 use Rattle.layout.proofs.Heads.{Whole, head-is}
 use Rattle.layout.proofs.Walking.{Walking, walk-not, walk-none, walk-done, walk-cut, walk-misspelt, walk-again, walk-new, walk-unsuspected}
@@ -61,7 +62,7 @@ returns-3 c =
     let s = d .before .before .before in
     let t = s .before .before .before in
     let a = t .before .before in
-    let spelt = d .any-wrong-by .ensures (a .before .before .before .before .before .before .pre) in
+    let spelt = d .any-wrong-by .ensures ∙ wrong-letters (a .before .before .before .before .before .before .pre) _ in
     sym (walked-refused _ _ _ _
     (walk-misspelt (a .loop .inv .1) (t .if1 .taken) (here s) spelt (c .before .if2 .taken) (c .misspelt .ensures)))
 
@@ -73,7 +74,7 @@ returns-4 c =
     let s = d .before .before .before in
     let t = s .before .before .before in
     let a = t .before .before in
-    let spelt = d .any-wrong-by .ensures (a .before .before .before .before .before .before .pre) in
+    let spelt = d .any-wrong-by .ensures ∙ wrong-letters (a .before .before .before .before .before .before .pre) _ in
     sym (walked-refused _ _ _ _ (walk-again (a .loop .inv .1) (t .if1 .taken) (here s) spelt (e .if2 .left) (p .compared .ensures)
     (c .before .wrong3 .given .1)))
 
@@ -92,7 +93,7 @@ loop-again c =
     let a = t .before .before in
     let w = a .loop .inv .1 in
     let z = a .before .before .before .before .before .before in
-    let spelt = d .any-wrong-by .ensures (z .pre) in
+    let spelt = d .any-wrong-by .ensures ∙ wrong-letters (z .pre) _ in
     let fits : length (z .args .stretch .now) < 2 ^ 64 = omega arith in
     let new = ⊎-elim (λ y. walk-new w (t .if1 .taken) (here s) spelt (y .1 .ensures) (y .3 .given .1))
     (λ y. walk-unsuspected w (t .if1 .taken) (here s) spelt (sym (u .suspects .ensures) ∙ y .left)) (c .before .if3 .came) in
