@@ -6,10 +6,10 @@ use Rattle.judged.proofs.judged.Statement.{statement}
 use Rattle.judged.proofs.judged.Tie as tie
 
 abbrev Inv-loop : tie.InvT-loop
-Inv-loop input tally₀ line₀ k₀ tally line k = k ≤ length input
+Inv-loop input tally₀ right₀ left₀ line₀ k₀ tally right left line k = k ≤ length input
 
 abbrev μ-loop : tie.MeasureT-loop
-μ-loop input tally₀ line₀ k₀ tally line k = length input - k
+μ-loop input tally₀ right₀ left₀ line₀ k₀ tally right left line k = length input - k
 
 pub judged-spec : {M : Type 1} → statement M
 judged-spec =
@@ -20,6 +20,10 @@ judged-spec =
     (λ c. search needs)
     (λ c κs. search needs)
     (λ c. search needs)
+    (λ c κs. search needs)
+    (λ c κs. search needs)
+    (λ c. search needs)
+    (λ c κs. search needs)
     (λ c κs. search needs)
     (λ c κs. search needs)
     (λ c κs. search needs)
