@@ -3,7 +3,7 @@
 #include "calls.h"
 
 #include "cerantuh.h"
-#include "paced.h"
+#include "bench_calls.h"
 #include "reference.h"
 #include "yardsticks.h"
 
@@ -23,10 +23,10 @@ FORM(through)
     return cerantuh_search_from(pattern, m, CERANTUH_FRESH_STATE, stretch, len, marks, marks_len, block, block_len);
 }
 FORM(first) { return UNUSED, cerantuh_first(pattern, m, CERANTUH_FRESH_STATE, stretch, len, block, CERANTUH_FIRST_BLOCK); }
-FORM(check) { return UNUSED, paced_check(stretch, len); }
-FORM(card) { return UNUSED, paced_card(pattern, m, stretch, len); }
-FORM(card_ask) { return UNUSED, paced_ask(pattern, m, stretch, len); }
-FORM(card_join_ask) { return UNUSED, paced_join(pattern, m, stretch, len); }
+FORM(check) { return UNUSED, bench_check(stretch, len); }
+FORM(card) { return UNUSED, bench_card(pattern, m, stretch, len); }
+FORM(card_ask) { return UNUSED, bench_ask(pattern, m, stretch, len); }
+FORM(card_join_ask) { return UNUSED, bench_join(pattern, m, stretch, len); }
 
 /* A pattern of the same bases, turned round and each another one, so that long ones end in none of the data: every record of a watch list
    is then looked for in all of the stretch. */
@@ -42,7 +42,7 @@ static uint64_t watch(size_t records, const uint8_t *pattern, size_t m, const ui
 {
     uint8_t other[MOST_BASES];
     absent(pattern, m, other);
-    return paced_watch(other, m, records, stretch, len);
+    return bench_watch(other, m, records, stretch, len);
 }
 FORM(watch_1) { return UNUSED, watch(1, pattern, m, stretch, len); }
 FORM(watch_8) { return UNUSED, watch(8, pattern, m, stretch, len); }

@@ -7,7 +7,7 @@
                                           damaged ones, up to the first file on which they differ */
 #include "calls.h"
 #include "clinic.h"
-#include "paced.h"
+#include "bench_calls.h"
 #include "timing.h"
 #include "yardsticks.h"
 
@@ -27,7 +27,7 @@ struct call {
     const char *name;
     build_form *form;
 };
-static const struct call calls[] = {{"build", paced_build}, {"variants", read_variants}};
+static const struct call calls[] = {{"build", bench_build}, {"variants", read_variants}};
 
 const struct call *call_named(const char *name)
 {

@@ -19,7 +19,7 @@ search_form check_early, check_memcmp, check_prints;
 search_form edsmbv;       /* edsmbv.c: document 001's algorithm, which trusts the bytes */
 search_form floor_memchr; /* floor.c */
 
-/* variants.c: the stretch of a window from a variant file. Called and answered as paced_build is (paced.h): 256 times the bytes of
+/* variants.c: the stretch of a window from a variant file. Called and answered as bench_build is (bench_calls.h): 256 times the bytes of
    the stretch, or the number of the refusal and 256 times its place. */
 uint64_t read_variants(const uint8_t *file, size_t len, const uint8_t *window, size_t bases, size_t first, const uint8_t *name,
                        size_t name_len, uint8_t *out, size_t room);

@@ -1,4 +1,4 @@
-"""The lines of crates/judged_windows/stdin: build FILE WINDOW first NAME room STRETCH, and after = the number of bytes that are written, or
+"""The lines of crates/test_windows/stdin: build FILE WINDOW first NAME room STRETCH, and after = the number of bytes that are written, or
 after ! the number and the place of the refusal. The first lines there say how each word is written."""
 import re
 

@@ -18,8 +18,8 @@ use Rattle.text.specs.Card.{Row, none, row, earliest, union, follow}
 use Rattle.text.proofs.Bits.{bit-shr-test}
 use Rattle.text.proofs.Ends.{earliest-le}
 use Rattle.text.proofs.Rows.{union-cong, earliest-cong}
-use Rattle.rows.specs.Held.{rowOf, rowsIn, Full}
-use Rattle.rows.proofs.Held.{rows-row}
+use Rattle.card.specs.Held.{rowOf, rowsIn, Full}
+use Rattle.card.proofs.RowsHeld.{rows-row}
 use Rattle.card.proofs.Gathered.{gathered, gathered-union, gathered-all, earliest-all}
 
 -- the bits of st below q are followed: `exit` and `first` are what they gave, and `rest` has the others

@@ -22,9 +22,9 @@ use Rattle.text.proofs.Patterns.{SoundPattern, sound-pattern}
 use Rattle.text.proofs.Bits.{bit-first}
 use Rattle.text.proofs.States.{within-low}
 use Rattle.card.specs.declared.cards.Card.{Card as Held}
-use Rattle.rows.specs.Held.{rowOf, rowsIn, Full}
+use Rattle.card.specs.Held.{rowOf, rowsIn, Full}
 use Rattle.card.specs.Cards.{cardIn, isPadded, rowsFrom, IsTest}
-use Rattle.rows.proofs.Held.{rows-length, rows-row}
+use Rattle.card.proofs.RowsHeld.{rows-length, rows-row}
 
 -- a row below m: bit 0 is set in row 0 alone, no bit from m up is, and its first end is in a segment or "none"
 pub row-below : (m n q exit first all : ℕ) → q < m → all ≡ low m → exit < 2 ^ 64

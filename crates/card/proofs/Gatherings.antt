@@ -21,7 +21,7 @@ use Rattle.search.specs.Chain.{stretchesText, Trail, seeks}
 use Rattle.search.proofs.Theorems.{seeks-stretches}
 use Rattle.text.specs.declared.strand.Strand.{Strand}
 use Rattle.card.specs.declared.cards.Card.{Card as Held}
-use Rattle.rows.specs.Held.{rowOf}
+use Rattle.card.specs.Held.{rowOf}
 use Rattle.card.specs.Cards.{cardOut}
 use Rattle.card.specs.Answers.{made}
 use Rattle.card.proofs.Strands.{empty-on}

@@ -14,7 +14,7 @@ use Rattle.card.specs.declared.answers.Made.{Made}
 use Rattle.card.specs.Cards.{cardIn, cardOut}
 use Rattle.card.specs.Answers.{zeroCard, accepted, made}
 use Rattle.card.proofs.Held.{in-out}
-use Rattle.rows.proofs.Numbers.{Numbered, demand-numbered}
+use Rattle.card.proofs.Numbers.{Numbered, demand-numbered}
 use Rattle.card.proofs.Answered.{join-left-malformed, join-right-malformed}
 use Rattle.card.proofs.Calls.{joining, Accepts}
 

@@ -1,8 +1,8 @@
 -- Laws of cards as the calls hold them.
 use mathlib.Core.Path.{_≡_}
 use Rattle.text.specs.Card.{Card}
-use Rattle.rows.specs.Held.{Full}
-use Rattle.rows.proofs.Held.{rows-out, exits-in, firsts-in, even}
+use Rattle.card.specs.Held.{Full}
+use Rattle.card.proofs.RowsHeld.{rows-out, exits-in, firsts-in, even}
 use Rattle.card.specs.declared.cards.Card.{Card as Held}
 use Rattle.card.specs.Cards.{cardIn, cardOut}
 

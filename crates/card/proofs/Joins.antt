@@ -14,9 +14,9 @@ use Rattle.text.proofs.Rows.{map-rows, row-map, through-dead}
 use Rattle.text.proofs.Cards.Formed.{WellFormed}
 use Rattle.text.proofs.Cards.Joined.{Joinable, join-met}
 use Rattle.card.specs.declared.cards.Card.{Card as Held}
-use Rattle.rows.specs.Held.{rowOf, rowsIn, exitsOf, firstsOf, Full}
+use Rattle.card.specs.Held.{rowOf, rowsIn, exitsOf, firstsOf, Full}
 use Rattle.card.specs.Cards.{cardIn, cardOut}
-use Rattle.rows.proofs.Held.{rows-set, exits-in, firsts-in, even, rows-length, rows-row}
+use Rattle.card.proofs.RowsHeld.{rows-set, exits-in, firsts-in, even, rows-length, rows-row}
 use Rattle.card.proofs.Follows.{follow-short}
 
 -- f applied to the rows from row k on

@@ -1,4 +1,16 @@
 -- Laws of the definitions in specs/, and the theorems about the calls.
+pub mod RowsHeld
+pub mod Lones
+pub mod FirstEnds
+pub mod Meets
+pub mod Carries
+pub mod RowSteps
+pub mod RowSegments
+pub mod RowWalks
+pub mod OfStretches
+pub mod Numbers
+pub mod Carded
+pub mod RowsTheorems
 pub mod Tests
 pub mod Held
 pub mod Gathered

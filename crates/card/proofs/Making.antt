@@ -10,11 +10,11 @@ use Rattle.text.specs.declared.strand.Strand.{Strand}
 use Rattle.text.proofs.Patterns.{SoundPattern}
 use Rattle.text.proofs.Strands.{strand-length, read-padded}
 use Rattle.search.proofs.ReadOns.{read-is}
-use Rattle.rows.specs.declared.passes.Rows.{Rows}
-use Rattle.rows.specs.Held.{lones}
-use Rattle.rows.specs.Rows.{carding, rowed}
-use Rattle.rows.proofs.Lones.{exits-lone, firsts-lone}
-use Rattle.rows.proofs.Carded.{Carded, carded, carded-text}
+use Rattle.card.specs.declared.rows.passes.Rows.{Rows}
+use Rattle.card.specs.Held.{lones}
+use Rattle.card.specs.Rows.{carding, rowed}
+use Rattle.card.proofs.Lones.{exits-lone, firsts-lone}
+use Rattle.card.proofs.Carded.{Carded, carded, carded-text}
 use Rattle.card.specs.Cards.{cardOut}
 use Rattle.card.specs.Answers.{emptyOn, cardingOn, accepted, made}
 use Rattle.card.proofs.Strands.{empty-on, carding-on}

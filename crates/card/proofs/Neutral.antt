@@ -12,7 +12,7 @@ use Rattle.text.proofs.Strands.{strand-length, strand-bases}
 use Rattle.text.proofs.Cards.Formed.{well, take-padded}
 use Rattle.text.proofs.Cards.Neutral.{empty-left, empty-right}
 use Rattle.card.specs.declared.cards.Card.{Card as Held}
-use Rattle.rows.specs.Held.{Full}
+use Rattle.card.specs.Held.{Full}
 use Rattle.card.specs.Cards.{cardIn, cardOut}
 use Rattle.card.specs.Answers.{accepted, made}
 use Rattle.card.proofs.Held.{in-out, out-in}

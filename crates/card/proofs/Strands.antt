@@ -14,8 +14,8 @@ use Rattle.text.proofs.Strands.{strand-asked}
 use Rattle.layout.specs.Bytes.{greatestStretch}
 use Rattle.layout.specs.Pieces.{openAt}
 use Rattle.layout.specs.Reading.{stretchOf}
-use Rattle.rows.specs.Rows.{carding}
-use Rattle.rows.proofs.Carded.{Carded}
+use Rattle.card.specs.Rows.{carding}
+use Rattle.card.proofs.Carded.{Carded}
 use Rattle.card.specs.Answers.{emptyOn, cardingOn}
 
 module _ (P : List ℕ) (strand : Strand) where

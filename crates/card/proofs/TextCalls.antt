@@ -35,10 +35,10 @@ use Rattle.search.specs.Answers.{Next}
 use Rattle.search.specs.Chain.{segmentsText, feeds, markOf}
 use Rattle.search.proofs.Entries.{fresh-state}
 use Rattle.search.proofs.Chains.{steps, feeds-steps, steps-marks, steps-states}
-use Rattle.rows.specs.Held.{rowOf}
+use Rattle.card.specs.Held.{rowOf}
 use Rattle.card.specs.Cards.{cardOut}
-use Rattle.rows.specs.Rows.{carding, rowed}
-use Rattle.rows.proofs.Carded.{Carded, carded}
+use Rattle.card.specs.Rows.{carding, rowed}
+use Rattle.card.proofs.Carded.{Carded, carded}
 use Rattle.card.specs.Answers.{accepted, made}
 use Rattle.card.proofs.Held.{in-out}
 use Rattle.card.proofs.Strands.{carding-strand, carded-on}

@@ -23,8 +23,8 @@ use Rattle.layout.specs.Pieces.{mostInStretch}
 use Rattle.search.specs.Chain.{segmentsText, stretchesText, Trail, seeks}
 use Rattle.text.specs.declared.strand.Strand.{Strand}
 use Rattle.card.specs.declared.cards.Card.{Card as Held}
-use Rattle.rows.specs.Held.{rowOf, Full}
-use Rattle.rows.proofs.Carded.{Carded}
+use Rattle.card.specs.Held.{rowOf, Full}
+use Rattle.card.proofs.Carded.{Carded}
 use Rattle.card.specs.Cards.{cardIn, cardOut}
 use Rattle.card.specs.Answers.{accepted, made}
 use Rattle.card.proofs.Strands

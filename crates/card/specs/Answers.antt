@@ -6,7 +6,7 @@ use Rattle.text.specs.Refusal.{Outcome, ok, refused, greatestPattern, pattern, 
 use Rattle.text.specs.Card.{Row, Card, empty}
 use Rattle.text.specs.Strand.{onStrand}
 use Rattle.text.specs.declared.strand.Strand.{Strand}
-use Rattle.rows.specs.Rows.{carding}
+use Rattle.card.specs.Rows.{carding}
 use Rattle.card.specs.declared.cards.Card.{Card as Held}
 use Rattle.card.specs.declared.answers.Made.{Made}
 use Rattle.card.specs.declared.answers.Asked.{Asked}

@@ -9,7 +9,7 @@ use Rattle.text.specs.Letter.{base, every}
 use Rattle.text.specs.Compare.{same}
 use Rattle.text.specs.Refusal.{greatestPattern}
 use Rattle.text.specs.Card.{Row, Card, padded, areRows}
-use Rattle.rows.specs.Held.{rowOf, rowsIn, exitsOf, firstsOf}
+use Rattle.card.specs.Held.{rowOf, rowsIn, exitsOf, firstsOf}
 use Rattle.card.specs.declared.cards.Card.{Card as Held}
 use Rattle.card.specs.declared.follow.Row.{Row as Pair}
 

@@ -1,10 +1,10 @@
 // Following: what the rows of a card make of a state.
 use crate::cards::Card;
-use rows::earlier;
+use crate::rows::earlier;
 ghost use mathlib.Core.Path.{_≡_};
 ghost use Rattle.text.specs.Refusal.{greatestPattern};
 ghost use Rattle.text.specs.Card.{follow};
-ghost use Rattle.rows.specs.Held.{rowsIn, Full};
+ghost use Rattle.card.specs.Held.{rowsIn, Full};
 ghost use Rattle.card.specs.Cards.{rowIn};
 
 // The state that leaves, and the first end.

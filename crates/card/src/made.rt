@@ -1,7 +1,7 @@
 // The card of two neighbours, as it is made.
 use crate::cards::Card;
 use crate::follow::follow;
-use rows::earlier;
+use crate::rows::earlier;
 ghost use mathlib.Core.Path.{_≡_};
 ghost use Rattle.text.specs.Refusal.{ok};
 ghost use Rattle.text.specs.Card.{later, join, joined};

@@ -12,7 +12,7 @@ ghost use lib.ListN.{length};
 ghost use Rattle.text.specs.Bits.{low};
 ghost use Rattle.text.specs.Refusal.{greatestPattern};
 ghost use Rattle.text.specs.Card.{isRow, areRows, wellFormed, samePattern};
-ghost use Rattle.rows.specs.Held.{rowOf, rowsIn, Full};
+ghost use Rattle.card.specs.Held.{rowOf, rowsIn, Full};
 ghost use Rattle.card.specs.Cards.{cardIn, isPadded, IsTest};
 
 // Whether the first m of 64 bytes are a pattern, and the others 0.

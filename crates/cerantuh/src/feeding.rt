@@ -1,9 +1,9 @@
 // The feed for C.
-use forms::feed;
+use crate::forms::feed;
 use text::strand::Strand;
 ghost use mathlib.Core.Path.{_≡_};
 ghost use Rattle.text.specs.declared.strand.Strand.the-variants.{Given, Opposite};
-ghost use Rattle.forms.specs.Forms.{feedAnswer, feedBlock};
+ghost use Rattle.cerantuh.specs.Forms.{feedAnswer, feedBlock};
 
 // The feed of the pattern as given.
 #[no_mangle]

@@ -1,10 +1,10 @@
 // The first hit for C: whether a stretch is clear, and if not, in which segment an occurrence ends first. What stands behind the hit is
 // not read. The stretches of a text are asked in order, the state behind each clear one handed to the next.
-use forms::first_hit;
+use crate::forms::first_hit;
 use text::strand::Strand;
 ghost use mathlib.Core.Path.{_≡_};
 ghost use Rattle.text.specs.declared.strand.Strand.the-variants.{Given, Opposite};
-ghost use Rattle.forms.specs.Forms.{firstAnswer, firstBlock};
+ghost use Rattle.cerantuh.specs.Forms.{firstAnswer, firstBlock};
 
 // The first hit of the pattern as given, from a state.
 #[no_mangle]

@@ -1,10 +1,10 @@
 // The search of a stretch from a state, for C: a text of many stretches is searched one after another, the state behind each handed to the
 // next, so that nothing is lost at a cut.
-use forms::search_from;
+use crate::forms::search_from;
 use text::strand::Strand;
 ghost use mathlib.Core.Path.{_≡_};
 ghost use Rattle.text.specs.declared.strand.Strand.the-variants.{Given, Opposite};
-ghost use Rattle.forms.specs.Forms.{fromAnswer, fromMarks, fromBlock};
+ghost use Rattle.cerantuh.specs.Forms.{fromAnswer, fromMarks, fromBlock};
 
 // The search of the pattern as given, from a state.
 #[no_mangle]

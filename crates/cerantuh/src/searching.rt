@@ -1,13 +1,13 @@
 // The searches for C.
-use forms::Search;
-use forms::search_either;
-use forms::search_strand;
+use crate::forms::Search;
+use crate::forms::search_either;
+use crate::forms::search_strand;
 use text::strand::Strand;
 ghost use mathlib.Core.Path.{_≡_};
 ghost use Rattle.text.specs.Strand.{opposite};
 ghost use Rattle.search.specs.Answers.{sumsOf, marked};
 ghost use Rattle.search.specs.Either.{eitherMarks, eitherSums};
-ghost use Rattle.forms.specs.Forms.{searchAnswer, searchMarks, searchBlock};
+ghost use Rattle.cerantuh.specs.Forms.{searchAnswer, searchMarks, searchBlock};
 
 // The search by bit-vectors.
 #[no_mangle]

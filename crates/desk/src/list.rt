@@ -1,8 +1,8 @@
 // The list of sequences: whether every line of it is right.
 use crate::tell::say;
 use crate::tell::tell_fault;
-use withheld::Line;
-use withheld::line_at;
+use desk_list::Line;
+use desk_list::line_at;
 
 // The most sequences of a list.
 pub const MOST: usize = 32;

@@ -3,13 +3,13 @@ use crate::list::MOST;
 use crate::tell::tell_hit;
 use crate::tell::tell_hits;
 use crate::tell::tell_refused;
+use desk_verdict::Passed;
+use desk_verdict::Standing;
+use desk_verdict::Stopped;
+use desk_verdict::pass;
+use desk_verdict::pass_first;
 use text::Refusal;
 use text::refusal;
-use verdict::Passed;
-use verdict::Standing;
-use verdict::Stopped;
-use verdict::pass;
-use verdict::pass_first;
 
 // Where each sequence stands, and whether every file so far was read and accepted, and every line written. Of a night to the first ends:
 // that it is one, whether all sequences have ended, and what is wrong with the file, number 0 if nothing is.

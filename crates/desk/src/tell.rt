@@ -1,15 +1,15 @@
 // What is written: lines on standard output, those that decide on descriptor 3 too, and words and progress on standard error.
-use said::put_done;
-use said::put_fault;
-use said::put_hit;
-use said::put_last;
-use said::put_refused;
-use said::put_standing;
-use said::put_unread;
+use desk_list::Fault;
+use desk_verdict::Standing;
+use desk_verdict::next_marked;
+use desk_verdict::said::put_done;
+use desk_verdict::said::put_fault;
+use desk_verdict::said::put_hit;
+use desk_verdict::said::put_last;
+use desk_verdict::said::put_refused;
+use desk_verdict::said::put_standing;
+use desk_verdict::said::put_unread;
 use text::Refusal;
-use verdict::Standing;
-use verdict::next_marked;
-use withheld::Fault;
 
 // Room for a line with a file's name, the longest of which has 4,096 bytes.
 const LINE: usize = 4352;

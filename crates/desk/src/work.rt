@@ -12,13 +12,13 @@ use crate::tell::tell_last;
 use crate::tell::tell_refused;
 use crate::tell::tell_standing;
 use crate::tell::tell_unread;
+use desk_list::Line;
+use desk_list::line_at;
+use desk_list::part;
+use desk_verdict::Standing;
+use desk_verdict::plus;
 use text::Refusal;
 use text::refusal;
-use verdict::Standing;
-use verdict::plus;
-use withheld::Line;
-use withheld::line_at;
-use withheld::part;
 
 // How far the list has been gone through: the place, and the number of the sequence there.
 struct Step {

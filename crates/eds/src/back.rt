@@ -1,7 +1,7 @@
 // A stretch back to braces.
 use crate::messages::write_front;
-use braces::Braced;
-use braces::put_braces;
+use eds_notation::Braced;
+use eds_notation::put_braces;
 use text::refusal;
 
 // Prints the braces of the stretch on standard input on a line, or its refusal.

@@ -2,14 +2,14 @@
 use crate::files::make_stretch;
 use crate::messages::say;
 use crate::messages::say_wrong;
-use braces::Filled;
-use braces::Place;
-use braces::Step;
-use braces::Tape;
-use braces::cut;
-use braces::finish;
-use braces::read_on;
-use braces::write_closed;
+use eds_notation::Filled;
+use eds_notation::Place;
+use eds_notation::Step;
+use eds_notation::Tape;
+use eds_notation::cut;
+use eds_notation::finish;
+use eds_notation::read_on;
+use eds_notation::write_closed;
 use stretch::Written;
 use text::refusal;
 

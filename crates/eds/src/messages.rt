@@ -1,5 +1,5 @@
 // The lines that the program prints.
-use braces::Place;
+use eds_notation::Place;
 use lines::put_line;
 
 // Writes the first n of these bytes to standard output, where there are so many.

@@ -1,24 +1,24 @@
 // The calls on cards, as the lines give them. There is a left card and a right one; `make` puts a new one on the right.
 use card::Card;
 use card::Made;
-use examples::pattern;
-use examples::strand;
-use notation::number;
-use notation::word;
-use places::number_at;
-use places::part;
 use search::State;
-use tally::Answer;
-use tally::Tally;
-use tally::asked;
-use tally::held;
-use tally::row;
+use test_examples::notation::number;
+use test_examples::notation::word;
+use test_examples::pattern;
+use test_examples::strand;
+use test_reference::places::number_at;
+use test_reference::places::part;
+use test_tally::Answer;
+use test_tally::Tally;
+use test_tally::asked;
+use test_tally::held;
+use test_tally::row;
 use text::refusal::Refusal;
 
 // PATTERN STRETCH: the card of a stretch, or of no segments where it is a dash.
 pub fn of(line: &[u8]) -> Made {
     let mut bytes = [0u8; Card::GREATEST_STRETCH + 1];
-    let n = notation::stretch(&mut bytes, word(line, 2), 2);
+    let n = test_examples::notation::stretch(&mut bytes, word(line, 2), 2);
     let p = pattern(line);
     let strand = strand(line);
     if n == 0 {

@@ -1,14 +1,14 @@
 // The calls on watch lists, as the lines give them.
-use lent::List;
-use notation::number;
-use notation::raw;
-use notation::word;
-use places::part;
 use std::num::wrapping_add_usize;
-use tally::Answer;
-use tally::found;
-use tally::held;
-use tally::listed;
+use test_examples::notation::number;
+use test_examples::notation::raw;
+use test_examples::notation::word;
+use test_lists::List;
+use test_reference::places::part;
+use test_tally::Answer;
+use test_tally::found;
+use test_tally::held;
+use test_tally::listed;
 
 // A list with one record more, of a raw word. Its label is 100 more than its number.
 fn with(list: List, word: &[u8]) -> List {
@@ -47,7 +47,7 @@ fn ticked(line: &[u8], text: &[u8]) -> Answer {
 // The answer of known or ticked.
 pub fn answer(call: usize, line: &[u8]) -> Answer {
     let mut bytes = [0u8; 40000];
-    let n = notation::stretch(&mut bytes, word(line, 1), 2);
+    let n = test_examples::notation::stretch(&mut bytes, word(line, 1), 2);
     match call {
         107 => known(line, part(&bytes, 0, n)),
         _ => ticked(line, part(&bytes, 0, n)),

@@ -9,14 +9,14 @@ mod writes;
 
 use card::Card;
 use card::Made;
-use examples::Line;
-use examples::call;
-use examples::tell;
-use examples::wanted;
-use notation::number;
-use places::part;
-use tally::Answer;
-use tally::Tally;
+use test_examples::Line;
+use test_examples::call;
+use test_examples::notation::number;
+use test_examples::tell;
+use test_examples::wanted;
+use test_reference::places::part;
+use test_tally::Answer;
+use test_tally::Tally;
 use text::strand::Strand;
 
 // The answer of a call, which is known by its first letter. A line of no known call has none that is right.

@@ -1,9 +1,9 @@
 // The reads, as the lines give them.
-use notation::number;
-use notation::word;
-use tally::Answer;
-use tally::got;
-use tally::held;
+use test_examples::notation::number;
+use test_examples::notation::word;
+use test_tally::Answer;
+use test_tally::got;
+use test_tally::held;
 
 // read STRETCH segment variant LETTERS = start segment variant: from a plain place.
 pub fn read(line: &[u8], text: &[u8]) -> Answer {

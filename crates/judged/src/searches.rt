@@ -1,15 +1,15 @@
 // The calls on patterns and states, as the lines give them.
-use examples::pattern;
-use examples::strand;
-use notation::number;
-use notation::raw;
-use notation::word;
-use places::part;
 use search::State;
-use tally::Answer;
-use tally::fed;
-use tally::held;
-use tally::searched;
+use test_examples::notation::number;
+use test_examples::notation::raw;
+use test_examples::notation::word;
+use test_examples::pattern;
+use test_examples::strand;
+use test_reference::places::part;
+use test_tally::Answer;
+use test_tally::fed;
+use test_tally::held;
+use test_tally::searched;
 
 // The state that is the word of that number.
 fn state(line: &[u8], k: usize) -> State {
@@ -21,7 +21,7 @@ fn state(line: &[u8], k: usize) -> State {
 // feed PATTERN state SEGMENT = state ends
 pub fn feed(line: &[u8]) -> Answer {
     let mut bytes = [0u8; 40000];
-    let n = notation::stretch(&mut bytes, word(line, 3), 0);
+    let n = test_examples::notation::stretch(&mut bytes, word(line, 3), 0);
     let next = state(line, 2).feed(pattern(line), strand(line), part(&bytes, 0, n));
     fed(next)
 }
@@ -45,7 +45,7 @@ fn search_into(marks: &mut [u8], call: usize, line: &[u8], text: &[u8]) -> Answe
 // search PATTERN STRETCH MARKS = segments size ends, and united: into eight marks, each 7 before.
 pub fn sought(call: usize, line: &[u8]) -> Answer {
     let mut bytes = [0u8; 40000];
-    let n = notation::stretch(&mut bytes, word(line, 2), 2);
+    let n = test_examples::notation::stretch(&mut bytes, word(line, 2), 2);
     let mut left = [7u8; 8];
     raw(&mut left, word(line, 3));
     let mut marks = [7u8; 8];

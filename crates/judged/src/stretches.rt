@@ -1,15 +1,15 @@
 // Checks, reads and writes, as the lines give them.
 use crate::reads;
 use crate::writes;
-use notation::word;
-use places::part;
-use tally::Answer;
-use tally::checked;
+use test_examples::notation::word;
+use test_reference::places::part;
+use test_tally::Answer;
+use test_tally::checked;
 
 // Puts the stretch of a line, which is its first word, or its last one for a write, and tells how many bytes it has.
 fn put_stretch(out: &mut [u8], call: usize, line: &[u8]) -> usize {
     let k = if call == 119 { 5 } else { 1 };
-    notation::stretch(&mut *out, word(line, k), 2)
+    test_examples::notation::stretch(&mut *out, word(line, k), 2)
 }
 
 // The answer of check, read or write; R is a read done the other way.

@@ -15,7 +15,7 @@ use Rattle.search.specs.Answers.{Sums, searching, toldSearched}
 use Rattle.search.specs.declared.searching.Searched.{Searched}
 use Rattle.search.specs.declared.searching.Searched.the-variants.{Marked, Refused}
 use Rattle.layout.specs.Pieces.{mostInStretch}
-use Rattle.input.specs.Input.{patternIn, stretchIn}
+use Rattle.lines.specs.Input.{patternIn, stretchIn}
 use Rattle.lines.specs.Puts.{Put}
 use Rattle.lines.specs.Screening.{sumsOn, marksOn}
 use Rattle.lines.specs.Answer.{textLines, refusalLine, answerLines, linesOf}

@@ -22,7 +22,7 @@ use Rattle.layout.proofs.Decoding.{stretch-read}
 use Rattle.layout.proofs.Stretches.{segment-steps, stretch-most}
 use Rattle.layout.proofs.Refusals.{stretch-low}
 use Rattle.search.specs.Answers.{into, stretchInto, searching}
-use Rattle.input.specs.Input.{patternIn, stretchIn}
+use Rattle.lines.specs.Input.{patternIn, stretchIn}
 use Rattle.lines.specs.Decimal.{digits, line}
 use Rattle.lines.specs.Answer.{segmentsWord, sizeWord, endsWord, endWord, firstWord, atWord, markedFrom, endLines, firstLine}
 use Rattle.lines.specs.Answer.{textLines, refusalLine, answerLines, screening, linesOf, mostBytes}

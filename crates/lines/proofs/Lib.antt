@@ -1,4 +1,5 @@
 -- Laws of the definitions in specs/.
+pub mod Inputs
 pub mod Putting
 pub mod FileNames
 pub mod Digits

@@ -13,7 +13,7 @@ use Rattle.text.specs.Text.{Text, size}
 use Rattle.text.specs.Refusal.{ok, refused}
 use Rattle.layout.specs.Pieces.{mostInStretch}
 use Rattle.search.specs.Answers.{Sums}
-use Rattle.input.specs.Input.{patternIn, stretchIn}
+use Rattle.lines.specs.Input.{patternIn, stretchIn}
 use Rattle.lines.specs.Decimal.{digit, digits, line}
 use Rattle.lines.specs.Answer.{segmentsWord, sizeWord, endsWord, noneLine, markedFrom, endLines, firstLine, textLines}
 use Rattle.lines.specs.Answer.{refusalLine, answerLines, screening, linesOf}

@@ -7,7 +7,7 @@ use Rattle.text.specs.Text.{Text}
 use Rattle.text.specs.Refusal.{Outcome, ok, refused}
 use Rattle.layout.specs.Pieces.{mostInStretch}
 use Rattle.search.specs.Answers.{Sums, searching}
-use Rattle.input.specs.Input.{patternIn, stretchIn}
+use Rattle.lines.specs.Input.{patternIn, stretchIn}
 use Rattle.lines.specs.Decimal.{digits, line}
 use Rattle.lines.specs.Screening.{sumsOn, marksOn}
 use Rattle.lines.specs.declared.strands.Strands.{Strands}

@@ -1,11 +1,11 @@
 // The lines of what a search answers.
+use crate::input::pattern_in;
+use crate::input::stretch_in;
 use crate::put::put_bytes;
 use crate::put::put_line;
 use crate::put::put_number;
 use crate::strands::Strands;
 use crate::strands::search_on;
-use input::pattern_in;
-use input::stretch_in;
 use search::Searched;
 use text::Refusal;
 use text::refusal;

@@ -24,8 +24,8 @@ use crate::walk::step;
 use crate::words::REFERENCE;
 use crate::words::VARIANTS;
 use crate::words::tell;
+use desk_list::part;
 use lines::put_line;
-use withheld::part;
 
 // What was done, on standard output: how many stretches, bases, records of the chromosome and records of others.
 fn tell_done(walk: Walk) {

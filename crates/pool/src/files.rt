@@ -1,10 +1,10 @@
 // The files of a text: those of its stretches, and the one with their names.
 use crate::words::TEXT;
 use crate::words::tell;
+use desk_list::part;
 use lines::is_numbered;
 use lines::put_bytes;
 use lines::put_numbered;
-use withheld::part;
 
 // Room for a path that is too long too, so that none is cut to another file's.
 const ROOM: usize = 8192;

@@ -9,15 +9,15 @@ use crate::walk::cut_window;
 use crate::walk::next_position;
 use crate::words::tell_line;
 use crate::words::tell_record;
-use clinic::Fit;
+use desk_list::part;
 use lines::put_bytes;
+use pool_files::Fit;
 use stretch::Written;
 use text::compare::alike;
 use text::refusal;
 use vcf::build;
 use vcf::field;
 use vcf::position::position;
-use withheld::part;
 
 // A line of so few bytes needs a stretch of fewer than these: an allele has two bytes more than letters, and at least one.
 const SHORT_LINE: usize = 256;

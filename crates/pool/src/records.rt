@@ -4,13 +4,13 @@ use crate::source::next_piece;
 use crate::words::VARIANTS;
 use crate::words::tell;
 use crate::words::tell_line;
-use clinic::Come;
-use clinic::Line;
-use clinic::read_line;
+use desk_list::part;
 use lines::put_bytes;
+use pool_files::Come;
+use pool_files::Line;
+use pool_files::read_line;
 use text::compare::prefix;
 use vcf::heading;
-use withheld::part;
 
 // How many bytes the heading has, with its line feed.
 pub const HEADING: usize = 20;

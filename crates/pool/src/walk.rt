@@ -10,14 +10,14 @@ use crate::words::REFERENCE;
 use crate::words::say;
 use crate::words::say_number;
 use crate::words::tell;
-use braces::Place;
-use clinic::Held;
-use clinic::Reading;
+use desk_list::part;
+use eds_notation::Place;
+use pool_files::Held;
+use pool_files::Reading;
 use stretch::Written;
 use text::Refusal;
 use text::refusal;
 use vcf::build;
-use withheld::part;
 
 // One buffer has the window's bases and, from this place on, the heading and its records' lines in short.
 pub const LINES: usize = refusal::GREATEST_STRETCH;

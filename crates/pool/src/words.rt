@@ -1,10 +1,10 @@
 // What is said on standard error: file, line and reason. Files are named as the command line names them.
+use desk_list::part;
 use lines::put_bytes;
 use lines::put_number;
 use text::Refusal;
 use text::refusal;
 use vcf::field;
-use withheld::part;
 
 // The words of the command line: the reference, the chromosome, the variant file and the name of the text.
 pub const REFERENCE: usize = 1;

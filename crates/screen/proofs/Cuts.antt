@@ -11,7 +11,7 @@ use Rattle.layout.specs.Bytes.{greatestStretch}
 use Rattle.layout.specs.Pieces.{mostInStretch}
 use Rattle.layout.proofs.Stretches.{stretch-long}
 use Rattle.search.specs.Answers.{into, searching}
-use Rattle.input.specs.Input.{announced, patternIn, stretchIn, mostRead}
+use Rattle.lines.specs.Input.{announced, patternIn, stretchIn, mostRead}
 use Rattle.lines.specs.Puts.{Put}
 use Rattle.lines.specs.Answer.{answerLines, linesOf, mostBytes}
 use Rattle.lines.proofs.Putting.{put-all}

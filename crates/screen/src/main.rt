@@ -8,7 +8,7 @@ use text::strand::Strand;
 ghost use Prim.Native.Nat.{_≤_};
 ghost use lib.ListN.{length};
 ghost use Rattle.io.specs.Counts.{Counts};
-ghost use Rattle.input.specs.Input.{mostRead};
+ghost use Rattle.lines.specs.Input.{mostRead};
 ghost use Rattle.lines.specs.Answer.{mostBytes};
 ghost use Rattle.screen.specs.Screened.{Screened};
 
@@ -35,7 +35,7 @@ fn main() {
     match strands_asked() {
         Named::Unknown => {}
         Named::Are(strands) => {
-            let mut bytes = [0u8; input::MOST_READ];
+            let mut bytes = [0u8; lines::input::MOST_READ];
             let mut out = [0u8; lines::MOST_BYTES];
             let n = io::read_full(0, &mut bytes);
             let end = screen(strands, &bytes, n, &mut out);

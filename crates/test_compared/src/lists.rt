@@ -2,19 +2,19 @@
 // Prints how often, and the first difference.
 mod lists;
 
-use cases::STRETCHES;
-use cases::put_stretch;
-use cases::seed_of;
-use drawn::seed;
-use places::part;
-use tally::Tally;
-use tally::report;
+use test_random::STRETCHES;
+use test_random::drawn::seed;
+use test_random::put_stretch;
+use test_random::seed_of;
+use test_reference::places::part;
+use test_tally::Tally;
+use test_tally::report;
 
 // The stretch of a tally's number, and a list of patterns for its text.
 fn case(tally: Tally) -> Tally {
     let number = tally.at;
     let mut bytes = [0u8; 2048];
-    let n = drawn::text(&mut bytes, seed_of(number));
+    let n = test_random::drawn::text(&mut bytes, seed_of(number));
     let text = part(&bytes, 0, n);
     let mut stretch = [0u8; 2048];
     let k = put_stretch(&mut stretch, text, number);

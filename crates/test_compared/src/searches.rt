@@ -3,16 +3,16 @@
 mod groups;
 mod searches;
 
-use cases::CASES;
-use cases::Case;
-use cases::STRETCHES;
-use cases::is_damaged;
-use places::part;
-use straight::Ran;
-use straight::Verdict;
-use straight::run;
-use tally::Tally;
-use tally::report;
+use test_random::CASES;
+use test_random::Case;
+use test_random::STRETCHES;
+use test_random::is_damaged;
+use test_reference::Ran;
+use test_reference::Verdict;
+use test_reference::places::part;
+use test_reference::run;
+use test_tally::Tally;
+use test_tally::report;
 
 // What was seen of a case.
 fn seen(tally: Tally, verdict: Verdict, found: Ran) -> Tally {

@@ -3,12 +3,12 @@
 mod cuts;
 mod feeds;
 
-use cases::CASES;
-use cases::Case;
-use places::part;
-use straight::run;
-use tally::Tally;
-use tally::report;
+use test_random::CASES;
+use test_random::Case;
+use test_reference::places::part;
+use test_reference::run;
+use test_tally::Tally;
+use test_tally::report;
 
 // The case of a tally's number. Only a text that is accepted is cut.
 fn case(tally: Tally) -> Tally {

@@ -3,13 +3,13 @@
 mod both;
 mod pairs;
 
-use cases::CASES;
-use cases::Case;
-use cases::STRETCHES;
-use places::part;
-use straight::run;
-use tally::Tally;
-use tally::report;
+use test_random::CASES;
+use test_random::Case;
+use test_random::STRETCHES;
+use test_reference::places::part;
+use test_reference::run;
+use test_tally::Tally;
+use test_tally::report;
 
 // The group of the searches.
 pub const EITHER: usize = 0;

@@ -3,15 +3,15 @@
 mod reads;
 mod writes;
 
-use cases::Case;
-use cases::STRETCHES;
-use cases::is_damaged;
-use places::part;
-use straight::Verdict;
-use tally::Answer;
-use tally::Tally;
-use tally::checked;
-use tally::report;
+use test_random::Case;
+use test_random::STRETCHES;
+use test_random::is_damaged;
+use test_reference::Verdict;
+use test_reference::places::part;
+use test_tally::Answer;
+use test_tally::Tally;
+use test_tally::checked;
+use test_tally::report;
 
 // The group of the checks.
 const CHECKS: usize = 0;
@@ -40,7 +40,7 @@ fn case(tally: Tally) -> Tally {
     let case = Case::of(tally.at);
     let bytes = case.bytes;
     let stretch = part(&bytes, 0, case.n);
-    compare(tally, stretch, straight::stretch(stretch))
+    compare(tally, stretch, test_reference::stretch(stretch))
 }
 
 // All stretches.

@@ -10,8 +10,8 @@ use Rattle.stretch.specs.Answers.{toldWritten}
 use Rattle.writer.specs.Answers.{written}
 use Rattle.layout.specs.Bytes.{leftBy}
 use Rattle.stretch.specs.declared.writing.Written.the-variants.{Bytes}
-use Rattle.survey.specs.Building.{windowText, building}
-use Rattle.survey.specs.Surveys.{Built}
+use Rattle.vcf.specs.Building.{windowText, building}
+use Rattle.vcf.specs.Surveys.{Built}
 
 pub build-leaves :
     {file window : List ℕ} {p : ℕ} {name : List ℕ} {bytes segments start kept : ℕ} →

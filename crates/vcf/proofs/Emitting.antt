@@ -17,11 +17,11 @@ use Rattle.layout.proofs.Lengths.{length-variant}
 use Rattle.layout.specs.Encoding.{bytesOf, encodeVariant, encodeSegment}
 use Rattle.layout.proofs.Overs.{Emitted, emitted-none, emitted-length, emitted-room, emitted-more, emitted-end}
 use Rattle.layout.proofs.Overs.{over-none, over-set, over-over, put-over}
-use Rattle.records.specs.Pieces.{pieces, endOf, Ends}
-use Rattle.records.specs.Records.{none, alternates}
+use Rattle.vcf.specs.Pieces.{pieces, endOf, Ends}
+use Rattle.vcf.specs.Records.{none, alternates}
 use Rattle.vcf.specs.Emission.{gapOf}
-use Rattle.records.proofs.Marks.{cut-next, cut-last}
-use Rattle.records.proofs.Meant.{comma-ends, comma-count, none-meant}
+use Rattle.vcf.proofs.Marks.{cut-next, cut-last}
+use Rattle.vcf.proofs.Meant.{comma-ends, comma-count, none-meant}
 
 -- a piece is put whole: where the next one begins
 pub emitted-place :

@@ -13,10 +13,10 @@ use Rattle.text.proofs.Truth.{and-left, and-right}
 use Rattle.layout.specs.Bytes.{wordBytes}
 use Rattle.layout.specs.Encoding.{bytesOf, encode}
 use Rattle.writer.specs.Putting.{once, putting}
-use Rattle.records.specs.Pieces.{lines}
-use Rattle.records.specs.Records.{heading, position, reference, behind, isRecord, placed, outside, agrees, passedOver, comment, fitting}
-use Rattle.records.specs.Records.{records, noted}
-use Rattle.survey.specs.Building.{gap, textFrom, building}
+use Rattle.vcf.specs.Pieces.{lines}
+use Rattle.vcf.specs.Records.{heading, position, reference, behind, isRecord, placed, outside, agrees, passedOver, comment, fitting}
+use Rattle.vcf.specs.Records.{records, noted}
+use Rattle.vcf.specs.Building.{gap, textFrom, building}
 
 -- records that are right wherever they lie: each is a sound one of the chromosome of that name, and begins not before `from`, where the one
 -- before it ends

@@ -19,10 +19,10 @@ use Rattle.writer.specs.Putting.{formedSegment}
 use Rattle.text.proofs.Spellings.{Filled}
 use Rattle.layout.proofs.Rows.{all-append}
 use Rattle.writer.proofs.RoundTrips.{some-variants}
-use Rattle.records.specs.Pieces.{pieces}
-use Rattle.records.specs.Records.{field, position, reference, alts, alternates, behind, allele, alternatesSound, isRecord}
-use Rattle.survey.specs.Building.{gap, textFrom}
-use Rattle.records.proofs.Kept.{Kept}
+use Rattle.vcf.specs.Pieces.{pieces}
+use Rattle.vcf.specs.Records.{field, position, reference, alts, alternates, behind, allele, alternatesSound, isRecord}
+use Rattle.vcf.specs.Building.{gap, textFrom}
+use Rattle.vcf.proofs.Kept.{Kept}
 
 -- alleles are letters in upper case once they are raised
 allele-capitals : (v : Variant) → allele v ≡ true → every capital (meant v) ≡ true

@@ -12,11 +12,11 @@ use borrow.Author.Tests.{lt-ltb, le-ltb}
 use Rattle.text.specs.Text.{Variant, Text}
 use Rattle.text.specs.Occurrence.{Spells}
 use Rattle.layout.specs.Bytes.{part}
-use Rattle.records.specs.Records.{position, reference, alts, behind}
-use Rattle.survey.specs.Building.{gap, textFrom}
+use Rattle.vcf.specs.Records.{position, reference, alts, behind}
+use Rattle.vcf.specs.Building.{gap, textFrom}
 use Rattle.vcf.specs.Haplotypes.{Haplotype}
-use Rattle.records.proofs.Windows.{agrees-inside, agrees-stands}
-use Rattle.records.proofs.Kept.{Kept}
+use Rattle.vcf.proofs.Windows.{agrees-inside, agrees-stands}
+use Rattle.vcf.proofs.Kept.{Kept}
 
 -- h begins with v, and U spells the rest
 abbrev Behind : List ℕ → Text → List ℕ → Type 0

@@ -1,4 +1,16 @@
 -- Laws of the definitions in specs/, and the theorems about the call.
+pub mod Marks
+pub mod Meant
+pub mod Digits
+pub mod Alleles
+pub mod Windows
+pub mod Kept
+pub mod RecordsTheorems
+pub mod SurveyTheorems
+pub mod Tallying
+pub mod Scanning
+pub mod Verdicts
+pub mod Checks
 pub mod Theorems
 pub mod Emitting
 pub mod Lines

@@ -19,17 +19,17 @@ use Rattle.layout.specs.Bytes.{wordBytes, over, part}
 use Rattle.layout.specs.Encoding.{all, bytesOf, encodeSegment, encode}
 use Rattle.layout.proofs.Rows.{bytes-append}
 use Rattle.layout.proofs.Overs.{Emitted, emitted-none, emitted-length, emitted-room, emitted-more, emitted-end, over-none, over-over}
-use Rattle.records.specs.Pieces.{pieces, lines, Ends, nextLine}
-use Rattle.records.specs.Records.{allele, alternates, alternatesSound, beyond, field, position, reference, alts, behind, isRecord}
-use Rattle.records.specs.Records.{outside, agrees, passedOver, comment, fitting, idle, records, touching}
-use Rattle.records.specs.Records.{placed}
-use Rattle.survey.specs.Building.{gap, textFrom, windowText}
-use Rattle.survey.specs.Surveys.{Readable}
+use Rattle.vcf.specs.Pieces.{pieces, lines, Ends, nextLine}
+use Rattle.vcf.specs.Records.{allele, alternates, alternatesSound, beyond, field, position, reference, alts, behind, isRecord}
+use Rattle.vcf.specs.Records.{outside, agrees, passedOver, comment, fitting, idle, records, touching}
+use Rattle.vcf.specs.Records.{placed}
+use Rattle.vcf.specs.Building.{gap, textFrom, windowText}
+use Rattle.vcf.specs.Surveys.{Readable}
 use Rattle.vcf.specs.Emission.{gapOf, lineText, lineBase, lineLeft, Lies, Placing}
-use Rattle.records.proofs.Marks.{lines-next, lines-none, next-behind}
-use Rattle.records.proofs.Meant.{alternates-meant}
-use Rattle.survey.proofs.Scanning.{nothing-in}
-use Rattle.records.proofs.Windows.{placed-small, outside-capped, outside-some, agrees-inside}
+use Rattle.vcf.proofs.Marks.{lines-next, lines-none, next-behind}
+use Rattle.vcf.proofs.Meant.{alternates-meant}
+use Rattle.vcf.proofs.Scanning.{nothing-in}
+use Rattle.vcf.proofs.Windows.{placed-small, outside-capped, outside-some, agrees-inside}
 
 abbrev pub bytes : Text → List ℕ
 bytes T = bytesOf encodeSegment T

@@ -33,12 +33,12 @@ use Rattle.layout.proofs.Encoding.{standing-encoded}
 use Rattle.stretch.proofs.ReadsOnward.{reads-as}
 use Rattle.writer.proofs.RoundTrips.{as-written, putting-writable}
 use Rattle.layout.proofs.Theorems.{writable-accepted}
-use Rattle.records.specs.Pieces.{lines}
-use Rattle.records.specs.Records.{records, touching, noted}
-use Rattle.records.specs.Records.{heading, placed}
-use Rattle.survey.specs.Building.{textFrom, windowText, building}
+use Rattle.vcf.specs.Pieces.{lines}
+use Rattle.vcf.specs.Records.{records, touching, noted}
+use Rattle.vcf.specs.Records.{heading, placed}
+use Rattle.vcf.specs.Building.{textFrom, windowText, building}
 use Rattle.vcf.specs.Haplotypes.{Haplotype}
-use Rattle.records.proofs.Kept.{Kept, kept, kept-records, records-refused}
+use Rattle.vcf.proofs.Kept.{Kept, kept, kept-records, records-refused}
 use Rattle.vcf.proofs.Formed.{text-formed, formed-filled}
 use Rattle.vcf.proofs.Haplotypes.{spelt, reference-spelt}
 use Rattle.vcf.proofs.EmptyWindows.{Sound, sound-only, nothing-encoded, nothing-put, some-placed}

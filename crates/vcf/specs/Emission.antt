@@ -8,10 +8,10 @@ use lib.ListN.{length, drop}
 use Rattle.text.specs.Text.{Variant, Text}
 use Rattle.text.specs.Refusal.{ok}
 use Rattle.layout.specs.Encoding.{encode}
-use Rattle.records.specs.Pieces.{lines}
-use Rattle.records.specs.Records.{position, reference, alts, behind, idle, records, touching}
-use Rattle.records.specs.Records.{placed}
-use Rattle.survey.specs.Building.{gap, windowText}
+use Rattle.vcf.specs.Pieces.{lines}
+use Rattle.vcf.specs.Records.{position, reference, alts, behind, idle, records, touching}
+use Rattle.vcf.specs.Records.{placed}
+use Rattle.vcf.specs.Building.{gap, windowText}
 
 -- bases as a segment of one variant, if there are any
 unfoldable pub gapOf : Variant → Text

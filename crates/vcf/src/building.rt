@@ -1,9 +1,9 @@
 // The stretch of a window, made from a reference and a file in Variant Call Format 4. Two passes over the file: the first checks
 // and tallies, the second writes, so that a refused call changes nothing.
 use crate::put::put_text;
+use crate::survey::Surveyed;
+use crate::survey::survey;
 use stretch::Written;
-use survey::Surveyed;
-use survey::survey;
 use text::Refusal;
 use text::refusal;
 ghost use mathlib.Core.Path.{_≡_};
@@ -13,7 +13,7 @@ ghost use Rattle.layout.specs.Encoding.{encode};
 ghost use Rattle.stretch.specs.Answers.{toldWritten, answerWritten};
 ghost use Rattle.writer.specs.Answers.{written};
 ghost use Rattle.layout.specs.Bytes.{leftBy};
-ghost use Rattle.survey.specs.Building.{building};
+ghost use Rattle.vcf.specs.Building.{building};
 
 fn refused(number: u64, place: usize) -> Written
     ensures { λ r. ⌜ toldWritten r ≡ refused number place ⌝ }

@@ -1,17 +1,17 @@
 // The second pass: the text is put into a buffer that has room for it. Every line was checked before.
+use crate::records::pieces::COMMA;
+use crate::records::pieces::LINE_FEED;
+use crate::records::pieces::end_of;
+use crate::records::pieces::far_end;
+use crate::records::pieces::next_line;
+use crate::records::position::position;
+use crate::records::record::field;
+use crate::records::record::is_comment;
+use crate::records::record::is_none;
+use crate::records::window::behind;
+use crate::records::window::is_outside;
 use layout::number::put_word;
 use layout::put_variant;
-use records::pieces::COMMA;
-use records::pieces::LINE_FEED;
-use records::pieces::end_of;
-use records::pieces::far_end;
-use records::pieces::next_line;
-use records::position::position;
-use records::record::field;
-use records::record::is_comment;
-use records::record::is_none;
-use records::window::behind;
-use records::window::is_outside;
 ghost use mathlib.Core.Path.{_≡_};
 ghost use mathlib.Core.List.{_∷_};
 ghost use Prim.Native.Nat.{_+_, _≤_};
@@ -19,10 +19,10 @@ ghost use lib.ListN.{length};
 ghost use Rattle.text.specs.Letter.{meant};
 ghost use Rattle.layout.specs.Bytes.{over};
 ghost use Rattle.layout.specs.Encoding.{bytesOf, encodeVariant, encodeSegment, encode};
-ghost use Rattle.records.specs.Pieces.{pieces};
-ghost use Rattle.records.specs.Records.{alternates};
-ghost use Rattle.survey.specs.Building.{windowText};
-ghost use Rattle.survey.specs.Surveys.{Readable};
+ghost use Rattle.vcf.specs.Pieces.{pieces};
+ghost use Rattle.vcf.specs.Records.{alternates};
+ghost use Rattle.vcf.specs.Building.{windowText};
+ghost use Rattle.vcf.specs.Surveys.{Readable};
 ghost use Rattle.vcf.specs.Emission.{gapOf, Placing, lineText, lineBase, lineLeft};
 
 // Bases as a segment of one variant, nothing where there are none. The place behind them.

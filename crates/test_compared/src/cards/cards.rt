@@ -1,13 +1,13 @@
 // A card of a text: its pattern, and each of its rows, compared with what is found. A refused one is to be all zeros.
 use card::Card;
 use card::Made;
-use places::put_part;
-use straight::Verdict;
-use straight::run;
-use tally::Answer;
-use tally::Tally;
-use tally::held;
-use tally::row;
+use test_reference::Verdict;
+use test_reference::places::put_part;
+use test_reference::run;
+use test_tally::Answer;
+use test_tally::Tally;
+use test_tally::held;
+use test_tally::row;
 
 // The group of the cards.
 pub const CARDS: usize = 0;

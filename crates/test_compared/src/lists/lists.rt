@@ -1,16 +1,16 @@
 // Watch lists of random patterns: each record is searched straight from the definitions, and the list's calls are to say the same.
-use drawn::below;
-use lent::List;
-use places::part;
-use places::put;
-use places::put_part;
 use std::num::wrapping_add_usize;
-use straight::Verdict;
-use tally::Answer;
-use tally::Tally;
-use tally::found;
-use tally::held;
-use tally::listed;
+use test_lists::List;
+use test_random::drawn::below;
+use test_reference::Verdict;
+use test_reference::places::part;
+use test_reference::places::put;
+use test_reference::places::put_part;
+use test_tally::Answer;
+use test_tally::Tally;
+use test_tally::found;
+use test_tally::held;
+use test_tally::listed;
 
 // The group of the lists.
 const LISTS: usize = 0;
@@ -41,12 +41,12 @@ fn none(n: usize, alone: Verdict) -> Answer {
 
 // Puts the pattern of record k, random and for a text, and in one list of three one that may be spoilt. Tells how many bases it has.
 fn draw(out: &mut [u8], text: &[u8], k: usize, seed: u64) -> usize {
-    let own = drawn::seed(seed, wrapping_add_usize(900, k));
-    let m = cases::pattern(&mut *out, text, own);
+    let own = test_random::drawn::seed(seed, wrapping_add_usize(900, k));
+    let m = test_random::pattern(&mut *out, text, own);
     if below(seed, 802, 3) != 0 {
         return m;
     }
-    cases::spoil(&mut *out, m, own)
+    test_random::spoil(&mut *out, m, own)
 }
 
 // What is to be found once record k is looked at too, whose label is 100 more than its number, and its mark. The first that is wrong
@@ -62,11 +62,11 @@ fn with(
     if 19 < before.number {
         return before;
     }
-    let verdict = straight::pattern(p, alone);
+    let verdict = test_reference::pattern(p, alone);
     if verdict.number != alone.number {
         return Answer::refused(21, k);
     }
-    let ran = straight::run(p, bytes, verdict, 1);
+    let ran = test_reference::run(p, bytes, verdict, 1);
     if ran.ends == 0 {
         return before;
     }
@@ -107,7 +107,7 @@ fn both(tally: Tally, list: List, bytes: &[u8], seed: u64, first: Answer, ones: 
 
 // A list of patterns for a text, on that text or on what it is damaged to.
 pub fn compare(tally: Tally, text: &[u8], bytes: &[u8], seed: u64) -> Tally {
-    let alone = straight::stretch(bytes);
+    let alone = test_reference::stretch(bytes);
     let n = records(seed);
     let mut first = none(n, alone);
     let mut list = List::empty();

@@ -1,15 +1,15 @@
 // The searches, each compared with what is found.
 use crate::searches::groups::SEARCHES;
-use places::part;
-use places::put_part;
 use search::by_bits;
 use search::by_borders;
-use straight::Ran;
-use straight::Verdict;
-use tally::Answer;
-use tally::Tally;
-use tally::held;
-use tally::searched;
+use test_reference::Ran;
+use test_reference::Verdict;
+use test_reference::places::part;
+use test_reference::places::put_part;
+use test_tally::Answer;
+use test_tally::Tally;
+use test_tally::held;
+use test_tally::searched;
 use text::strand::Strand;
 
 // A search by bit-vectors, or by border tables.

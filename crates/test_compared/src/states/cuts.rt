@@ -1,15 +1,15 @@
 // A text cut behind each of its segments into two stretches: the search of the second goes on from the state behind the first, and both
 // together mark what the whole text has, on the way across the cut too.
-use places::part;
-use places::put_part;
 use search::Sought;
 use search::State;
 use std::num::wrapping_add_usize;
-use straight::Ran;
-use straight::Verdict;
-use tally::Answer;
-use tally::Tally;
-use tally::held;
+use test_reference::Ran;
+use test_reference::Verdict;
+use test_reference::places::part;
+use test_reference::places::put_part;
+use test_tally::Answer;
+use test_tally::Tally;
+use test_tally::held;
 use text::strand::Strand;
 
 // The group of the cuts.
@@ -49,9 +49,9 @@ fn parted(
     left: &[u8],
 ) -> Answer {
     let mut front = [0u8; 2048];
-    let n = drawn::stretch(&mut front, bytes, 0, cut);
+    let n = test_random::drawn::stretch(&mut front, bytes, 0, cut);
     let mut back = [0u8; 2048];
-    let m = drawn::stretch(&mut back, bytes, cut, segments);
+    let m = test_random::drawn::stretch(&mut back, bytes, cut, segments);
     let mut marks = [7u8; 40];
     let first = onward(
         Answer::told(0, 1, 0),

@@ -1,12 +1,12 @@
 // The feed, segment by segment, each from the state that the one before it leads to.
-use drawn::segments;
-use places::segment_at;
 use search::State;
-use straight::Verdict;
-use straight::through;
-use tally::Answer;
-use tally::Tally;
-use tally::fed;
+use test_random::drawn::segments;
+use test_reference::Verdict;
+use test_reference::places::segment_at;
+use test_reference::through;
+use test_tally::Answer;
+use test_tally::Tally;
+use test_tally::fed;
 use text::strand::Strand;
 
 // The group of the feeds.

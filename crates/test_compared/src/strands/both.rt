@@ -1,17 +1,17 @@
 // A text searched on both strands at once, whole and cut in two: what is marked is what is found on either strand.
 use crate::strands::EITHER;
 use crate::strands::pairs;
-use places::part;
-use places::put_part;
-use places::unite;
 use search::Pair;
 use search::either;
-use straight::Ran;
-use straight::Verdict;
-use tally::Answer;
-use tally::Tally;
-use tally::held;
-use tally::searched;
+use test_reference::Ran;
+use test_reference::Verdict;
+use test_reference::places::part;
+use test_reference::places::put_part;
+use test_reference::places::unite;
+use test_tally::Answer;
+use test_tally::Tally;
+use test_tally::held;
+use test_tally::searched;
 
 // The whole text is to have so many ends, and to leave these marks.
 fn whole(

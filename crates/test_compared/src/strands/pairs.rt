@@ -1,13 +1,13 @@
 // A text cut in two and searched on both strands at once: the search of the second stretch goes on from the states behind the first, and
 // both together mark what either strand has in the whole text.
 use crate::strands::EITHER;
-use places::part;
 use search::Pair;
 use search::SoughtBoth;
 use std::num::wrapping_add_usize;
-use tally::Answer;
-use tally::Tally;
-use tally::held;
+use test_reference::places::part;
+use test_tally::Answer;
+use test_tally::Tally;
+use test_tally::held;
 
 // One stretch more, behind those that told so many segments and the bits of a state of each strand: its marks go behind theirs.
 fn onward(before: Answer, p: &[u8], stretch: &[u8], marks: &mut [u8]) -> Answer {
@@ -45,9 +45,9 @@ pub fn compare(
 ) -> Tally {
     let cut = segments / 2;
     let mut front = [0u8; 2048];
-    let n = drawn::stretch(&mut front, bytes, 0, cut);
+    let n = test_random::drawn::stretch(&mut front, bytes, 0, cut);
     let mut back = [0u8; 2048];
-    let m = drawn::stretch(&mut back, bytes, cut, segments);
+    let m = test_random::drawn::stretch(&mut back, bytes, cut, segments);
     let mut marks = [7u8; 40];
     let first = onward(Answer::told(0, 1, 1), p, part(&front, 0, n), &mut marks);
     let both = onward(first, p, part(&back, 0, m), &mut marks);

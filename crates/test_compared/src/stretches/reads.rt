@@ -1,16 +1,16 @@
 // The reader, at every variant and behind the last one: from a plain place, and as one that keeps the stretch.
-use places::Place;
-use places::letters_at;
-use places::place_of;
 use std::num::wrapping_add_usize;
-use straight::Verdict;
 use stretch::letters;
 use stretch::read;
 use stretch::read_from;
-use tally::Answer;
-use tally::Tally;
-use tally::got;
-use tally::held;
+use test_reference::Verdict;
+use test_reference::places::Place;
+use test_reference::places::letters_at;
+use test_reference::places::place_of;
+use test_tally::Answer;
+use test_tally::Tally;
+use test_tally::got;
+use test_tally::held;
 
 // The group of the reads.
 const READS: usize = 1;

@@ -1,14 +1,14 @@
 // The writer: what a text was taken apart into, written again.
-use places::part;
-use places::put_part;
-use places::variants_before;
-use places::word_at;
-use straight::Verdict;
 use stretch::write;
-use tally::Answer;
-use tally::Tally;
-use tally::held;
-use tally::written;
+use test_reference::Verdict;
+use test_reference::places::part;
+use test_reference::places::put_part;
+use test_reference::places::variants_before;
+use test_reference::places::word_at;
+use test_tally::Answer;
+use test_tally::Tally;
+use test_tally::held;
+use test_tally::written;
 
 // The group of the writes.
 const WRITES: usize = 2;
@@ -27,11 +27,11 @@ fn again(bytes: &[u8], wanted: &[u8]) -> Answer {
     let segments = word_at(bytes, 0);
     let variants = variants_before(bytes, segments);
     let mut letters = [0u8; 2048];
-    let n = places::letters(&mut letters, bytes, segments, variants);
+    let n = test_reference::places::letters(&mut letters, bytes, segments, variants);
     let mut lengths = [0u16; 64];
-    places::lengths(&mut lengths, bytes, segments);
+    test_reference::places::lengths(&mut lengths, bytes, segments);
     let mut counts = [0u8; 32];
-    places::counts(&mut counts, bytes);
+    test_reference::places::counts(&mut counts, bytes);
     let long = variants % 65;
     rewritten(
         part(&letters, 0, n),
@@ -45,7 +45,7 @@ fn again(bytes: &[u8], wanted: &[u8]) -> Answer {
 // number.
 pub fn compare(tally: Tally, bytes: &[u8], verdict: Verdict) -> Tally {
     let mut raised = [0u8; 2048];
-    let n = places::raised(
+    let n = test_reference::places::raised(
         &mut raised,
         verdict.kept(bytes),
         verdict.segments,

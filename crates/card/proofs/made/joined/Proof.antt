@@ -3,7 +3,7 @@
 use Prim.Native.Nat.{_-_}
 use borrow.Author.Needs.{needs}
 use Rattle.text.specs.Card.{through}
-use Rattle.rows.specs.Held.{rowsIn, Full}
+use Rattle.card.specs.Held.{rowsIn, Full}
 use Rattle.card.proofs.Joins.{Changing, changing-none, changing-more, row-through, joined-fits, joined-held}
 use Rattle.card.proofs.made.joined.Statement.{statement}
 use Rattle.card.proofs.made.joined.Tie as tie

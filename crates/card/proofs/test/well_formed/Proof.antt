@@ -1,5 +1,5 @@
 -- `card::test::well_formed` meets its contract: each answer is a law of `wellFormed`, from the tests that led to it.
-use Rattle.rows.specs.Held.{Full}
+use Rattle.card.specs.Held.{Full}
 use Rattle.card.specs.Cards.{isPadded}
 use Rattle.card.proofs.Tests.{passed, failed}
 use Rattle.card.proofs.Formed.{formed-long, formed-wrong, formed-many, formed-rows}

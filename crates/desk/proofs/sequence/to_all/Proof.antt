@@ -2,7 +2,7 @@
 use native.Mathlib.Omega.{arith}
 use mathlib.Core.Path.{sym}
 use lib.Seq.{length-take-le}
-use Rattle.verdict.proofs.Standings.{passed-room}
+use Rattle.desk_verdict.proofs.Standings.{passed-room}
 use borrow.Author.Needs.{needs}
 use Rattle.desk.proofs.sequence.to_all.Statement.{statement}
 use Rattle.desk.proofs.sequence.to_all.Tie as tie

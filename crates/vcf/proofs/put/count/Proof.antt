@@ -4,7 +4,7 @@ use Prim.Native.Nat.{_-_}
 use native.Mathlib.Omega.{arith}
 use borrow.Author.Needs.{needs}
 use lib.ListN.{length}
-use Rattle.records.proofs.Marks.{Counting, counting-none, counting-few, counting-last, counting-more}
+use Rattle.vcf.proofs.Marks.{Counting, counting-none, counting-few, counting-last, counting-more}
 use Rattle.vcf.proofs.put.count.Statement.{statement}
 use Rattle.vcf.proofs.put.count.Tie as tie
 

@@ -8,7 +8,7 @@ use Rattle.layout.proofs.Raised.{part-meant}
 use Rattle.text.specs.Letter.{meant}
 use Rattle.text.proofs.Likes.{meant-length}
 use mathlib.Core.Bool.{true, false}
-use Rattle.records.specs.Records.{beyond, comment, position, positionOf}
+use Rattle.vcf.specs.Records.{beyond, comment, position, positionOf}
 use Rattle.vcf.proofs.Lines.{idle-comment, idle-is, idle-line, busy-bounds, busy-few, busy-room, busy-line}
 use Rattle.vcf.proofs.put.put_line.Statement.{statement}
 use Rattle.vcf.proofs.put.put_line.Tie as tie

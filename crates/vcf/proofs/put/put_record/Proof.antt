@@ -7,7 +7,7 @@ use lib.ListN.{length}
 use lib.ListN.{length-set}
 use mathlib.Core.Bool.{false}
 use Rattle.layout.specs.Bytes.{over}
-use Rattle.records.specs.Records.{none}
+use Rattle.vcf.specs.Records.{none}
 use Rattle.vcf.proofs.Emitting.{segmentOf, allelesOf, segment-size, segment-put, segment-put-none, none-size, one-more, few-pieces}
 use Rattle.vcf.proofs.Emitting.{counted-byte, alleles-bytes}
 use Rattle.vcf.proofs.put.put_record.Statement.{statement}

@@ -11,7 +11,7 @@ use Rattle.text.proofs.Likes.{meant-length}
 use Rattle.layout.specs.Bytes.{wordBytes}
 use Rattle.layout.proofs.Raised.{part-meant}
 use Rattle.layout.proofs.Overs.{put-over}
-use Rattle.records.proofs.Marks.{next-behind}
+use Rattle.vcf.proofs.Marks.{next-behind}
 use Rattle.vcf.proofs.Lines.{readable-room, Putting, putting-none, putting-kept, putting-line, putting-placing, putting-room}
 use Rattle.vcf.proofs.Lines.{putting-more, last-room, putting-end}
 use Rattle.vcf.proofs.put.put_text.Statement.{statement}

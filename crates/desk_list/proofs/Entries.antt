@@ -1,0 +1,162 @@
+-- Laws of what a line says, test by test.
+use Prim.Native.Nat.{ℕ, suc, _+_, _-_, _≤_, _<_}
+use native.Mathlib.Omega.{arith}
+use mathlib.Core.Path.{_≡_, refl, sym, ap, _∙_}
+use native.Mathlib.Decide.{decLt}
+use mathlib.Core.Logic.{by-cases}
+use mathlib.Core.Bool.{Bool, true, false, cond}
+use mathlib.Core.List.{List, []}
+use borrow.Author.Tests.{eq-eqb, ne-eqb, le-leb, lt-leb, lt-ltb, le-ltb}
+use lib.Dec.{eqb, leb}
+use lib.ListN.{length, getD, take, drop, length-drop, drop-of-length-le}
+use lib.Seq.{take-all, take-nil}
+use Rattle.text.specs.Refusal.{Outcome, ok, refused, pattern, toldPattern}
+use Rattle.text.specs.declared.refusal.Refusal.{Refusal}
+use Rattle.text.specs.declared.pattern.PatternIs.{PatternIs}
+use Rattle.text.specs.declared.pattern.PatternIs.the-variants.{Sound, Refused}
+use Rattle.desk_list.specs.Kinds.{past}
+use Rattle.desk_list.specs.Number.{numberOf}
+use Rattle.desk_list.specs.Line.{endsAt, between, closedBy, sequenceOf, labelled, labelOf, entryOf, behind, placed, lineOf, Inside}
+use Rattle.desk_list.specs.declared.classes.Kind.the-variants.{Blank, Digit, Word, InLine}
+use Rattle.desk_list.specs.declared.decimal.Number.{Number}
+use Rattle.desk_list.specs.declared.decimal.Number.the-variants.{Is, Large}
+use Rattle.desk_list.specs.declared.reading.Fault.{Fault}
+use Rattle.desk_list.specs.declared.reading.Fault.the-variants.{NoLabel, LargeLabel, NoSequence, Sequence, More}
+use Rattle.desk_list.specs.declared.reading.Entry.{Entry}
+use Rattle.desk_list.specs.declared.reading.Line.{Line}
+
+module _ (l : List ℕ) (at : ℕ) where
+  pub ends-behind : length l ≤ at → true ≡ endsAt l at
+  unfolding endsAt
+  ends-behind h = rw (le-leb (length l) at h) refl
+
+  pub ends-here : at < length l → eqb (getD l at 0) 35 ≡ endsAt l at
+  unfolding endsAt
+  ends-here h = rw (lt-leb (length l) at h) refl
+
+  pub behind-end : at < length l → at + 1 ≡ behind l at
+  unfolding behind
+  behind-end h = rw (lt-ltb at (length l) h) refl
+
+  pub behind-none : length l ≤ at → at ≡ behind l at
+  unfolding behind
+  behind-none h = rw (le-ltb at (length l) h) refl
+
+-- the next line begins behind a place of this one
+pub behind-on : (s : List ℕ) {at stop next : ℕ} → next ≡ behind s stop → at < length s → at ≤ stop → at < next
+unfolding behind
+behind-on s {at} {stop} {next} e l h =
+    by-cases (decLt stop (length s))
+    (λ (k : stop < length s). let z : next ≡ stop + 1 = e ∙ rw (lt-ltb stop (length s) k) refl in omega arith)
+    (λ (k : stop < length s → ⊥).
+    let far : length s ≤ stop = omega arith in
+    let z : next ≡ stop = e ∙ rw (le-ltb stop (length s) far) refl in
+    omega arith)
+
+-- the places of a sequence
+pub inside-at : {n : ℕ} {x : Entry} {label start end : ℕ} → x ≡ Entry.Withheld label start end → Inside n x → (start ≤ end) × (end ≤ n)
+inside-at e h = rw e at h
+
+-- a sequence and what stands behind it
+module _ (l : List ℕ) (label start : ℕ) {end : ℕ} (e : end ≡ past Word l start) where
+  module _ (r : PatternIs) (told : toldPattern r ≡ pattern (take (end - start) (drop start l)) (ok (tt {0}))) where
+    asked : toldPattern r ≡ pattern (between l start (past Word l start)) (ok (tt {0}))
+    asked = told ∙ ap (λ (n : ℕ). pattern (between l start n) (ok (tt {0}))) e
+
+    pub sequence-not : (w : Refusal) → r ≡ Refused w → Entry.Wrong (Sequence w) ≡ sequenceOf l label start
+    unfolding sequenceOf closedBy
+    sequence-not w is = rw (← asked, is) refl
+
+    module _ (is : r ≡ Sound) {rest : ℕ} (b : rest ≡ past Blank l end) {last : Bool} (f : last ≡ endsAt l rest) where
+      here : endsAt l (past Blank l (past Word l start)) ≡ last
+      here = sym (f ∙ ap (endsAt l) (b ∙ ap (past Blank l) e))
+
+      pub sequence-more : last ≡ false → Entry.Wrong More ≡ sequenceOf l label start
+      unfolding sequenceOf closedBy
+      sequence-more h = rw (← asked, is, here, h) refl
+
+      pub sequence-is : last ≡ true → Entry.Withheld label start end ≡ sequenceOf l label start
+      unfolding sequenceOf closedBy
+      sequence-is h = rw (← asked, is, here, h) (ap (λ (n : ℕ). Entry.Withheld label start n) e)
+
+-- what a line says: nothing, or a label and what stands behind it
+module _ (l : List ℕ) {first : ℕ} (a : first ≡ past Blank l 0) {none : Bool} (f : none ≡ endsAt l first) where
+  begun : endsAt l (past Blank l 0) ≡ none
+  begun = sym (f ∙ ap (endsAt l) a)
+
+  pub says-nothing : none ≡ true → Entry.Nothing ≡ entryOf l
+  unfolding entryOf
+  says-nothing h = rw (begun, h) refl
+
+  module _ (some : none ≡ false) {digits : ℕ} (b : digits ≡ past Digit l first) where
+    labels : entryOf l ≡ labelOf l first
+    unfolding entryOf
+    labels = rw (begun, some) (ap (labelOf l) (sym a))
+
+    pub says-no-label : digits ≡ first → Entry.Wrong NoLabel ≡ entryOf l
+    unfolding labelOf
+    says-no-label h = let same : past Digit l first ≡ first = sym b ∙ h in sym (labels ∙ rw (eq-eqb (past Digit l first) first same) refl)
+
+    module _ (more : digits ≡ first → ⊥) {r : Number} (g : r ≡ numberOf (take (digits - first) (drop first l))) where
+      numbered : entryOf l ≡ labelled l digits r
+      unfolding labelOf
+      numbered =
+          let differ : past Digit l first ≡ first → ⊥ = λ h. more (b ∙ h) in
+          let told : numberOf (between l first (past Digit l first)) ≡ r = sym (g ∙ ap (λ (n : ℕ). numberOf (between l first n)) b) in
+          labels ∙ rw (ne-eqb (past Digit l first) first differ, told, b) refl
+
+      pub says-large : r ≡ Large → Entry.Wrong LargeLabel ≡ entryOf l
+      unfolding labelled
+      says-large h = sym (numbered ∙ rw h refl)
+
+      module _ {label : ℕ} (is : r ≡ Is label) {start : ℕ} (s : start ≡ past Blank l digits) where
+        pub says-joined : start ≡ digits → Entry.Wrong NoSequence ≡ entryOf l
+        unfolding labelled
+        says-joined h =
+            let same : past Blank l digits ≡ digits = sym s ∙ h in
+            sym (numbered ∙ rw (is, eq-eqb (past Blank l digits) digits same) refl)
+
+        module _ (parted : start ≡ digits → ⊥) {last : Bool} (k : last ≡ endsAt l start) where
+          apart : past Blank l digits ≡ digits → ⊥
+          apart h = parted (s ∙ h)
+
+          ended : endsAt l (past Blank l digits) ≡ last
+          ended = sym (k ∙ ap (endsAt l) s)
+
+          pub says-no-sequence : last ≡ true → Entry.Wrong NoSequence ≡ entryOf l
+          unfolding labelled
+          says-no-sequence h = sym (numbered ∙ rw (is, ne-eqb (past Blank l digits) digits apart, ended, h) refl)
+
+          pub says-sequence : last ≡ false → {x : Entry} → x ≡ sequenceOf l label start → x ≡ entryOf l
+          unfolding labelled
+          says-sequence h {x} e =
+              e ∙ ap (sequenceOf l label) s ∙ sym (numbered ∙ rw (is, ne-eqb (past Blank l digits) digits apart, ended, h) refl)
+
+-- a line of a list
+module _ (s : List ℕ) (at : ℕ) where
+  pub line-none : length s ≤ at → Line.End ≡ lineOf s at
+  unfolding lineOf
+  line-none h = rw (le-leb (length s) at h) refl
+
+  pub line-is : at < length s → {stop next : ℕ} → stop ≡ past InLine s at → next ≡ behind s stop → {x y : Entry}
+      → x ≡ entryOf (take (stop - at) (drop at s)) → x ≡ y → placed at next y ≡ lineOf s at
+  unfolding lineOf
+  line-is h {stop} {next} e n {x} {y} is same =
+      let there : next ≡ behind s (past InLine s at) = n ∙ ap (behind s) e in
+      let said : entryOf (between s at (past InLine s at)) ≡ y = sym (sym same ∙ is ∙ ap (λ (k : ℕ). entryOf (between s at k)) e) in
+      rw (lt-leb (length s) at h, said, there) refl
+
+-- a part of a list, as far as it is there
+module _ (s : List ℕ) (start end : ℕ) where
+  pub part-far : length s < start → [] ≡ between s start end
+  part-far l = let far : length s ≤ start = omega arith in sym (rw (drop-of-length-le s far) (take-nil (end - start)))
+
+  pub part-none : end < start → [] ≡ between s start end
+  part-none l = let none : end - start ≡ 0 = omega arith in sym (rw none refl)
+
+  pub part-front : length s < end → take (length s - start) (drop start s) ≡ between s start end
+  part-front l =
+      let left : length (drop start s) ≡ length s - start = length-drop start s in
+      let few : length (drop start s) ≤ length s - start = omega arith in
+      let enough : length (drop start s) ≤ end - start = omega arith in
+      take-all (length s - start) (drop start s) few ∙ sym (take-all (end - start) (drop start s) enough)

@@ -1,0 +1,8 @@
+-- Laws of the definitions in specs/.
+pub mod SaidTheorems
+pub mod Saying
+pub mod NextMarked
+pub mod Standings
+pub mod Firsts
+pub mod Rows
+pub mod Theorems

@@ -1,0 +1,5 @@
+-- What the desk decides: where a sequence stands behind stretches.
+pub mod Said
+pub mod Nights
+pub mod Standing
+pub mod First

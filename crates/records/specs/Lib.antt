@@ -1,3 +1,0 @@
--- The records of a variant file.
-pub mod Pieces
-pub mod Records

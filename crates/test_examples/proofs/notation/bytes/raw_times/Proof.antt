@@ -1,0 +1,27 @@
+-- `test_examples::notation::bytes::raw_times` is safe and ends: the buffer keeps its length. The measure is the number of times left.
+use Prim.Native.Nat.{_-_}
+use mathlib.Core.Path.{_≡_}
+use lib.ListN.{length}
+use borrow.Author.Needs.{needs}
+use Rattle.test_examples.proofs.notation.bytes.raw_times.Statement.{statement}
+use Rattle.test_examples.proofs.notation.bytes.raw_times.Tie as tie
+
+abbrev Inv-loop : tie.InvT-loop
+Inv-loop out₀ from row n halves₀ k₀ out halves k = length out ≡ length out₀
+
+abbrev μ-loop : tie.MeasureT-loop
+μ-loop out₀ from row n halves₀ k₀ out halves k = n - k
+
+pub raw-times-spec : {M : Type 1} → statement M
+raw-times-spec =
+    tie.close
+    (tie.spec
+    Inv-loop
+    μ-loop
+    (λ c. search needs)
+    (λ c κs. search needs)
+    (λ c. search needs)
+    (λ c. search needs)
+    (λ c. search needs)
+    (λ c. search needs)
+    (λ c. search needs))

@@ -1,3 +1,0 @@
--- What the desk decides: where a sequence stands behind stretches.
-pub mod Standing
-pub mod First
