@@ -71,7 +71,7 @@ static int marked(uint64_t answer, const struct question *question, const struct
                                                                   memcmp(marks, expected->marks, expected->mark_count) == 0));
 }
 
-/* The state behind the stretch too. */
+/* The state after the stretch too. */
 static int stated(uint64_t answer, const struct question *question, const struct expected *expected)
 {
     return marked(answer, question, expected) && (answer != 0 || cerantuh_result(block, 3) == expected->results[3]);
@@ -100,7 +100,7 @@ static int segments(uint64_t answer, const struct question *question, const stru
     return answer == (expected->answer == 0 ? expected->results[0] : 0);
 }
 
-/* The state behind the stretch; and behind the stretch twice. */
+/* The state after the stretch; and after the stretch twice. */
 static int asked(uint64_t answer, const struct question *question, const struct expected *expected)
 {
     (void)question;

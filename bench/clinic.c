@@ -34,7 +34,7 @@ static void reference(struct random *random, const struct clinic *clinic, size_t
     }
 }
 
-/* Nine of ten records are of one letter each; the others put in letters or take them away behind the first. One of 25 has a second
+/* Nine of ten records are of one letter each; the others put in letters or take them away after the first. One of 25 has a second
    alternate. Returns the position behind it. */
 static size_t record(struct random *random, struct clinic *clinic, size_t position, int genotypes)
 {
@@ -113,7 +113,7 @@ static void damage_lines(struct random *random, struct clinic *clinic)
     memmove(clinic->file + to, clinic->file + from, len);
 }
 
-/* Alternates more behind those of a record: a new one, a repeated one, or too many. */
+/* Alternates more after those of a record: a new one, a repeated one, or too many. */
 static void damage_alternates(struct random *random, struct clinic *clinic)
 {
     uint8_t *end = clinic->file + clinic->len, *at = clinic->file + random_below(random, clinic->len);

@@ -123,7 +123,7 @@ static void empties(struct made *made, size_t most)
     }
 }
 
-/* A segment that spells the pattern, alone or with a text like kg behind it. */
+/* A segment that spells the pattern, alone or with a text like kg after it. */
 static void hit_at_once(struct made *made, size_t most, size_t m, uint8_t *pattern, int alone)
 {
     made_begin(made);

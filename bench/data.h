@@ -4,11 +4,11 @@
 
 #include "making.h"
 
-/* Makes the stretch of this name with at most so many bytes, and a pattern of m bases that can be read out of it from its middle
+/* Makes the stretch of this name with at most that many bytes, and a pattern of m bases that can be read out of it from its middle
    on, where it has letters enough. Each number gives another one of its kind. Returns 0 if there is no such name. */
 int data_make(const char *name, size_t number, size_t most, size_t m, struct made *made, uint8_t pattern[MOST_BASES]);
 
-/* The name of each but D, front and alone; NULL behind the last. */
+/* The name of each but D, front and alone; NULL after the last. */
 const char *data_name(size_t i);
 
 #endif

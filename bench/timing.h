@@ -4,7 +4,7 @@
 
 #include "calls.h"
 
-/* The questions that a call is timed on, one after another: so many that the processor cannot learn their branches by heart. And how
+/* The questions that a call is timed on, one after another: that many that the processor cannot learn their branches by heart. And how
    many calls may be timed in turn. */
 enum { QUESTIONS = 16, MOST_TIMED = 32 };
 

@@ -31,7 +31,7 @@ static const uint8_t *line_end(const uint8_t *at, const uint8_t *end)
     return feed == NULL ? end : feed;
 }
 
-/* Cuts a line at its tabs. Returns whether so many fields have a tab behind them. */
+/* Cuts a line at its tabs. Returns whether that many fields have a tab after them. */
 static int cut(const uint8_t *at, const uint8_t *end, size_t n, struct bytes *fields)
 {
     for (size_t k = 0; k < n; k++, at++) {
@@ -70,7 +70,7 @@ static struct record record_of(const struct bytes *fields)
 
 static int is_none(struct bytes alt) { return alt.len == 1 && *alt.at == '.'; }
 
-/* Whether these are at most so many alleles, parted by commas, each of at least one letter. */
+/* Whether these are at most that many alleles, parted by commas, each of at least one letter. */
 static int are_alleles(struct bytes some, size_t most)
 {
     size_t alleles = 1, letters = 0;
@@ -98,7 +98,7 @@ static int read_record(const uint8_t *at, const uint8_t *end, struct bytes name,
     return record->position > 0 && are_alleles(record->ref, 1) && (is_none(record->alt) || are_alleles(record->alt, MOST_ALLELES - 1));
 }
 
-/* REF, and behind it what ALT has. */
+/* REF, and after it what ALT has. */
 static size_t alleles_of(const struct record *record, struct bytes alleles[MOST_ALLELES])
 {
     size_t n = 0;
@@ -127,7 +127,7 @@ static int repeats(const struct bytes *alleles, size_t v)
     return 0;
 }
 
-/* With the bases of the window behind the last record, up to this one; and with a record. */
+/* With the bases of the window after the last record, up to this one; and with a record. */
 static void tally_gap(struct tally *tally, size_t to)
 {
     if (tally->base < to) {

@@ -4,7 +4,7 @@
 #include <inttypes.h>
 #include <stdio.h>
 
-/* {TTACG,TTAGG}{e,C} and {TTGCAAC,GGA}, where e is the empty variant: one text that is cut behind its second segment. A search of
+/* {TTACG,TTAGG}{e,C} and {TTGCAAC,GGA}, where e is the empty variant: one text that is cut after its second segment. A search of
    each stretch alone finds nothing. */
 static const uint8_t first[] = {
     2, 0,
@@ -34,7 +34,7 @@ enum { STRETCHES = sizeof stretches / sizeof *stretches, STRANDS = sizeof strand
 
 static uint8_t marks[CERANTUH_MOST_SEGMENTS], block[CERANTUH_FROM_BLOCK];
 
-/* Searches stretch i on strand s and keeps the state behind it. Returns 0, or the refusal. */
+/* Searches stretch i on strand s and keeps the state after it. Returns 0, or the refusal. */
 static uint64_t search(size_t i, size_t s)
 {
     const uint8_t pattern[] = {'A', 'C', 'G', 'T', 'T', 'G', 'C', 'A'};

@@ -75,7 +75,7 @@ static inline uint64_t cerantuh_result(const uint8_t *block, size_t i)
     return value;
 }
 
-/* Searches the pattern in one stretch, as if nothing stood before or behind it. Both searches give the same answers; the one by
+/* Searches the pattern in one stretch, as if nothing stood before or after it. Both searches give the same answers; the one by
    bit-vectors is the faster.
 
    pattern  the bases of the pattern, 1 to 64 bytes
@@ -123,7 +123,7 @@ uint64_t cerantuh_search_from_opposite(const uint8_t *pattern, size_t pattern_le
                                        size_t stretch_len, uint8_t *marks, size_t marks_len, uint8_t *block,
                                        size_t block_len);
 
-/* Asks whether a stretch is clear, and if not, for the first segment in which an occurrence ends. Nothing behind that segment is read, so
+/* Asks whether a stretch is clear, and if not, for the first segment in which an occurrence ends. Nothing after that segment is read, so
    that no fault there is seen; of a clear stretch all is read. A fault before any end, or inside the segment itself, is refused. The
    stretches of a text are asked in order: the first from CERANTUH_FRESH_STATE, each other from the state that the one before gave, until
    something ends or a call is refused. The text is clear if every one of its stretches was accepted and gave CERANTUH_NO_SEGMENT.

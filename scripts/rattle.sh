@@ -25,7 +25,7 @@ keep_runtime() {
     done
 }
 
-# Runs a program of target/bin as rt does, with the words behind its name, from whatever folder.
+# Runs a program of target/bin as rt does, with the words after its name, from whatever folder.
 run_program() (
     runs="$top_folder/$runtime" program=$top_folder/target/bin/$1
     shift

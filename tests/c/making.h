@@ -30,13 +30,13 @@ struct shape {
 struct shape shape_any(struct random *random);
 void make_text(struct random *random, const struct shape *shape, struct made *made);
 
-/* A stretch from the bytes of segments that were put behind a count: begin, then a segment at a time, then end. */
+/* A stretch from the bytes of segments that were put after a count: begin, then a segment at a time, then end. */
 void made_begin(struct made *made);
 void made_variant(struct made *made, const uint8_t *letters, size_t len); /* into the segment that is open */
 void made_segment(struct made *made);                                     /* closes the open segment and opens one */
 void made_end(struct made *made);
 
-/* The segments of a text from one on, up to the one behind them, as a stretch of their own. */
+/* The segments of a text from one on, up to the one after them, as a stretch of their own. */
 void made_part(const struct made *whole, size_t first, size_t behind, struct made *part);
 
 /* A pattern of 1 to 64 bases, most often one that the text spells. Returns its bases. */

@@ -44,7 +44,7 @@ enum strand { GIVEN, OPPOSITE };
 void reference_search(enum strand strand, const uint8_t *pattern, size_t m, const uint8_t *stretch, size_t len, size_t marks_len,
                       size_t block_len, struct expected *out);
 
-/* From a state: 1, 2, 3, 4, 17, then as the search; the fourth result is the state behind the stretch. */
+/* From a state: 1, 2, 3, 4, 17, then as the search; the fourth result is the state after the stretch. */
 void reference_from(enum strand strand, const uint8_t *pattern, size_t m, uint64_t state, const uint8_t *stretch, size_t len,
                     size_t marks_len, size_t block_len, struct expected *out);
 

@@ -110,7 +110,7 @@ static void froms(void)
     from(0, 0, "AC", 3, SOUND, 13, 2, 32);
 }
 
-/* GC, its own opposite, ends nowhere in the stretch; AT, too, ends in the first segment of HELD, and what stands behind is not read. */
+/* GC, its own opposite, ends nowhere in the stretch; AT, too, ends in the first segment of HELD, and what stands after is not read. */
 #define HELD "\2\0" "\1\2\0AT"
 
 static void firsts(void)

@@ -106,7 +106,7 @@ static void try_fresh(const struct forms *forms, struct pattern pattern)
     tally_check(memcmp(of_other.results, of_whole.results, 24) == 0, "from the fresh state the sums are others");
 }
 
-/* Cut into two before every segment, and behind the last. */
+/* Cut into two before every segment, and after the last. */
 static void at_every_segment(const char *bases, const char *text)
 {
     struct pattern pattern = pattern_of(bases);

@@ -1,5 +1,5 @@
 // The calls that have no C form, for the bench: one number answers, so that they are measured in one program beside those that have one.
-// They make no promise of their own. A call that is too short to be measured by itself stands behind one that is measured too.
+// They make no promise of their own. A call that is too short to be measured by itself stands after one that is measured too.
 use card::Asked;
 use card::Card;
 use search::State;
@@ -25,7 +25,7 @@ pub extern "C" fn bench_card(pattern: &[u8], stretch: &[u8]) -> u64 {
     made.card.segments as u64
 }
 
-// The state that a card tells behind the fresh one, or the number of its refusal.
+// The state that a card tells after the fresh one, or the number of its refusal.
 fn asked(card: Card) -> u64 {
     match card.ask(State::FRESH) {
         Asked::Told { state, first: _ } => state.bits,
@@ -48,7 +48,7 @@ pub extern "C" fn bench_join(pattern: &[u8], stretch: &[u8]) -> u64 {
     asked(both.card)
 }
 
-// A watch list of so many records, all of one pattern.
+// A watch list of that many records, all of one pattern.
 fn watched(pattern: &[u8], n: usize) -> List {
     let mut list = List::empty();
     let mut k = 0;

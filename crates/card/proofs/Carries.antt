@@ -133,7 +133,7 @@ module _ (P masks : List ℕ) (live : ℕ) (v : List ℕ) (y : Alive P masks liv
       (λ (l : ¬ (i < 64)).
       absurd (some (bit-ext 64 d 0 (s .word) (pow-pos 64) (λ r h. s .gone r (omega arith) ∙ sym (bit-zero r)))))
 
-  -- once none is left, the letters behind change nothing
+  -- once none is left, the letters after change nothing
   dead : (n i finished : ℕ) → i + n ≡ length v → Carrying P live v i 0 finished → Carrying P live v (length v) 0 finished
   dead zero i finished e s = subst (λ (j : ℕ). Carrying P live v j 0 finished) (let z : i ≡ length v = omega arith in z) s
   dead (suc n) i finished e s =

@@ -62,7 +62,7 @@ module _ (m n : ℕ) (es fs : List ℕ) (full : Full es fs) where
       let test = h .test ∙ ap (λ (x : Bool). sound && x) next ∙ sym (and-assoc sound right rest) in
       record { test = test; past = omega arith; inside = omega arith }
 
-  -- the rows below m and those from m up are all rows: behind the last there is none
+  -- the rows below m and those from m up are all rows: after the last there is none
   pub tested-both : (below behind : Bool) → IsTest m n es fs 0 m below → IsTest m n es fs m 64 behind
       → (below && behind) ≡ areRows m n 0 (rowsIn es fs)
   unfolding areRows

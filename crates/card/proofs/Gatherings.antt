@@ -41,7 +41,7 @@ module _ (P : List ℕ) (strand : Strand) (sound : SoundPattern P) where
   unfolding Q
   read-sound = strand-sound strand P sound
 
-  -- behind the text T
+  -- after the text T
   gathering-texts :
       (T : Text) (ss : List (List ℕ)) (U : Text) → stretchesText ss ≡ ok U → length T + length U ≤ mostSegments →
       gathering P strand (cardOut (cardOf Q T)) ss ≡ cardOut (cardOf Q (T ++ U))
@@ -62,7 +62,7 @@ module _ (P : List ℕ) (strand : Strand) (sound : SoundPattern P) where
   unfolding Q
   nothing = ap (λ (o : Outcome Card). made o .card) (empty-on P strand sound) ∙ ap cardOut (empty-text Q)
 
-  -- from the empty card: the card of all the texts, and what it tells of a state is what the searches tell, the state behind them all
+  -- from the empty card: the card of all the texts, and what it tells of a state is what the searches tell, the state after them all
   -- and the first of their marks that is 1
   module _ (ss : List (List ℕ)) (U : Text) (e : stretchesText ss ≡ ok U) (l : length U ≤ mostSegments) where
     pub gathering-text : gathering P strand (emptying P strand .card) ss ≡ cardOut (cardOf (onStrand strand P) U)

@@ -77,7 +77,7 @@ bearing-more {P} {s} {at} {live} {exits} {new} {finished} {c} b walk {start} {be
           ∙ sym (meets-or x finished ended);
     }
 
--- every state behind a segment is within the lengths 1 to m - 1
+-- every state after a segment is within the lengths 1 to m - 1
 lengths : ℕ → ℕ
 lengths m = fromBits (ltb 0) m
 

@@ -142,7 +142,7 @@ module _ (P : List ℕ) (strand : Strand) (s t : List ℕ) (T U : Text) (a : Acc
       row-text Q (T ++ U) (read .some) (read .short) 0 (read .some) ∙ ok-inj (sym (both fresh (fresh-state P (given .some))) ∙ h) in
       subst (λ (x : Row). IsFirst (EndsIn Q (T ++ U)) (x .first)) is (fresh-first Q (T ++ U) (read .some) (read .short))
 
--- the state behind feeds that were answered one after another from the state st
+-- the state after feeds that were answered one after another from the state st
 abbrev pub lastOf : ℕ → List Next → ℕ
 lastOf st xs = getD (st ∷ map (λ x. x .state) xs) (length xs) 0
 

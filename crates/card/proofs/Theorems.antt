@@ -75,14 +75,14 @@ pub asking-text : (P : List ℕ) (T : Text) → SoundPattern P → (st : ℕ) �
     → asking (cardOut (cardOf P T)) st ≡ ok (ran P st T)
 asking-text = TextCalls.asking-text
 
--- what `Card::of` made tells the state behind the stretch, and the first of its marks that is 1, on that strand
+-- what `Card::of` made tells the state after the stretch, and the first of its marks that is 1, on that strand
 pub asking-of : (P : List ℕ) (strand : Strand) (s : List ℕ) (T : Text) → Accepts (making P strand s) → stretchOf s ≡ ok T
     → (st : ℕ) → isState (length P) st ≡ true
     → let Q : List ℕ = onStrand strand P in
     asking (making P strand s .card) st ≡ ok (rowOf (run Q st T) (firstEnd (marksFrom Q st T)))
 asking-of = TextCalls.asking-of
 
--- and the joined card tells the state behind both stretches, and the first 1 among the marks of both, the second from where the first ends
+-- and the joined card tells the state after both stretches, and the first 1 among the marks of both, the second from where the first ends
 pub asking-joined : (P : List ℕ) (strand : Strand) (s t : List ℕ) (T U : Text) → Accepts (making P strand s) → Accepts (making P strand t)
     → stretchOf s ≡ ok T → stretchOf t ≡ ok U
     → (st : ℕ) → isState (length P) st ≡ true
@@ -104,7 +104,7 @@ pub gathering-text : (P : List ℕ) (strand : Strand) → SoundPattern P → (ss
     → length U ≤ mostSegments → gathering P strand (emptying P strand .card) ss ≡ cardOut (cardOf (onStrand strand P) U)
 gathering-text = Gatherings.gathering-text
 
--- and tells of a state what searching the stretches on that strand one after another, the state handed on, tells: the state behind them
+-- and tells of a state what searching the stretches on that strand one after another, the state handed on, tells: the state after them
 -- all, and the first of their marks, laid end to end, that is 1
 pub gathering-asked : (P : List ℕ) (strand : Strand) → SoundPattern P → (ss : List (List ℕ)) (U : Text) → stretchesText ss ≡ ok U
     → length U ≤ mostSegments

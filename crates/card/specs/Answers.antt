@@ -13,7 +13,7 @@ use Rattle.card.specs.declared.answers.Asked.{Asked}
 use Rattle.card.specs.declared.answers.Asked.the-variants.{Told}
 use Rattle.card.specs.Cards.{cardOut}
 
--- the card of no segments and of a stretch, of the pattern that a strand reads, behind 1, 2, 3 of the pattern as given
+-- the card of no segments and of a stretch, of the pattern that a strand reads, after 1, 2, 3 of the pattern as given
 unfoldable pub emptyOn : List ℕ → Strand → Outcome Card
 emptyOn P strand = pattern P (empty (onStrand strand P))
 

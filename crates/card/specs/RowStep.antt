@@ -77,11 +77,11 @@ pub record Settled (m finished k : ℕ) (new exits firsts exits' firsts' : List 
   pub all : (q : ℕ) → 0 < q → q < m → Within (getD new q 0) live
   pub least : (y : ℕ) → ((q : ℕ) → 0 < q → q < m → Within (getD new q 0) y) → Within live y
 
--- a row, and segment g with the number k behind it
+-- a row, and segment g with the number k after it
 abbrev pub rowOver : List ℕ → Segment → ℕ → Row → Row
 rowOver P g k r = rowOf (next P (r .exit) g) (min (r .first) (cond (ends P (r .exit) g) k none))
 
--- the rows 1 to m - 1 have gone over the segment at `at`, with the number k, up to the place behind it; rows from m up stay, and `live`
+-- the rows 1 to m - 1 have gone over the segment at `at`, with the number k, up to the place after it; rows from m up stay, and `live`
 -- is the union of their states
 pub record SegmentOver (P s : List ℕ) (at k : ℕ) (exits firsts exits' firsts' : List ℕ) (live behind : ℕ) : Type 0 where
   pub full : Full exits' firsts'

@@ -12,7 +12,7 @@ pub struct Made {
     pub card: Card,
 }
 
-// What a card makes of a state: the state behind the stretch, and the first segment where an occurrence ends.
+// What a card makes of a state: the state after the stretch, and the first segment where an occurrence ends.
 pub enum Asked {
     Told { state: State, first: u32 },
     Refused(Refusal),

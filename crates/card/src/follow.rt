@@ -13,7 +13,7 @@ pub struct Row {
     pub first: u32,
 }
 
-// The union of exits and the earliest end over the bits of a state. It stops behind the highest bit, since most states have few.
+// The union of exits and the earliest end over the bits of a state. It stops after the highest bit, since most states have few.
 pub fn follow(exits: &[u64], firsts: &[u32], state: u64) -> Row
     requires { ⌜ Full (now exits) (now firsts) ⌝ }
     ensures { λ r. ⌜ rowIn r ≡ follow greatestPattern (rowsIn (now (exits .entry)) (now (firsts .entry))) state ⌝ }

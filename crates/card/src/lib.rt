@@ -3,7 +3,7 @@ mod answers;
 mod cards;
 mod follow;
 mod made;
-pub mod rows;
+mod rows;
 mod test;
 
 pub use answers::Asked;

@@ -30,7 +30,7 @@ fn is_padded(bytes: &[u8], m: usize) -> bool
     }
 }
 
-// Whether row q, below m, of a card of m bases and so many segments is as document 01 says; `all` has the lowest m bits set.
+// Whether row q, below m, of a card of m bases and that many segments is as document 01 says; `all` has the lowest m bits set.
 fn is_row(m: usize, all: u64, segments: u32, q: usize, exit: u64, first: u32) -> bool
     requires { ⌜ (all ≡ low m) × (q < m) ⌝ }
     ensures { λ r. ⌜ r ≡ isRow m segments q (rowOf exit first) ⌝ }

@@ -48,7 +48,7 @@ module _ {d : List ℕ} {at number : ℕ} {out : List ℕ} {rest i : ℕ} (p : P
   unfolding lowFirst
   putting-end l = let none : 8 - i ≡ 0 = omega arith in emitted-end (p .emitted) (ap (λ (k : ℕ). lowFirst k rest) none)
 
--- bytes put right behind the first ones
+-- bytes put right after the first ones
 put-behind :
     (d xs ys : List ℕ) (at : ℕ) → length xs ≡ at → at ≤ length d → over (over d 0 xs) at ys ≡ over d 0 (xs ++ ys)
 put-behind d xs ys at e room =

@@ -25,7 +25,7 @@ abbrev found : Hit → Bool
 found (endsIn k) = true
 found (clear st) = false
 
--- the first hit at f, if that is one; else what is read, and the state behind it
+-- the first hit at f, if that is one; else what is read, and the state after it
 module _ (f : ℕ) (o : Outcome Text) (behind : Text → ℕ) where
   below : (b : Bool) (k : ℕ) → ltb f none ≡ b → cond b (ok (endsIn f)) (after o (λ t. ok (clear (behind t)))) ≡ ok (endsIn k) → k < none
   below true k l e =

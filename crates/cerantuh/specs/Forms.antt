@@ -32,7 +32,7 @@ lowValue (b ∷ l) = b + 256 * lowValue l
 unfoldable pub sumsBlock : Sums → List ℕ
 sumsBlock x = lowFirst 8 (x .segments) ++ lowFirst 8 (x .size) ++ lowFirst 8 (x .ends)
 
--- the block of a search from a state: segment count, size, number of ones, and the state behind the stretch
+-- the block of a search from a state: segment count, size, number of ones, and the state after the stretch
 unfoldable pub seenBlock : Seen → List ℕ
 seenBlock x = lowFirst 8 (x .segments) ++ lowFirst 8 (x .size) ++ lowFirst 8 (x .ends) ++ lowFirst 8 (x .state)
 
@@ -40,19 +40,19 @@ seenBlock x = lowFirst 8 (x .segments) ++ lowFirst 8 (x .size) ++ lowFirst 8 (x 
 unfoldable pub nextBlock : Next → List ℕ
 nextBlock x = lowFirst 8 (x .state) ++ lowFirst 8 (cond (x .ends) 1 0)
 
--- the block of the first hit: the segment or "none", and the state behind the stretch, 0 where something ends
+-- the block of the first hit: the segment or "none", and the state after the stretch, 0 where something ends
 unfoldable pub stopBlock : Stop → List ℕ
 stopBlock x = lowFirst 8 (x .segment) ++ lowFirst 8 (x .state)
 
--- what a form asks last: that its results, of so many bytes, have room in the block; 10
+-- what a form asks last: that its results, of that many bytes, have room in the block; 10
 abbrev pub withRoom : {A : Type 0} → ℕ → ℕ → Outcome A → Outcome A
 withRoom bytes block o = after o λ a. demand (leb bytes block) 10 0 (ok a)
 
--- two results that go into a block of so many bytes
+-- two results that go into a block of that many bytes
 abbrev pub twoInto : ℕ → ℕ → ℕ → Outcome (List ℕ)
 twoInto first second block = withRoom 16 block (ok (lowFirst 8 first ++ lowFirst 8 second))
 
--- a search with a mark buffer and a result block of so many bytes: 10 also where the block is too short
+-- a search with a mark buffer and a result block of that many bytes: 10 also where the block is too short
 unfoldable pub searchingInto : List ℕ → List ℕ → ℕ → ℕ → Outcome Text
 searchingInto P s marks block = withRoom 24 block (searching P s marks)
 
@@ -66,7 +66,7 @@ searchMarks marking P s marks block = leftBy marking (searchingInto P s (length 
 abbrev pub searchBlock : (Text → Sums) → List ℕ → List ℕ → List ℕ → List ℕ → List ℕ
 searchBlock summing P s marks block = leftBy (λ t. sumsBlock (summing t)) (searchingInto P s (length marks) (length block)) block
 
--- a search from a state with a mark buffer and a result block of so many bytes: 10 also where the block is too short
+-- a search from a state with a mark buffer and a result block of that many bytes: 10 also where the block is too short
 unfoldable pub seekingInto : List ℕ → ℕ → List ℕ → ℕ → ℕ → Outcome Text
 seekingInto P st s marks block = withRoom 32 block (seeking P st s marks)
 
@@ -81,7 +81,7 @@ abbrev pub fromBlock : List ℕ → Strand → ℕ → List ℕ → List ℕ →
 fromBlock P strand st s marks block =
     leftBy (λ t. seenBlock (seenFrom (onStrand strand P) st t)) (seekingInto P st s (length marks) (length block)) block
 
--- a feed with a result block of so many bytes: 10 is asked last
+-- a feed with a result block of that many bytes: 10 is asked last
 unfoldable pub feedingInto : List ℕ → Strand → ℕ → List ℕ → ℕ → Outcome Next
 feedingInto P strand st s block = withRoom 16 block (feeding P strand st s)
 
@@ -92,7 +92,7 @@ feedAnswer P strand st s block = coded (feedingInto P strand st s (length block)
 abbrev pub feedBlock : List ℕ → Strand → ℕ → List ℕ → List ℕ → List ℕ
 feedBlock P strand st s block = leftBy nextBlock (feedingInto P strand st s (length block)) block
 
--- the first hit with a result block of so many bytes: 10 is asked last, of a hit too
+-- the first hit with a result block of that many bytes: 10 is asked last, of a hit too
 unfoldable pub firstingInto : List ℕ → Strand → ℕ → List ℕ → ℕ → Outcome Hit
 firstingInto P strand st s block = withRoom 16 block (firsting P strand st s)
 

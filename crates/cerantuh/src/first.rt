@@ -1,5 +1,5 @@
-// The first hit for C: whether a stretch is clear, and if not, in which segment an occurrence ends first. What stands behind the hit is
-// not read. The stretches of a text are asked in order, the state behind each clear one handed to the next.
+// The first hit for C: whether a stretch is clear, and if not, in which segment an occurrence ends first. What stands after the hit is
+// not read. The stretches of a text are asked in order, the state after each clear one handed to the next.
 use crate::forms::first_hit;
 use text::strand::Strand;
 ghost use mathlib.Core.Path.{_≡_};

@@ -1,7 +1,7 @@
 // The C forms of the searches, the first hit and the feed, for the release tool. include/cerantuh.h is their C side.
 mod feeding;
 mod first;
-pub mod forms;
+mod forms;
 mod from;
 mod searching;
 

@@ -1,5 +1,5 @@
 // The release desk's night: screens a text of many stretches for a list of withheld sequences, on both strands, and prints the lines of
-// crate `said`. The words behind the program's name are `--first`, if each sequence is to be searched to its first end alone, the
+// crate `said`. The words after the program's name are `--first`, if each sequence is to be searched to its first end alone, the
 // list's file, then the files of the stretches in order, or `-l` and a file with one name to a line. The lines that decide go to
 // descriptor 3 as well, once all that stands before them is written: a program has no status, and who reads there need not read what
 // may be long.
@@ -17,7 +17,7 @@ use tell::say;
 use text::compare::same;
 use work::screen;
 
-// Screens the files that the command line names behind the list's word for the sequences of that list.
+// Screens the files that the command line names after the list's word for the sequences of that list.
 fn screen_for(list: &[u8], word: usize) {
     if !is_sound(list) {
         return;
@@ -30,7 +30,7 @@ fn screen_for(list: &[u8], word: usize) {
     screen(list, files, word == 2);
 }
 
-// The word of the command line that names the list: the second, or the one behind `--first`.
+// The word of the command line that names the list: the second, or the one after `--first`.
 fn list_word() -> usize {
     let mut word = io::buffer();
     let n = os::arg(1, &mut word);

@@ -114,7 +114,7 @@ fn listed(path: &[u8]) -> Files {
     }
 }
 
-// The files that the command line names from this word on, which stands behind the list's.
+// The files that the command line names from this word on, which stands after the list's.
 pub fn asked(at: usize) -> Files {
     let words = std::num::wrapping_sub_usize(os::arg_count(), at);
     let mut word = io::buffer();
@@ -153,7 +153,7 @@ fn ends_name(byte: usize, n: usize) -> bool {
     }
 }
 
-// Puts a byte behind a name of n bytes, unless it ends a line.
+// Puts a byte after a name of n bytes, unless it ends a line.
 fn put_byte(byte: usize, name: &mut [u8], n: usize) -> usize {
     match byte {
         10 | 13 => n,
@@ -179,7 +179,7 @@ fn next_name(fd: i32, name: &mut [u8]) -> usize {
     n
 }
 
-// The name of file i, which comes behind those before it.
+// The name of file i, which comes after those before it.
 pub fn name_of(files: Files, i: usize, name: &mut [u8]) -> usize
     ensures { λ r. ⌜ Counts r (now (name .exit)) ⌝ }
 {
@@ -190,7 +190,7 @@ pub fn name_of(files: Files, i: usize, name: &mut [u8]) -> usize
     bounded(n, name)
 }
 
-// So many bytes of a buffer, if it has as many; else none.
+// That many bytes of a buffer, if it has as many; else none.
 fn bounded(n: usize, name: &[u8]) -> usize
     ensures { λ r. ⌜ Counts r (now (name .entry)) ⌝ }
 {

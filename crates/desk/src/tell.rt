@@ -78,7 +78,7 @@ pub fn tell_refused(wrong: Refusal, name: &[u8]) {
     decide(&out[..n]);
 }
 
-// Where a sequence stands behind the whole text. Whether it is written.
+// Where a sequence stands after the whole text. Whether it is written.
 pub fn tell_standing(label: u64, standing: Standing) -> bool {
     let mut out = [0u8; 128];
     let n = put_standing(label, standing, &mut out);
@@ -92,7 +92,7 @@ pub fn tell_last(whole: bool, ends: u64) {
     decide(&out[..n]);
 }
 
-// So many files of all are done.
+// That many files of all are done.
 pub fn say_done(done: usize, all: usize) {
     let mut out = [0u8; 64];
     let n = put_done(done as u64, all as u64, &mut out);

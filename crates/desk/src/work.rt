@@ -106,7 +106,7 @@ fn over_file(work: Work, list: &[u8], files: Files, i: usize) -> Work {
     next
 }
 
-// Takes every sequence over every file, up to the first that is not read or refused, or behind which all have ended.
+// Takes every sequence over every file, up to the first that is not read or refused, or after which all have ended.
 fn over_files(list: &[u8], files: Files, first: bool) -> Work {
     let begun = Standing::begun();
     let mut work = Work {

@@ -42,7 +42,7 @@ module _ (l : List ℕ) (at : ℕ) where
   unfolding behind
   behind-none h = rw (le-ltb at (length l) h) refl
 
--- the next line begins behind a place of this one
+-- the next line begins after a place of this one
 pub behind-on : (s : List ℕ) {at stop next : ℕ} → next ≡ behind s stop → at < length s → at ≤ stop → at < next
 unfolding behind
 behind-on s {at} {stop} {next} e l h =
@@ -57,7 +57,7 @@ behind-on s {at} {stop} {next} e l h =
 pub inside-at : {n : ℕ} {x : Entry} {label start end : ℕ} → x ≡ Entry.Withheld label start end → Inside n x → (start ≤ end) × (end ≤ n)
 inside-at e h = rw e at h
 
--- a sequence and what stands behind it
+-- a sequence and what stands after it
 module _ (l : List ℕ) (label start : ℕ) {end : ℕ} (e : end ≡ past Word l start) where
   module _ (r : PatternIs) (told : toldPattern r ≡ pattern (take (end - start) (drop start l)) (ok (tt {0}))) where
     asked : toldPattern r ≡ pattern (between l start (past Word l start)) (ok (tt {0}))
@@ -79,7 +79,7 @@ module _ (l : List ℕ) (label start : ℕ) {end : ℕ} (e : end ≡ past Word l
       unfolding sequenceOf closedBy
       sequence-is h = rw (← asked, is, here, h) (ap (λ (n : ℕ). Entry.Withheld label start n) e)
 
--- what a line says: nothing, or a label and what stands behind it
+-- what a line says: nothing, or a label and what stands after it
 module _ (l : List ℕ) {first : ℕ} (a : first ≡ past Blank l 0) {none : Bool} (f : none ≡ endsAt l first) where
   begun : endsAt l (past Blank l 0) ≡ none
   begun = sym (f ∙ ap (endsAt l) a)

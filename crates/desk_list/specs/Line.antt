@@ -22,18 +22,18 @@ endsAt l at = leb (length l) at || eqb (getD l at 0) 35
 abbrev pub between : List ℕ → ℕ → ℕ → List ℕ
 between l from to = take (to - from) (drop from l)
 
--- a sequence and what stands behind it
+-- a sequence and what stands after it
 unfoldable pub closedBy : List ℕ → ℕ → ℕ → ℕ → Outcome (Unit {0}) → Entry
 closedBy l label start end (ok _) =
     cond (endsAt l (past Blank l end)) (Entry.Withheld label start end) (Entry.Wrong More)
 closedBy l label start end (refused n p) = Entry.Wrong (Sequence (record { number = n; place = p }))
 
--- the sequence from `start` on, behind its label
+-- the sequence from `start` on, after its label
 unfoldable pub sequenceOf : List ℕ → ℕ → ℕ → Entry
 sequenceOf l label start =
     closedBy l label start (past Word l start) (pattern (between l start (past Word l start)) (ok tt))
 
--- what stands behind the digits of a label
+-- what stands after the digits of a label
 unfoldable pub labelled : List ℕ → ℕ → Number → Entry
 labelled l digits Large = Entry.Wrong LargeLabel
 labelled l digits (Is label) =
@@ -50,7 +50,7 @@ labelOf l first =
 unfoldable pub entryOf : List ℕ → Entry
 entryOf l = cond (endsAt l (past Blank l 0)) Entry.Nothing (labelOf l (past Blank l 0))
 
--- where the line behind one that stops at `stop` begins
+-- where the line after one that stops at `stop` begins
 unfoldable pub behind : List ℕ → ℕ → ℕ
 behind s stop = cond (ltb stop (length s)) (stop + 1) stop
 
@@ -70,7 +70,7 @@ Inside n Entry.Nothing = Unit {0}
 Inside n (Entry.Withheld label start end) = (start ≤ end) × (end ≤ n)
 Inside n (Entry.Wrong fault) = Unit {0}
 
--- a sequence stands in a list of n bytes, and the next line begins behind this one
+-- a sequence stands in a list of n bytes, and the next line begins after this one
 abbrev pub Onward : ℕ → ℕ → Line → Type 0
 Onward at n (Line.Nothing next) = at < next
 Onward at n (Line.Withheld label start end next) = (start ≤ end) × (end ≤ n) × (at < next)

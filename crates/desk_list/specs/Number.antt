@@ -6,7 +6,7 @@ use lib.Dec.{ltb}
 use Rattle.desk_list.specs.declared.decimal.Number.{Number}
 use Rattle.desk_list.specs.declared.decimal.Number.the-variants.{Is, Large}
 
--- the number that digits tell, from the highest on, behind those that told n; the byte of a digit is 48 and the digit
+-- the number that digits tell, from the highest on, after those that told n; the byte of a digit is 48 and the digit
 unfoldable pub value : ℕ → List ℕ → ℕ
 value n [] = n
 value n (d ∷ ds) = value (n * 10 + d % 16) ds

@@ -1,5 +1,5 @@
 // The list of withheld sequences, as the text of a file. A line is a label, a decimal number, and a sequence of 1 to 64 bases, parted
-// by blanks; what stands behind a `#` is a comment, and a line with nothing else is passed over. A list is read line by line, where
+// by blanks; what stands after a `#` is a comment, and a line with nothing else is passed over. A list is read line by line, where
 // it stands, since nothing of it is copied.
 mod classes;
 mod decimal;

@@ -17,11 +17,11 @@ pub enum Fault {
     NoLabel,
     // The number is over 64 bits.
     LargeLabel,
-    // No sequence stands behind the number, parted from it by a blank.
+    // No sequence stands after the number, parted from it by a blank.
     NoSequence,
     // The sequence is refused as a pattern: 2 or 3.
     Sequence(Refusal),
-    // Something stands behind the sequence.
+    // Something stands after the sequence.
     More,
 }
 
@@ -61,7 +61,7 @@ fn ends_at(line: &[u8], at: usize) -> bool
     line[at] == b'#'
 }
 
-// The sequence from `start` on, behind its label.
+// The sequence from `start` on, after its label.
 fn sequence(line: &[u8], label: u64, start: usize) -> Entry
     requires { ⌜ start ≤ length (now line) ⌝ }
     ensures { λ r. ⌜ (r ≡ sequenceOf (now (line .entry)) label start) × Inside (length (now (line .entry))) r ⌝ }
@@ -102,7 +102,7 @@ fn content(line: &[u8]) -> Entry
     sequence(line, label, start)
 }
 
-// Where the line behind one that stops at `stop` begins: there is a line's end at most.
+// Where the line after one that stops at `stop` begins: there is a line's end at most.
 fn behind(list: &[u8], stop: usize) -> usize
     ensures { λ r. ⌜ r ≡ behind (now (list .entry)) stop ⌝ }
 {

@@ -198,7 +198,7 @@ module _ (P : List ℕ) (strand : Strand) (st : ℕ) (s : List ℕ) where
       let Q : List ℕ = onStrand strand P in
       hit-small (ltb (firstIn Q st s) none) (firstIn Q st s) j (stretchOf s) Q refl (said-entered (endsIn j) e .1)
 
-  -- nothing ends: the stretch is sound, and the state is the one behind it
+  -- nothing ends: the stretch is sound, and the state is the one after it
   pub said-clear : (a : ℕ) → firsting P strand st s ≡ ok (clear a) → (t : Text) × (stretchOf s ≡ ok t) × (run (onStrand strand P) st t ≡ a)
   unfolding hitting
   said-clear a e =

@@ -37,7 +37,7 @@ count-append i [] l = let z : length (markedFrom i l) ≡ 0 + length (markedFrom
 count-append i (x ∷ xs) l =
     count-more (eqb x 1) i (markedFrom (suc i) xs) (markedFrom (suc i) (xs ++ l)) (length (markedFrom 0 l)) (count-append (suc i) xs l)
 
--- what stands behind the first row
+-- what stands after the first row
 pub getD-behind : (k l : List ℕ) (j : ℕ) → getD (k ++ l) (length k + j) 0 ≡ getD l j 0
 getD-behind [] l j = let z : 0 + j ≡ j = omega arith in ap (λ (i : ℕ). getD l i 0) z
 getD-behind (x ∷ k) l j =

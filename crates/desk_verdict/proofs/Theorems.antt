@@ -52,7 +52,7 @@ EndsOnEither P T j = EndsIn P T j ⊎ EndsIn (opposite P) T j
 abbrev pub most : ℕ
 most = 0xffffffffffffffff
 
--- x is where P stands behind the text T: the states of both strands, the number of segments, and the number of those in which P ends
+-- x is where P stands after the text T: the states of both strands, the number of segments, and the number of those in which P ends
 pub record At (P : List ℕ) (T : Text) (x : Standing) : Type 0 where
   pub own : x .given .bits ≡ run P fresh T
   pub turned : x .opposite .bits ≡ run (opposite P) fresh T
@@ -68,7 +68,7 @@ module _ (P : List ℕ) (T t : Text) where
   unfolding marks
   level = marks-length P fresh T ∙ sym (marks-length (opposite P) fresh T)
 
-  -- the marks behind T are those of the search from where P stands
+  -- the marks after T are those of the search from where P stands
   pub marks-behind : (x : Standing) → At P T x → eitherMarks P (T ++ t) ≡ eitherMarks P T ++ bothMarks P x t
   unfolding eitherMarks bothMarks eitherFrom marks
   marks-behind x a =
@@ -99,7 +99,7 @@ passing-means : (P : List ℕ) (x : Standing) (s : List ℕ) (room : ℕ) (t : T
 unfolding passing
 passing-means P x s room t e = both-sought P (x .given .bits) (x .opposite .bits) s room t e .2
 
--- stretches of any number, taken one after another: all of them are accepted, and P stands where it stands behind their text
+-- stretches of any number, taken one after another: all of them are accepted, and P stands where it stands after their text
 pub record Stood (P : List ℕ) (T : Text) (ss : List (List ℕ)) (y : Standing) : Type 0 where
   pub text : Text
   pub accepted : stretchesText ss ≡ ok text
@@ -136,7 +136,7 @@ stands-clear P ss y sound e none =
     let z = stands-text P ss y e in
     (z .text, z .accepted, λ j h. (let c : ⊥ = omega (arith, none, z .at .ends, ends-some P (z .text) j sound h) in c))
 
--- a file behind others: with T the text of those before, t its own and U that of those behind, segment j of it is reported exactly when an
+-- a file after others: with T the text of those before, t its own and U that of those after, segment j of it is reported exactly when an
 -- occurrence ends, on either strand, in segment `length T + j` of the whole text
 module _ (P : List ℕ) (T t U : Text) (x : Standing) (a : At P T x) where
   both-append : bothMarks P x (t ++ U) ≡ bothMarks P x t ++ united (marksFrom P (run P (x .given .bits) t) U)
@@ -247,7 +247,7 @@ first-of P T x s k y sound a e met =
       held = ap (λ (z : Standing). z .ends) (heard .1);
     }
 
--- what `--first` reports of a stretch behind others is the first end of the sequence, with its number in the text
+-- what `--first` reports of a stretch after others is the first end of the sequence, with its number in the text
 pub first-reported : (P : List ℕ) (ss : List (List ℕ)) (x : Standing) (s : List ℕ) (k : ℕ) (y : Standing) → SoundPattern P
     → halts P begun ss ≡ ok x → x .ends ≡ 0 → halting P x s ≡ ok (at k y)
     → (T : Text) × (stretchesText ss ≡ ok T) × FirstOf P T (wholeOf s) k x y

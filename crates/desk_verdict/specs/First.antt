@@ -1,4 +1,4 @@
--- Where a withheld sequence stands that is searched to its first end alone, behind stretches that are read one after another up to there.
+-- Where a withheld sequence stands that is searched to its first end alone, after stretches that are read one after another up to there.
 use Prim.Native.Nat.{ℕ, min}
 use mathlib.Core.Bool.{cond}
 use mathlib.Core.List.{List, [], _∷_}
@@ -12,12 +12,12 @@ use Rattle.desk_verdict.specs.declared.standing.Standing.{Standing}
 use Rattle.desk_verdict.specs.declared.first.Heard.{Heard}
 use Rattle.desk_verdict.specs.declared.first.Stopped.{Stopped}
 
--- an end on either strand in a segment; or that nothing ends, and the states behind the stretch
+-- an end on either strand in a segment; or that nothing ends, and the states after the stretch
 pub data Either : Type 0 where
   ends : ℕ → Either
   nowhere : ℕ → ℕ → Either
 
--- what two strands say of one stretch: the earlier end, whatever fault is behind it; a refusal where neither ends
+-- what two strands say of one stretch: the earlier end, whatever fault is after it; a refusal where neither ends
 abbrev pub earlier : Outcome Hit → Outcome Hit → Outcome Either
 earlier (ok (endsIn j)) (ok (endsIn k)) = ok (ends (min j k))
 earlier (ok (endsIn j)) (ok (clear b)) = ok (ends j)
@@ -38,7 +38,7 @@ toldHeard (Heard.Refused r) = refused (r .number) (r .place)
 unfoldable pub onBoth : List ℕ → Standing → List ℕ → Outcome Either
 onBoth P x s = earlier (firsting P Given (x .given .bits) s) (firsting P Opposite (x .opposite .bits) s)
 
--- the first end in a segment of a stretch, and where the sequence then stands; or where it stands behind the stretch
+-- the first end in a segment of a stretch, and where the sequence then stands; or where it stands after the stretch
 pub data Halt : Type 0 where
   at : ℕ → Standing → Halt
   goes : Standing → Halt
@@ -52,7 +52,7 @@ reached (goes x) = x
 abbrev pub ended : Standing → ℕ → Standing
 ended x k = record { given = x .given; opposite = x .opposite; segments = plus (x .segments) (plus k 1); ends = 1 }
 
--- no end in n segments: the states behind them
+-- no end in n segments: the states after them
 abbrev pub gone : Standing → ℕ → ℕ → ℕ → Standing
 gone x a b n = record { given = record { bits = a }; opposite = record { bits = b }; segments = plus (x .segments) n; ends = 0 }
 
@@ -70,7 +70,7 @@ toldStopped (Stopped.Ends k x) = ok (at k x)
 toldStopped (Stopped.Goes x) = ok (goes x)
 toldStopped (Stopped.Refused r) = refused (r .number) (r .place)
 
--- where the sequence stands behind stretches, one after another, up to its first end; the first that is refused before refuses all
+-- where the sequence stands after stretches, one after another, up to its first end; the first that is refused before refuses all
 unfoldable pub halts : List ℕ → Standing → List (List ℕ) → Outcome Standing
 halts P x [] = ok x
 halts P x (s ∷ ss) = after (halting P x s) λ h. halts P (reached h) ss

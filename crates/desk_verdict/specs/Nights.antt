@@ -1,4 +1,4 @@
--- What a night comes to: the sequences of a list, each behind all stretches of a row.
+-- What a night comes to: the sequences of a list, each after all stretches of a row.
 use Prim.Native.Nat.{ℕ}
 use mathlib.Core.List.{List, [], _∷_}
 use Rattle.text.specs.Refusal.{Outcome, ok, after}
@@ -11,7 +11,7 @@ unfoldable pub allEnds : (List ℕ → Outcome Standing) → List (List ℕ) →
 allEnds stand [] = ok 0
 allEnds stand (P ∷ Ps) = after (stand P) λ x. after (allEnds stand Ps) λ n. ok (plus (x .ends) n)
 
--- the same behind all stretches
+-- the same after all stretches
 unfoldable pub night : List (List ℕ) → List (List ℕ) → Outcome ℕ
 night Ps ss = allEnds (λ P. stands P begun ss) Ps
 

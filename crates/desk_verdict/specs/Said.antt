@@ -80,11 +80,11 @@ counted word n = word ++ digits n
 unfoldable pub named : List ℕ → List ℕ → List ℕ
 named word name = word ++ name ++ (10 ∷ [])
 
--- a segment in which a sequence ends, with so many segments in the files before: its number in the text, and in its file
+-- a segment in which a sequence ends, with that many segments in the files before: its number in the text, and in its file
 unfoldable pub hitLine : ℕ → ℕ → ℕ → List ℕ → List ℕ
 hitLine label before j name = digits label ++ counted endsWord (plus before j) ++ counted textWord j ++ named ofWord name
 
--- where a sequence stands behind the whole text: clear, or in how many of the segments it ends
+-- where a sequence stands after the whole text: clear, or in how many of the segments it ends
 unfoldable pub standingLine : ℕ → Standing → List ℕ
 standingLine label x =
     cond (eqb (x .ends) 0) (digits label ++ clearWord)

@@ -1,4 +1,4 @@
--- Where a withheld sequence stands behind the stretches of a text, searched one after another on both strands.
+-- Where a withheld sequence stands after the stretches of a text, searched one after another on both strands.
 use Prim.Native.Nat.{ℕ, _+_, min}
 use mathlib.Core.Bool.{not}
 use mathlib.Core.List.{List, [], _∷_}
@@ -32,7 +32,7 @@ passing P x s room = seekingBoth P (x .given .bits) (x .opposite .bits) s room
 unfoldable pub bothMarks : List ℕ → Standing → Text → List ℕ
 bothMarks P x t = eitherFrom P (x .given .bits) (x .opposite .bits) t
 
--- where the sequence stands behind a text
+-- where the sequence stands after a text
 unfoldable pub stood : List ℕ → Standing → Text → Standing
 stood P x t =
     record {
@@ -42,7 +42,7 @@ stood P x t =
       ends = plus (x .ends) (length (markedFrom 0 (bothMarks P x t)));
     }
 
--- what is told of a stretch: its segment count, and where the sequence stands behind it
+-- what is told of a stretch: its segment count, and where the sequence stands after it
 pub record Behind : Type 0 where
   pub segments : ℕ
   pub standing : Standing
@@ -58,7 +58,7 @@ toldPassed (Refused r) = refused (r .number) (r .place)
 abbrev pub begun : Standing
 begun = record { given = record { bits = 1 }; opposite = record { bits = 1 }; segments = 0; ends = 0 }
 
--- where the sequence stands behind stretches, one after another; the first that is refused refuses all
+-- where the sequence stands after stretches, one after another; the first that is refused refuses all
 unfoldable pub stands : List ℕ → Standing → List (List ℕ) → Outcome Standing
 stands P x [] = ok x
 stands P x (s ∷ ss) = after (passing P x s mostInStretch) λ t. stands P (stood P x t) ss

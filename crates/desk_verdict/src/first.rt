@@ -13,14 +13,14 @@ ghost use Prim.Native.Nat.{min};
 ghost use Rattle.search.specs.First.{toldFirst};
 ghost use Rattle.desk_verdict.specs.First.{earlier, toldHeard, onBoth, ended, gone, halting, toldStopped};
 
-// The first segment of a stretch in which the sequence ends on either strand; or the states behind it.
+// The first segment of a stretch in which the sequence ends on either strand; or the states after it.
 enum Heard {
     Ends(usize),
     Nowhere { given: State, opposite: State },
     Refused(Refusal),
 }
 
-// The first segment of a stretch in which the sequence ends, and where it then stands; or where it stands behind the whole of it.
+// The first segment of a stretch in which the sequence ends, and where it then stands; or where it stands after the whole of it.
 pub enum Stopped {
     Ends { segment: usize, standing: Standing },
     Goes(Standing),
@@ -34,7 +34,7 @@ fn least(a: usize, b: usize) -> usize
     if a < b { a } else { b }
 }
 
-// What two strands say of one stretch: the earlier end, whatever fault is behind it; a refusal where neither ends.
+// What two strands say of one stretch: the earlier end, whatever fault is after it; a refusal where neither ends.
 fn earlier(own: First, other: First) -> Heard
     ensures { λ r. ⌜ toldHeard r ≡ earlier (toldFirst own) (toldFirst other) ⌝ }
 {
@@ -84,7 +84,7 @@ fn ended(standing: Standing, segment: usize) -> Standing
     }
 }
 
-// Where a sequence stands behind a stretch of so many segments in which it does not end, from the states there.
+// Where a sequence stands after a stretch of that many segments in which it does not end, from the states there.
 fn gone(standing: Standing, given: State, opposite: State, count: usize) -> Standing
     ensures { λ r. ⌜ r ≡ gone standing (given .bits) (opposite .bits) count ⌝ }
 {

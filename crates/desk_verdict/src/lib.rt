@@ -1,4 +1,4 @@
-// What the release desk decides of a text that comes as stretches: where a withheld sequence stands behind each of them, and in which
+// What the release desk decides of a text that comes as stretches: where a withheld sequence stands after each of them, and in which
 // segments it ends.
 mod first;
 mod marked;

@@ -1,4 +1,4 @@
-// Where a withheld sequence stands behind the stretches of a text that were searched so far, and how one more stretch moves it.
+// Where a withheld sequence stands after the stretches of a text that were searched so far, and how one more stretch moves it.
 use crate::sum::plus;
 use search::Pair;
 use search::SoughtBoth;
@@ -33,7 +33,7 @@ impl Standing {
     }
 }
 
-// The segment count of a stretch, and where the sequence stands behind it.
+// The segment count of a stretch, and where the sequence stands after it.
 pub enum Passed {
     To { segments: usize, standing: Standing },
     Refused(Refusal),

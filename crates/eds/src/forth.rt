@@ -16,7 +16,7 @@ use text::refusal;
 // The most variants of a stretch, each of which has a length of two bytes.
 const MOST_VARIANTS: usize = refusal::GREATEST_STRETCH / 2;
 
-// How far a text has come: what is held of it, the place behind what was read, and the stretches written.
+// How far a text has come: what is held of it, the place after what was read, and the stretches written.
 struct Text {
     tape: Tape,
     place: Place,

@@ -2,7 +2,7 @@
 use eds_notation::Place;
 use lines::put_line;
 
-// Writes the first n of these bytes to standard output, where there are so many.
+// Writes the first n of these bytes to standard output, where there are that many.
 pub fn write_front(bytes: &[u8], n: usize) {
     if n <= bytes.len() {
         io::write_all(1, &bytes[0..n]);

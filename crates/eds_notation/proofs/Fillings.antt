@@ -73,6 +73,11 @@ module _ (t : Tape) (more another : ℕ) where
         le-leb (t .begun .variants) 254 s,
       )
 
+pub fitting-fits : {t : Tape} {more another : ℕ} → Fitting t more another → fits t more another ≡ true
+fitting-fits {t} {more} {another} f =
+    sym (fits-last t more another (f .spelt) (f .letters) (f .lengths) (f .variants) more another refl refl)
+    ∙ le-leb (2 + (t .counts + 1) + 2 * (t .lengths + 1 + another) + t .letters + more) greatestStretch (f .bytes)
+
 -- there is no room
 pub none-closed : (t : Tape) → t .counts ≡ 0 → Step.Wrong 8 ≡ noRoom t
 unfolding noRoom

@@ -5,6 +5,7 @@ pub mod Fillings
 pub mod Kept
 pub mod Lines
 pub mod ReadsBack
+pub mod ReadsWhole
 pub mod Repeats
 pub mod Shows
 pub mod Theorems

@@ -19,7 +19,7 @@ module _ (p : Place) (x : ℕ) where
   unfolding overByte
   over-byte e n is = rw (ne-eqb x 0x0A e, is)
 
--- behind i of the bytes, of which n count
+-- after i of the bytes, of which n count
 pub record Behind (p : Place) (bytes : List ℕ) (n : ℕ) (q : Place) (i : ℕ) : Type 0 where
   pub upto : i ≤ n
   pub inside : i ≤ length bytes

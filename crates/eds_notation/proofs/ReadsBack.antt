@@ -1,5 +1,5 @@
 -- Laws of the way back: the notation of a text, read, puts the text's own letters, lengths and counts.
-use Prim.Native.Nat.{ℕ, suc, _+_, _<_, _≤_}
+use Prim.Native.Nat.{ℕ, suc, _+_, _*_, _<_, _≤_}
 use native.Mathlib.Omega.{arith}
 use mathlib.Core.Path.{_≡_, refl, sym, ap, _∙_}
 use mathlib.Core.Bool.{Bool, true, false, _&&_, true≢false}
@@ -23,7 +23,7 @@ use Rattle.eds_notation.specs.declared.notation.Begun.{Begun}
 use Rattle.eds_notation.specs.declared.notation.Act.the-variants.{Pass, Letter, Variant as Ends, Segment as Closes}
 
 -- inside braces: k variants are closed, and m letters are read, p of them of the open variant
-abbrev inside : ℕ → ℕ → ℕ → Begun
+abbrev pub inside : ℕ → ℕ → ℕ → Begun
 inside k m p = record { mode = Braced; variants = k; letters = m; spelt = p }
 
 -- a letter is no white space: one computed test over all bytes
@@ -37,21 +37,21 @@ seen x e =
     true≢false (sym (some-anyBelow (λ x. letter x && white x) 256 x (letter-byte x e) (and-both (letter x) (white x) e w)) ∙ none-white)
 
 -- what the signs and letters do inside braces
-act-letter :
+pub act-letter :
     (k m p x : ℕ) → letter x ≡ true → m < greatestStretch → p < greatestStretch →
     actOf (inside k m p) x ≡ Letter (inside k (m + 1) (p + 1))
 unfolding actOf lettered
 act-letter k m p x e l j = rw (seen x e, e, lt-leb greatestStretch m l, lt-leb greatestStretch p j)
 
-act-brace : actOf nothing 0x7B ≡ Pass brace
+pub act-brace : actOf nothing 0x7B ≡ Pass brace
 unfolding actOf white letter capital raised base
 act-brace = refl
 
-act-comma : (k m p : ℕ) → k < 254 → actOf (inside k m p) 0x2C ≡ Ends (inside (k + 1) m 0)
+pub act-comma : (k m p : ℕ) → k < 254 → actOf (inside k m p) 0x2C ≡ Ends (inside (k + 1) m 0)
 unfolding actOf white letter capital raised base
 act-comma k m p l = rw (lt-leb 254 k l)
 
-act-close : (k m p : ℕ) → actOf (inside k m p) 0x7D ≡ Closes nothing
+pub act-close : (k m p : ℕ) → actOf (inside k m p) 0x7D ≡ Closes nothing
 unfolding actOf white letter capital raised base
 act-close k m p = refl
 
@@ -120,7 +120,7 @@ all-letters (v ∷ g) e =
     (all-letters g (and-right (every capital v) (all (every capital) g) e))
 
 -- a segment that can be written
-some-letters : (g : Segment) → writableSegment g ≡ true → (0 < length g) × (length g ≤ 255) × (all (every letter) g ≡ true)
+pub some-letters : (g : Segment) → writableSegment g ≡ true → (0 < length g) × (length g ≤ 255) × (all (every letter) g ≡ true)
 unfolding writableSegment
 some-letters g e =
     let a : Bool = ltb 0 (length g) in
@@ -157,17 +157,17 @@ read-braced (v ∷ g) s e l =
     ∙ ap (λ (q : ℕ). onto (v ++ flatten g) (n ∷ map length g) (q ∷ []) (reads nothing s)) count in
     rw act-brace both
 
--- its letters are fewer than its bytes
-few-letters : (g : Segment) → length (flatten g) ≤ length (bytesOf encodeVariant g)
+-- the bytes of a segment's variants
+pub variant-bytes : (g : Segment) → length (bytesOf encodeVariant g) ≡ 2 * length g + length (flatten g)
 unfolding flatten bytesOf encodeVariant wordBytes
-few-letters [] = omega arith
-few-letters (v ∷ g) =
+variant-bytes [] = refl
+variant-bytes (v ∷ g) =
     let a : length (v ++ flatten g) ≡ length v + length (flatten g) = length-append v (flatten g) in
     let b = length-append (wordBytes (length v) ++ v) (bytesOf encodeVariant g) in
     let c = length-append (wordBytes (length v)) v in
-    omega (arith, a, b, c, few-letters g)
+    omega (arith, a, b, c, variant-bytes g)
 
-flatten-more : {A : Type 0} (a b : List (List A)) → flatten (a ++ b) ≡ flatten a ++ flatten b
+pub flatten-more : {A : Type 0} (a b : List (List A)) → flatten (a ++ b) ≡ flatten a ++ flatten b
 unfolding flatten
 flatten-more [] b = refl
 flatten-more (x ∷ a) b = ap (λ r. x ++ r) (flatten-more a b) ∙ sym (append-assoc x (flatten a) (flatten b))
@@ -183,7 +183,7 @@ unfolding reads all bytesOf flatten lettersOf lengthsOf countsOf encodeSegment
 read-text [] e l = refl
 read-text (g ∷ t) e l =
     let sized = length-append (length g ∷ bytesOf encodeVariant g) (bytesOf encodeSegment t) in
-    let small : length (flatten g) ≤ greatestStretch = omega (arith, sized, few-letters g) in
+    let small : length (flatten g) ≤ greatestStretch = omega (arith, sized, variant-bytes g) in
     let one : reads nothing (braced g ++ bytesOf braced t)
     ≡ onto (flatten g) (map length g) (length g ∷ []) (reads nothing (bytesOf braced t)) =
     read-braced g (bytesOf braced t) (and-left (writableSegment g) (all writableSegment t) e) small in

@@ -19,7 +19,7 @@ use Rattle.layout.proofs.Theorems.{accepted-writable}
 use Rattle.writer.proofs.RoundTrips.{written-again, letters-of-raised}
 use Rattle.eds_notation.specs.Notation.{nothing}
 use Rattle.eds_notation.specs.Reading.{Read, rests, reads}
-use Rattle.eds_notation.specs.Filling.{Buffers, emptyTape, stepOf, came, readOn}
+use Rattle.eds_notation.specs.Filling.{Buffers, buffers, emptyTape, stepOf, came, readOn}
 use Rattle.eds_notation.specs.Cutting.{within, cutOff, closedWriting}
 use Rattle.eds_notation.specs.Braces.{inBraces}
 use Rattle.eds_notation.specs.declared.notation.Begun.{Begun}
@@ -28,6 +28,7 @@ use Rattle.eds_notation.specs.declared.filling.Tape.{Tape}
 use Rattle.eds_notation.specs.declared.filling.Step.the-variants.{Full}
 use Rattle.eds_notation.specs.declared.filling.Filled.the-variants.{All}
 use Rattle.eds_notation.proofs.ReadsBack.{whole, reads-back}
+use Rattle.eds_notation.proofs.ReadsWhole.{Whole, read-whole}
 use Rattle.eds_notation.proofs.Kept.{heldIn, PieceKept, Inside, read-kept, read-inside, full-closed}
 use Rattle.eds_notation.proofs.Cuts.{NothingLost, cut-kept, within-none, closed-given}
 
@@ -64,7 +65,15 @@ notation-reads-back = reads-back
 pub braces-read-back : (s : List ℕ) → Bytes s → (t : Text) → stretchOf s ≡ ok t → reads nothing (inBraces t) ≡ whole t
 braces-read-back s bytes t e = reads-back t (accepted-writable s bytes t e)
 
--- Where `read_on` has read all of the notation of a text, `write_closed` is given exactly that text, so that it writes it.
+-- `read_on` reads the notation of a text that can be written whole, where the buffers have room for it: no byte of it is told to be full, to
+-- repeat a variant or to be too much.
+pub notation-read-whole :
+    (t : Text) → writable t ≡ true → (letters lengths counts : List ℕ) → length (lettersOf t) ≤ length letters →
+    length (lengthsOf t) ≤ length lengths → length (countsOf t) ≤ length counts →
+    Whole (readOn emptyTape (buffers letters lengths counts) 0 (inBraces t))
+notation-read-whole = read-whole
+
+-- Then `write_closed` is given exactly that text, so that it writes it.
 module _
     (t : Text) (w : writable t ≡ true) (b c : Buffers) (u : Tape) (read : readOn emptyTape b 0 (inBraces t) ≡ came (All u) c) where
   held : heldIn u c (rests (u .begun) 0) ≡ whole t
@@ -99,3 +108,13 @@ module _
       closed-given u (c .letters) (c .lengths) (c .counts) room (inside .counts-in)
       (within-none u (length (c .letters)) (length (c .lengths)) (inside .letters-in) (inside .lengths-in) open-none)
       ∙ rw (a, d, letters-are, lengths-are, counts-are, upper) (written-again t room w fits)
+
+-- So the way from a text to its notation and back through `read_on` and `write_closed` gives the text.
+pub notation-round-trip :
+    (t : Text) (w : writable t ≡ true) (letters lengths counts : List ℕ) (a : length (lettersOf t) ≤ length letters)
+    (b : length (lengthsOf t) ≤ length lengths) (c : length (countsOf t) ≤ length counts) (room : ℕ) → length (encode t) ≤ room →
+    let x = read-whole t w letters lengths counts a b c in
+    closedWriting (x .tape) (x .left .letters) (x .left .lengths) (x .left .counts) room ≡ ok t
+notation-round-trip t w letters lengths counts a b c room fits =
+    let x = read-whole t w letters lengths counts a b c in
+    notation-written t w (buffers letters lengths counts) (x .left) (x .tape) (x .is) room fits

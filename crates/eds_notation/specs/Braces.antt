@@ -14,7 +14,7 @@ use Rattle.lines.specs.Puts.{Put}
 use Rattle.eds_notation.specs.declared.braced.Braced.{Braced}
 use Rattle.eds_notation.specs.declared.braced.Braced.the-variants.{Bytes, Refused}
 
--- the variants of a segment, the first behind this mark and each further one behind a comma, and the brace that closes
+-- the variants of a segment, the first after this mark and each further one after a comma, and the brace that closes
 unfoldable pub listed : ℕ → Segment → List ℕ
 listed mark [] = 0x7D ∷ []
 listed mark (v ∷ g) = (mark ∷ []) ++ (v ++ listed 0x2C g)

@@ -11,7 +11,7 @@ use Rattle.writer.specs.Writing.{writing}
 use Rattle.eds_notation.specs.Filling.{tapeOf, openLetters, openLengths}
 use Rattle.eds_notation.specs.declared.filling.Tape.{Tape}
 
--- the tape lies within buffers of so many letters and lengths, and what stands open within the tape
+-- the tape lies within buffers of that many letters and lengths, and what stands open within the tape
 unfoldable pub within : Tape → ℕ → ℕ → Bool
 within t letters lengths =
     leb (t .letters) letters

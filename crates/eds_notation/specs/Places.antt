@@ -1,4 +1,4 @@
--- Lines and columns: counted from 1, a column for each byte, and a new line behind each line end.
+-- Lines and columns: counted from 1, a column for each byte, and a new line after each line end.
 use Prim.Native.Nat.{ℕ, _+_, min}
 use mathlib.Core.Bool.{cond}
 use mathlib.Core.List.{List, [], _∷_}
@@ -12,11 +12,11 @@ greatest = 18446744073709551615
 unfoldable pub next : ℕ → ℕ
 next n = min greatest (n + 1)
 
--- behind one byte
+-- after one byte
 unfoldable pub overByte : Place → ℕ → Place
 overByte p x = cond (eqb x 0x0A) (record { line = next (p .line); column = 1 }) (record { line = p .line; column = next (p .column) })
 
--- behind these bytes
+-- after these bytes
 unfoldable pub behind : Place → List ℕ → Place
 behind p [] = p
 behind p (x ∷ s) = behind (overByte p x) s

@@ -1,4 +1,4 @@
--- What the bytes of a text put, one behind another, into letters, variant lengths and variant counts, as a write takes them.
+-- What the bytes of a text put, one after another, into letters, variant lengths and variant counts, as a write takes them.
 use Prim.Native.Nat.{ℕ, _+_}
 use mathlib.Core.List.{List, [], _∷_, _++_}
 use Rattle.eds_notation.specs.Notation.{actOf}
@@ -6,7 +6,7 @@ use Rattle.eds_notation.specs.declared.notation.Begun.{Begun}
 use Rattle.eds_notation.specs.declared.notation.Act.{Act}
 use Rattle.eds_notation.specs.declared.notation.Act.the-variants.{Pass, Letter, Variant, Segment, Wrong}
 
--- what is put, what stands open behind it, and the number of what is wrong there, 0 where nothing is
+-- what is put, what stands open after it, and the number of what is wrong there, 0 where nothing is
 pub record Read : Type 0 where
   pub letters : List ℕ
   pub lengths : List ℕ

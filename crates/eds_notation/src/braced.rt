@@ -8,7 +8,7 @@ use stretch::read;
 use text::Refusal;
 ghost use Rattle.eds_notation.specs.Braces.{ThereIs, SegmentShown, BracesPut};
 
-// The place behind the braces, or why the stretch is refused.
+// The place after the braces, or why the stretch is refused.
 pub enum Braced {
     Bytes(usize),
     Refused(Refusal),
@@ -45,7 +45,7 @@ fn put_segment(stretch: &[u8], segment: usize, out: &mut [u8], at: usize) -> usi
     put_bytes(b"}", &mut *out, next)
 }
 
-// All segments, one behind another.
+// All segments, one after another.
 pub fn put_braces(stretch: &[u8], out: &mut [u8]) -> Braced
     ensures { λ r. ⌜ BracesPut (now (stretch .entry)) (now (out .entry)) r (now (out .exit)) ⌝ }
 {

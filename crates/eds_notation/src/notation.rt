@@ -20,7 +20,7 @@ pub struct Begun {
     pub spelt: usize,
 }
 
-// What a byte does, and what stands open behind it: nothing is put, or the letter itself, or the open variant is closed, or it and its
+// What a byte does, and what stands open after it: nothing is put, or the letter itself, or the open variant is closed, or it and its
 // segment are; or the byte is wrong here.
 pub enum Act {
     Pass(Begun),

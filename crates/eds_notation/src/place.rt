@@ -26,7 +26,7 @@ impl Place {
         Place { line: 1, column: 1 }
     }
 
-    // Behind one byte.
+    // After one byte.
     fn over(self, byte: u8) -> Place
         ensures { λ r. ⌜ r ≡ overByte self byte ⌝ }
     {
@@ -42,7 +42,7 @@ impl Place {
         }
     }
 
-    // Behind these bytes, up to the n-th.
+    // After these bytes, up to the n-th.
     pub fn behind(self, bytes: &[u8], n: usize) -> Place
         ensures { λ r. ⌜ r ≡ behind self (take n (now (bytes .entry))) ⌝ }
     {

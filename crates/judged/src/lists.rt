@@ -18,7 +18,7 @@ fn with(list: List, word: &[u8]) -> List {
     list.with(part(&bases, 0, m), label)
 }
 
-// The list whose length is the word of that number, and whose records are those behind it.
+// The list whose length is the word of that number, and whose records are those after it.
 fn list(line: &[u8], length: usize) -> List {
     let n = number(line, length);
     let mut list = List::empty();
@@ -35,7 +35,7 @@ fn known(line: &[u8], text: &[u8]) -> Answer {
     found(list(line, 2).first(text))
 }
 
-// ticked STRETCH room MARKS n PATTERNS = : a mark for each of n records, into forty bytes, each 7 before, of which so many are lent.
+// ticked STRETCH room MARKS n PATTERNS = : a mark for each of n records, into forty bytes, each 7 before, of which that many are lent.
 fn ticked(line: &[u8], text: &[u8]) -> Answer {
     let mut left = [7u8; 40];
     raw(&mut left, word(line, 3));

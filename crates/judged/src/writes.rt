@@ -19,7 +19,7 @@ fn lengths_in(out: &mut [u16], bytes: &[u8]) {
     }
 }
 
-// A write into the first so many bytes of a buffer.
+// A write into the first that many bytes of a buffer.
 fn write_into(
     out: &mut [u8],
     room: usize,
@@ -33,7 +33,7 @@ fn write_into(
     written(stretch::write(letters, lengths, counts, &mut out[0..room]))
 }
 
-// A write into so many bytes of a buffer of 7, where it leaves this stretch in front of it.
+// A write into that many bytes of a buffer of 7, where it leaves this stretch in front of it.
 fn write_left(line: &[u8], text: &[u8], letters: &[u8], lengths: &[u16], counts: &[u8]) -> Answer {
     let mut left = [7u8; 40000];
     put_part(&mut left, 0, text);

@@ -26,7 +26,7 @@ use Rattle.layout.proofs.Stands.{Stands, stands-front, stands-back, sta
 use Rattle.layout.proofs.Rows.{row-many, written-row}
 use Rattle.layout.proofs.Lengths.{filled, filled-lengths}
 
--- variants that can stand behind those seen
+-- variants that can stand after those seen
 pub record Fresh (seen l : Segment) : Type 0 where
   pub letters : all (every capital) l ≡ true
   pub once : distinct seen l ≡ true

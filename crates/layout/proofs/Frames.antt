@@ -52,7 +52,7 @@ module _ (s : List ℕ) where
   unfolding fitsAt
   fits-short l = rw (le-leb (length s) greatestStretch l)
 
-  -- what `fits` tells, whatever is asked behind it
+  -- what `fits` tells, whatever is asked after it
   module _ {v : Verdict} (told : toldVerdict v ≡ fitsAt s) where
     pub fits-refused : {w : Refusal} → v ≡ Verdict.Refused w → {A : Type 0} (o : Outcome A) → fits s o ≡ refused (w .number) (w .place)
     unfolding fitsAt

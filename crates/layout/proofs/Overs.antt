@@ -1,4 +1,4 @@
--- Laws of writing over a list, as it goes on: one more piece behind what was written.
+-- Laws of writing over a list, as it goes on: one more piece after what was written.
 use Prim.Native.Nat.{ℕ, suc, _+_, _-_, _<_, _≤_}
 use native.Mathlib.Numerals.{add-one}
 use native.Mathlib.Omega.{arith}
@@ -31,7 +31,7 @@ module _ (d : List ℕ) (at : ℕ) where
     unfolding over
     length-over = simp (length-append, length-take, length-drop) (omega arith)
 
-    -- what is written right behind xs
+    -- what is written right after xs
     pub over-over : (ys : List ℕ) → over (over d at xs) (at + length xs) ys ≡ over d at (xs ++ ys)
     unfolding over
     over-over ys =
@@ -70,7 +70,7 @@ pub put-short : (d : List ℕ) (at : ℕ) (xs : List ℕ) → leb (at + length x
 unfolding put
 put-short d at xs e = rw e
 
--- two numbers set one after the other
+-- two numbers set one after another
 pub over-two : (d : List ℕ) (at a b : ℕ) → at + 2 ≤ length d → set (set d at a) (at + 1) b ≡ over d at (a ∷ b ∷ [])
 over-two d at a b l =
     let first : at < length d = omega arith in

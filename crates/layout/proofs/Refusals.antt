@@ -44,7 +44,7 @@ after-kept P Q (ok a) f k h = h a refl k
 after-kept P Q (refused n p) f k h = k
 
 module _ (s : List ℕ) where
-  -- the place behind what was read lies in the bytes
+  -- the place after what was read lies in the bytes
   abbrev Inside : {A : Type 0} → Taken A ℕ → Type 0
   Inside x = x .next ≤ length s
 
@@ -77,7 +77,7 @@ module _ (s : List ℕ) where
         ltb-true at (length s) inside)
         λ n _ inside. many-kept (variantAt s) variant-kept n [] (at + 1) (omega arith)
 
-  -- bytes left behind the end are refused where they begin; where none are, the segments are few
+  -- bytes left after the end are refused where they begin; where none are, the segments are few
   closed-kept :
       (at n : ℕ) → length s ≤ greatestStretch → at ≤ length s → (at ≡ length s → n ≤ mostInStretch) → Kept Any (closedAt s at n)
   unfolding closedAt

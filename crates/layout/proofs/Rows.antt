@@ -20,20 +20,20 @@ unfolding all
 all-append f [] k = refl
 all-append f (a ∷ l) k = rw (all-append f l k) (sym (and-assoc (f a) (all f l) (all f k)))
 
--- the bytes of two lists, one behind the other
+-- the bytes of two lists, one after another
 pub bytes-append : {A : Type 0} (f : A → List ℕ) (l k : List A) → bytesOf f (l ++ k) ≡ bytesOf f l ++ bytesOf f k
 unfolding bytesOf
 bytes-append f [] k = refl
 bytes-append f (a ∷ l) k = rw (bytes-append f l k) (sym (append-assoc (f a) (bytesOf f l) (bytesOf f k)))
 
--- the members of l are read by f one after another, the first behind those seen, and `next` is the place behind the last
+-- the members of l are read by f one after another, the first after those seen, and `next` is the place after the last
 unfoldable pub Row : {A B : Type 0} → (List A → B → Outcome (Taken A B)) → List A → B → List A → B → Type 0
 Row f seen at [] next = at ≡ next
 Row {B = B} f seen at (a ∷ l) next =
     (place : B) × (f seen at ≡ ok (record { value = a; next = place })) × Row f (seen ++ (a ∷ [])) place l next
 
 module _ {A B : Type 0} (f : List A → B → Outcome (Taken A B)) where
-  -- what many things read are: those seen, and a row behind them
+  -- what many things read are: those seen, and a row after them
   pub record Many (n : ℕ) (seen : List A) (at : B) (x : Taken (List A) B) : Type 0 where
     pub more : List A
     pub value : x .value ≡ seen ++ more

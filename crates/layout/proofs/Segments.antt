@@ -1,4 +1,4 @@
--- A walk over the variants of a segment: the unit answers what reading a variant behind those seen answers, and what the walk has
+-- A walk over the variants of a segment: the unit answers what reading a variant after those seen answers, and what the walk has
 -- read is what `segmentAt` reads.
 use Prim.Native.Nat.{ℕ, zero, suc, _+_, _≤_, _<_}
 use native.Mathlib.Omega.{arith}
@@ -63,7 +63,7 @@ module _ (s : List ℕ) (first k : ℕ) (seen : Segment) (at size : ℕ) (m : In
   pub in-whole : UpTo s first k at
   in-whole = record { ends = many-behind s k [] first (record { value = seen; next = at }) (m .walk); inside = m .inside }
 
-  -- the next variant, read behind them
+  -- the next variant, read after them
   pub in-next : (x : Taken Variant ℕ) (more : ℕ) → variantAt s (valuesFrom s k first) at ≡ ok x → more ≡ weight (x .value)
       → InSegment s first (k + 1) (seen ++ (x .value ∷ [])) (x .next) (size + more)
   in-next x more e count =

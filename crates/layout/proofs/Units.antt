@@ -1,4 +1,4 @@
--- Laws of one variant of a walk: what reading it behind those before it answers, from what its head and its verdict tell.
+-- Laws of one variant of a walk: what reading it after those before it answers, from what its head and its verdict tell.
 use Prim.Native.Nat.{ℕ, _+_, _-_, _≤_, _<_}
 use mathlib.Core.Path.{_≡_, refl, sym, _∙_}
 use mathlib.Core.Bool.{Bool, true, false, not}
@@ -40,7 +40,7 @@ pub head-refused : (s : List ℕ) (at : ℕ) {r : Part} {f : Refusal} → toldPa
 unfolding variantAt formed
 head-refused s at told is seen = rw (← told, is)
 
--- it is whole, and stands behind the k of its segment that stand from `first` on
+-- it is whole, and stands after the k of its segment that stand from `first` on
 module _ {s : List ℕ} {first k at start next : ℕ} (up : UpTo s first k at) (w : Whole s at start next) where
   here : headAt s at ≡ ok (record { start = at + 2; next = nextOf s at })
   here = head-found s at _ refl (w .inside)

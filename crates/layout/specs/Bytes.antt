@@ -10,7 +10,7 @@ use Rattle.text.specs.Refusal.{Outcome, ok, refused}
 abbrev pub greatestStretch : ℕ
 greatestStretch = 32768
 
--- a number of two bytes at place `at`, low byte first; a byte behind the end counts as 0
+-- a number of two bytes at place `at`, low byte first; a byte after the end counts as 0
 unfoldable pub word : List ℕ → ℕ → ℕ
 word s at = getD s at 0 + getD s (at + 1) 0 * 256
 

@@ -33,14 +33,14 @@ openAt s = fits s (demand (leb 2 (length s)) 5 0 (ok (word s 0)))
 unfoldable pub variantsAt : List ℕ → ℕ → Outcome ℕ
 variantsAt s at = demand (ltb at (length s)) 5 at (demand (ltb 0 (getD s at 0)) 6 at (ok (getD s at 0)))
 
--- the letters of the variant whose length stands at `at`, as they stand, and the place behind them
+-- the letters of the variant whose length stands at `at`, as they stand, and the place after them
 abbrev pub lettersAt : List ℕ → ℕ → List ℕ
 lettersAt s at = part s (at + 2) (word s at)
 
 abbrev pub nextOf : List ℕ → ℕ → ℕ
 nextOf s at = at + 2 + word s at
 
--- where a variant's letters start, and where the next variant begins, right behind them
+-- where a variant's letters start, and where the next variant begins, right after them
 pub record Span : Type 0 where
   pub start : ℕ
   pub next : ℕ
@@ -70,7 +70,7 @@ misspeltAt s at = after (headAt s at) λ _. refused 7 (wrongPlace s at)
 abbrev pub mostInStretch : ℕ
 mostInStretch = 10922
 
--- behind the last of n segments, at `at`: 9 where bytes are left, then 16
+-- after the last of n segments, at `at`: 9 where bytes are left, then 16
 unfoldable pub closedAt : List ℕ → ℕ → ℕ → Outcome (Unit {0})
 closedAt s at n = demand (eqb at (length s)) 9 at (demand (leb n mostInStretch) 16 0 (ok tt))
 

@@ -17,7 +17,7 @@ valueOf s at = meant (lettersAt s at)
 unfoldable pub formed : {A : Type 0} → List ℕ → ℕ → Outcome A → Outcome A
 formed s at o = after (headAt s at) λ _. demand (every letter (lettersAt s at)) 7 (wrongPlace s at) o
 
--- something that was read, and the place behind it
+-- something that was read, and the place after it
 pub record Taken (A B : Type 0) : Type 0 where
   pub value : A
   pub next : B
@@ -26,7 +26,7 @@ pub record Taken (A B : Type 0) : Type 0 where
 unfoldable pub among : Variant → Segment → Bool
 among v seen = anyOf (same v) seen
 
--- one variant, behind those seen of its segment: 5, 7, then 8
+-- one variant, after those seen of its segment: 5, 7, then 8
 unfoldable pub variantAt : List ℕ → Segment → ℕ → Outcome (Taken Variant ℕ)
 variantAt s seen at =
     formed s at (demand (not (among (valueOf s at) seen)) 8 at (ok (record { value = valueOf s at; next = nextOf s at })))
@@ -36,7 +36,7 @@ unfoldable pub valuesFrom : List ℕ → ℕ → ℕ → Segment
 valuesFrom s zero at = []
 valuesFrom s (suc k) at = valueOf s at ∷ valuesFrom s k (nextOf s at)
 
--- n things one after another, each read by f behind those seen
+-- n things one after another, each read by f after those seen
 unfoldable pub many : {A B : Type 0} → (List A → B → Outcome (Taken A B)) → ℕ → List A → B → Outcome (Taken (List A) B)
 many f zero seen at = ok (record { value = seen; next = at })
 many f (suc n) seen at = after (f seen at) (λ x. many f n (seen ++ (x .value ∷ [])) (x .next))
@@ -45,7 +45,7 @@ many f (suc n) seen at = after (f seen at) (λ x. many f n (seen ++ (x .value �
 unfoldable pub segmentAt : List ℕ → ℕ → Outcome (Taken Segment ℕ)
 segmentAt s at = after (variantsAt s at) λ n. many (variantAt s) n [] (at + 1)
 
--- the text that a stretch encodes: its count, its segments, and nothing behind them
+-- the text that a stretch encodes: its count, its segments, and nothing after them
 unfoldable pub stretchOf : List ℕ → Outcome Text
 stretchOf s =
     after (openAt s) λ n.

@@ -10,7 +10,7 @@ unfoldable pub stepped : (ℕ → ℕ) → ℕ → ℕ → ℕ
 stepped step zero at = at
 stepped step (suc k) at = stepped step k (step at)
 
--- the place behind the k variants from `at` on
+-- the place after the k variants from `at` on
 abbrev pub behindVariants : List ℕ → ℕ → ℕ → ℕ
 behindVariants s k at = stepped (nextOf s) k at
 
@@ -19,10 +19,10 @@ pub record UpTo (s : List ℕ) (first k at : ℕ) : Type 0 where
   pub ends : behindVariants s k first ≡ at
   pub inside : at ≤ length s
 
--- the place behind the segment at `at`: its count and its variants
+-- the place after the segment at `at`: its count and its variants
 abbrev pub behindSegment : List ℕ → ℕ → ℕ
 behindSegment s at = behindVariants s (getD s at 0) (at + 1)
 
--- the place of segment k of a stretch, behind the segment count and the k segments before it
+-- the place of segment k of a stretch, after the segment count and the k segments before it
 abbrev pub segmentPlace : List ℕ → ℕ → ℕ
 segmentPlace s k = stepped (behindSegment s) k 2

@@ -32,7 +32,7 @@ pub fn word_at(bytes: &[u8], at: usize) -> usize
     pair(bytes, at)
 }
 
-// Whether so many more bytes from place `at` on have room in `size`.
+// Whether that many more bytes from place `at` on have room in `size`.
 pub(crate) fn has_room(size: usize, at: usize, more: usize) -> bool
     ensures { λ r. ⌜ r ≡ leb (at + more) size ⌝ }
 {

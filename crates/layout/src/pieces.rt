@@ -11,9 +11,9 @@ ghost use Rattle.text.specs.Refusal.{refused};
 ghost use Rattle.layout.specs.Pieces.{fitsAt, openAt, variantsAt, headAt, misspeltAt, closedAt};
 ghost use Rattle.layout.specs.Pieces.{toldOpened, toldCounted, toldPart, toldVerdict};
 
-// Where the first segment of a stretch stands: behind the segment count.
+// Where the first segment of a stretch stands: after the segment count.
 pub const FIRST_SEGMENT: usize = 2;
-// How far behind a segment's place its first variant stands: behind the variant count.
+// How far after a segment's place its first variant stands: after the variant count.
 pub const FIRST_VARIANT: usize = 1;
 
 // How many segments a stretch states.
@@ -28,7 +28,7 @@ pub enum Counted {
     Refused(Refusal),
 }
 
-// Where a variant's letters start, and where the next variant begins, right behind them.
+// Where a variant's letters start, and where the next variant begins, right after them.
 pub enum Part {
     At { start: usize, next: usize },
     Refused(Refusal),
@@ -130,7 +130,7 @@ pub(crate) fn misspelt(stretch: &[u8], at: usize) -> Refusal
     }
 }
 
-// What is asked behind the last of so many segments, at `at`: refusal 9, then 16. A lone segment is the last of one.
+// What is asked after the last of that many segments, at `at`: refusal 9, then 16. A lone segment is the last of one.
 pub fn closed(stretch: &[u8], at: usize, segments: usize) -> Verdict
     ensures { λ r. ⌜ toldVerdict r ≡ closedAt (now (stretch .entry)) at segments ⌝ }
 {

@@ -79,7 +79,7 @@ front-below (suc k) n l =
 pub digits-front : (n : ℕ) → Front n (getD (digits n) 0 0)
 digits-front n = front-below (suc n) n (omega arith)
 
--- digits put from the last of 20 places on: behind place i stand those behind the digits of `rest`
+-- digits put from the last of 20 places on: after place i stand those after the digits of `rest`
 pub record Spelling (number : ℕ) (out : List ℕ) (rest i : ℕ) : Type 0 where
   pub small : number < 2 ^ 64
   pub full : length out ≡ 20

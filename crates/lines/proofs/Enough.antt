@@ -1,4 +1,4 @@
--- A buffer of so many bytes has room for the lines of every input.
+-- A buffer of that many bytes has room for the lines of every input.
 use Prim.Native.Nat.{ℕ, suc, _+_, _*_, _≤_, _<_}
 use native.Mathlib.Omega.{arith}
 use mathlib.Core.Path.{_≡_, refl, sym, _∙_}

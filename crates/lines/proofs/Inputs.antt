@@ -19,7 +19,7 @@ none-pattern [] e = refl
 none-pattern (x ∷ xs) e = absurd (let z : ⊥ = omega arith in z)
 
 module _ (i : List ℕ) (n : ℕ) (is : n ≡ announced i) where
-  -- the input ends inside the pattern, or behind it
+  -- the input ends inside the pattern, or after it
   pub cut-pattern : length i < 1 + n → take (length i - 1) (drop 1 i) ≡ patternIn i
   unfolding patternIn
   cut-pattern l =

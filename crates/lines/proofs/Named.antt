@@ -14,7 +14,7 @@ use Rattle.lines.specs.Answer.{markedFrom}
 use Rattle.lines.proofs.Marked.{either}
 use Rattle.lines.proofs.Screens.{Row}
 
--- rising order: each number is below all those behind it
+-- rising order: each number is below all those after it
 abbrev pub Rising : List ℕ → Type 0
 Rising [] = Unit {0}
 Rising (j ∷ js) = ((i : ℕ) → List·Memᴰ i js → j < i) × Rising js

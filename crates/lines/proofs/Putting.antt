@@ -1,4 +1,4 @@
--- Laws of putting bytes into a buffer: one piece behind another is both in one.
+-- Laws of putting bytes into a buffer: one piece after another is both in one.
 use Prim.Native.Nat.{ℕ, zero, suc, _+_, _-_, _≤_, _<_, min}
 use native.Mathlib.Omega.{arith}
 use native.Mathlib.Decide.{decLt}
@@ -19,7 +19,7 @@ take-append (suc n) (x ∷ xs) ys =
     let same : suc n - suc (length xs) ≡ n - length xs = omega arith in
     rw same (ap (λ (l : List ℕ). x ∷ l) (take-append n xs ys))
 
--- there is no room behind the buffer's end
+-- there is no room after the buffer's end
 put-far : (d : List ℕ) (at : ℕ) (xs out : List ℕ) (next : ℕ) → length d < at → Put d at xs out next → (out ≡ d) × (next ≡ at)
 put-far d at xs out next far p =
     let none : length d - at ≡ 0 = omega arith in

@@ -1,5 +1,5 @@
 -- What the lines tell. Those of an accepted input name exactly the segments in which an occurrence ends, in rising order, with their
--- number before and the first of them behind; `first none` stands exactly where that number is 0; the digits tell a number; and the
+-- number before and the first of them after; `first none` stands exactly where that number is 0; the digits tell a number; and the
 -- files of a text have different names.
 use Prim.Native.Nat.{ℕ, zero, suc, _+_, _-_, _*_, _/_, _%_, _≤_, _<_}
 use native.Mathlib.Omega.{arith}
@@ -132,7 +132,7 @@ clear S input t e = (
     p : Printed S (patternIn input) t (linesOf S input)
     p = accepted S input t e
 
--- the number that digits tell, from the highest on, behind those that told n
+-- the number that digits tell, from the highest on, after those that told n
 unfoldable pub value : ℕ → List ℕ → ℕ
 value n [] = n
 value n (d ∷ ds) = value (10 * n + (d - 48)) ds

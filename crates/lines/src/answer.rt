@@ -66,7 +66,7 @@ fn put_text(segments: usize, size: usize, ends: usize, marks: &[u8], out: &mut [
 }
 
 // Searches an input's pattern in its stretch on these strands, and puts the lines of the answer in front of the buffer. The place
-// behind them.
+// after them.
 pub fn screened(strands: Strands, input: &[u8], out: &mut [u8]) -> usize
     ensures { λ r. ⌜ Put (now (out .entry)) 0 (linesOf strands (now (input .entry))) (now (out .exit)) r ⌝ }
 {

@@ -1,6 +1,6 @@
-// Bytes, numbers and lines, put into a buffer from a place on: as many bytes as there is room for. What is put right behind is then
+// Bytes, numbers and lines, put into a buffer from a place on: as many bytes as there is room for. What is put right after is then
 // what would have been put in one piece, so that a caller that lends enough need not ask in between. Each call tells the place
-// behind what it has put.
+// after what it has put.
 ghost use mathlib.Core.Path.{_≡_};
 ghost use Prim.Native.Nat.{_≤_, min};
 ghost use lib.ListN.{length, drop};

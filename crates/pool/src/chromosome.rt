@@ -1,4 +1,4 @@
-// The whole chromosome: record after record, the bases behind the last one, and the file of names.
+// The whole chromosome: record after record, the bases after the last one, and the file of names.
 use crate::files::make_names;
 use crate::record::aim_at;
 use crate::record::arrive;
@@ -47,7 +47,7 @@ fn cut_last(walk: Walk, window: &[u8]) -> Came {
     cut_window(walk, window)
 }
 
-// Behind the last base, and no record is left.
+// After the last base, and no record is left.
 fn end_text(walk: Walk, window: &[u8]) {
     if next_position(walk) == 1 {
         tell(REFERENCE, b"the sequence of that name has no base");
@@ -63,7 +63,7 @@ fn end_text(walk: Walk, window: &[u8]) {
     }
 }
 
-// Behind the last base.
+// After the last base.
 fn end(walk: Walk, window: &[u8]) {
     let aim = walk.aim;
     match aim {
@@ -83,7 +83,7 @@ fn end(walk: Walk, window: &[u8]) {
     }
 }
 
-// Behind the last record: the rest of the bases. A file with records, but none of this name, most likely has another name for it.
+// After the last record: the rest of the bases. A file with records, but none of this name, most likely has another name for it.
 fn end_records(walk: Walk) -> Came {
     let records = walk.records;
     if records.own == 0 && 0 < records.others {

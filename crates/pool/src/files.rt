@@ -37,7 +37,7 @@ pub fn make_stretch(number: u64, bytes: &[u8]) -> bool {
     make(part(&path, 0, end), bytes)
 }
 
-// Writes the names of so many stretches, one to a line. Whether all were written.
+// Writes the names of that many stretches, one to a line. Whether all were written.
 fn write_names(fd: i32, name: &[u8], all: u64) -> bool {
     let mut number = 0;
     while number < all {
@@ -73,7 +73,7 @@ fn make_names_as(half: &[u8], name: &[u8], all: u64) -> bool {
     true
 }
 
-// Makes the file with the names of so many stretches, behind which the text is whole. Whether that was done; else it is said why not.
+// Makes the file with the names of that many stretches, after which the text is whole. Whether that was done; else it is said why not.
 pub fn make_names(all: u64) -> bool {
     let mut name = io::buffer();
     let n = os::arg(TEXT, &mut name);

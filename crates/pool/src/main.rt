@@ -1,4 +1,4 @@
-// The text of a chromosome, made from a reference and a variant file as clinics have them. The words behind the program's name are the
+// The text of a chromosome, made from a reference and a variant file as clinics have them. The words after the program's name are the
 // reference's file (FASTA), the chromosome, the variant file (VCF) and a name: the stretches go to files of that name and a number, in
 // order, and once all of them are written their names go to a file of that name, one to a line, as the program desk takes them. What
 // cannot be built is said on standard error, with file, line and reason; then there is no file of that name. Else one line is printed.

@@ -1,4 +1,4 @@
-// One record, put into the window behind the bases before it.
+// One record, put into the window after the bases before it.
 use crate::records::HEADING;
 use crate::walk::BEFORE;
 use crate::walk::Came;
@@ -16,8 +16,8 @@ use stretch::Written;
 use text::compare::alike;
 use text::refusal;
 use vcf::build;
-use vcf::field;
-use vcf::position::position;
+use vcf::records::position::position;
+use vcf::records::record::field;
 
 // A line of so few bytes needs a stretch of fewer than these: an allele has two bytes more than letters, and at least one.
 const SHORT_LINE: usize = 256;
@@ -54,7 +54,7 @@ pub fn refuse(walk: Walk, reason: &[u8]) -> Came {
     Came::Stop
 }
 
-// Aims at a record, which stands in short behind the heading: its position is the next.
+// Aims at a record, which stands in short after the heading: its position is the next.
 pub fn aim_at(walk: Walk, short: &[u8]) -> Came {
     let records = walk.records;
     let line = part(short, HEADING, short.len());
@@ -76,7 +76,7 @@ pub fn aim_at(walk: Walk, short: &[u8]) -> Came {
     Came::To(next)
 }
 
-// Begins a record behind the bases before it, if there is room for its segment; else the window is cut, and the next one has room.
+// Begins a record after the bases before it, if there is room for its segment; else the window is cut, and the next one has room.
 fn begin_record(walk: Walk, line: &[u8], window: &[u8]) -> Came {
     let held = walk.held;
     match held.record(walk.segment) {
@@ -91,7 +91,7 @@ fn begin_record(walk: Walk, line: &[u8], window: &[u8]) -> Came {
     }
 }
 
-// Puts a record's line behind those of the window, if its REF is what the reference has there: the last bases of the window.
+// Puts a record's line after those of the window, if its REF is what the reference has there: the last bases of the window.
 fn enter(walk: Walk, line: &[u8], window: &mut [u8]) -> Came {
     let reference = field(line, 3);
     let from = std::num::wrapping_sub_usize(walk.count, reference.len());
@@ -108,7 +108,7 @@ fn enter(walk: Walk, line: &[u8], window: &mut [u8]) -> Came {
     Came::To(next)
 }
 
-// Where the bases end that were aimed at: those before a record, or those of its REF. The record stands in short behind the heading.
+// Where the bases end that were aimed at: those before a record, or those of its REF. The record stands in short after the heading.
 pub fn arrive(walk: Walk, short: &[u8], window: &mut [u8]) -> Came {
     let records = walk.records;
     let line = part(short, HEADING, records.behind);

@@ -10,13 +10,13 @@ use pool_files::Come;
 use pool_files::Line;
 use pool_files::read_line;
 use text::compare::prefix;
-use vcf::heading;
+use vcf::records::heading;
 
 // How many bytes the heading has, with its line feed.
 pub const HEADING: usize = 20;
 
 // How far the variant file has come: the file, how far the piece that is held is read, its length, the line that is read, the number of
-// the last one that was read whole, the place behind the record's line in short, and how many records of the chromosome and of others there
+// the last one that was read whole, the place after the record's line in short, and how many records of the chromosome and of others there
 // were.
 pub struct Records {
     pub fd: i32,
@@ -37,7 +37,7 @@ pub enum Got {
     Stop,
 }
 
-// With the first piece at hand, of so many bytes.
+// With the first piece at hand, of that many bytes.
 pub fn first_records(fd: i32, end: usize) -> Records {
     Records {
         fd,
@@ -51,7 +51,7 @@ pub fn first_records(fd: i32, end: usize) -> Records {
     }
 }
 
-// Puts the heading into a buffer, for lines in short to stand behind.
+// Puts the heading into a buffer, for lines in short to stand after.
 pub fn put_heading(out: &mut [u8], at: usize) -> usize {
     let end = put_bytes(&heading::HEADING, &mut *out, at);
     put_bytes(b"\n", &mut *out, end)
@@ -83,7 +83,7 @@ pub fn begin(fd: i32, piece: &mut [u8]) -> Next {
     Next::Stop
 }
 
-// Behind a line that has ended.
+// After a line that has ended.
 fn behind(name: &[u8], records: Records) -> Got {
     let line = records.line;
     let mut next = records;
@@ -124,7 +124,7 @@ fn at_end(name: &[u8], records: Records) -> Got {
     behind(name, records)
 }
 
-// The next piece, behind one that is used up.
+// The next piece, after one that is used up.
 fn turn_page(name: &[u8], records: Records, piece: &mut [u8]) -> Got {
     match next_piece(records.fd, VARIANTS, &mut *piece) {
         Next::Stop => Got::Stop,
@@ -138,7 +138,7 @@ fn turn_page(name: &[u8], records: Records, piece: &mut [u8]) -> Got {
     }
 }
 
-// Reads on to the end of the line or of the piece. The line in short is put into the buffer behind the heading.
+// Reads on to the end of the line or of the piece. The line in short is put into the buffer after the heading.
 pub fn read_on(name: &[u8], records: Records, piece: &mut [u8], short: &mut [u8]) -> Got {
     let mut next = records;
     let held = part(piece, 0, records.end);

@@ -53,7 +53,7 @@ fn at_end(walk: Walk) -> Came {
     Came::Stop
 }
 
-// The next piece, behind one that is used up.
+// The next piece, after one that is used up.
 pub fn turn_page(walk: Walk, piece: &mut [u8]) -> Came {
     let mut behind = walk.spot;
     let place = behind.place;
@@ -94,7 +94,7 @@ fn tell_wrong(spot: Spot, piece: &[u8], at: usize) {
     }
 }
 
-// What the stretch holds with so many bases more, which had room. Those of a record's REF are held with its segment.
+// What the stretch holds with that many bases more, which had room. Those of a record's REF are held with its segment.
 fn with_bases(walk: Walk, n: usize) -> Held {
     let held = walk.held;
     if walk.aim == INSIDE {

@@ -1,6 +1,6 @@
 // A file that is read in pieces.
 
-// The next piece is there, of so many bytes; the file has ended; or it could not be read, which is said.
+// The next piece is there, of that many bytes; the file has ended; or it could not be read, which is said.
 pub enum Next {
     Piece(usize),
     End,

@@ -26,7 +26,7 @@ pub const LINES: usize = refusal::GREATEST_STRETCH;
 // of 20.
 pub const ROOM: usize = LINES + 196608;
 
-// What comes next: the next record is read; the bases before it are taken; those of its REF; or the rest of them, behind the last record.
+// What comes next: the next record is read; the bases before it are taken; those of its REF; or the rest of them, after the last record.
 pub const NEXT: u64 = 0;
 
 pub const BEFORE: u64 = 1;
@@ -37,7 +37,7 @@ pub const REST: u64 = 3;
 
 // How far both files have come.
 pub struct Walk {
-    // The position of the window's first base, how many bases it has, what its stretch holds, and the place behind its lines.
+    // The position of the window's first base, how many bases it has, what its stretch holds, and the place after its lines.
     pub first: usize,
     pub count: usize,
     pub held: Held,
@@ -57,7 +57,7 @@ pub struct Walk {
     pub records: Records,
 }
 
-// One turn further; behind the chromosome's last base; or not further, and it is said why.
+// One turn further; after the chromosome's last base; or not further, and it is said why.
 pub enum Came {
     To(Walk),
     Over(Walk),
@@ -92,7 +92,7 @@ pub fn next_position(walk: Walk) -> usize {
     std::num::wrapping_add_usize(walk.first, walk.count)
 }
 
-// So many stretches and bases are done: said now and then.
+// That many stretches and bases are done: said now and then.
 fn tell_done(stretches: u64, bases: usize) {
     if stretches % 500 == 0 {
         say_number(b"", stretches);
@@ -150,7 +150,7 @@ fn room(walk: Walk) -> usize {
     held.room()
 }
 
-// One step towards the position that is aimed at: a cut where there is no room, the next piece behind one that is used up, or bases of the
+// One step towards the position that is aimed at: a cut where there is no room, the next piece after one that is used up, or bases of the
 // one that is held.
 pub fn step(name: &[u8], walk: Walk, piece: &mut [u8], window: &mut [u8]) -> Came {
     let most = room(walk);

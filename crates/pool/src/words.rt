@@ -4,7 +4,7 @@ use lines::put_bytes;
 use lines::put_number;
 use text::Refusal;
 use text::refusal;
-use vcf::field;
+use vcf::records::record::field;
 
 // The words of the command line: the reference, the chromosome, the variant file and the name of the text.
 pub const REFERENCE: usize = 1;

@@ -67,7 +67,7 @@ module _ {name : List ℕ} {r₀ : Reading} {left₀ : ℕ} {piece : List ℕ} {
       takes-end q e Base led go = let z : _≡_ {A = ℕ} 0 1 = cc in absurd (let y : ⊥ = omega arith in y)
       takes-end q e Nothing led go = let z : _≡_ {A = ℕ} 0 1 = cc in absurd (let y : ⊥ = omega arith in y)
 
-      -- behind a byte that has led to no end, with what it puts
+      -- after a byte that has led to no end, with what it puts
       pub takes-more :
           (q : Reading) (led : Led) (space : Space) (x : List ℕ) →
           q ≡ stepOf name r (getD piece at 0) →

@@ -20,7 +20,7 @@ feed = 0x0A
 abbrev pub carriage : ℕ
 carriage = 0x0D
 
--- behind a byte of a header or of a line that counts no more; the header is that of the sequence, or not
+-- after a byte of a header or of a line that counts no more; the header is that of the sequence, or not
 unfoldable pub inHeader : Bool → ℕ → Reading
 inHeader found b = cond (eqb b feed) (cond found Begun Before) (cond found Header Passing)
 
@@ -31,11 +31,11 @@ endsWord b = eqb b feed || eqb b carriage || eqb b 0x20 || eqb b 0x09
 unfoldable pub inWord : List ℕ → ℕ → ℕ → Reading
 inWord name k b = cond (endsWord b) (inHeader (eqb k (length name)) b) (Word (goOn name k b))
 
--- behind a byte of a line of the sequence
+-- after a byte of a line of the sequence
 unfoldable pub inLine : ℕ → Reading
 inLine b = cond (eqb b feed) Begun (cond (eqb b carriage) Returned (cond (letter b) Inside Wrong))
 
--- behind one byte more
+-- after one byte more
 unfoldable pub stepOf : List ℕ → Reading → ℕ → Reading
 stepOf name Start b = cond (eqb b 0x3E) (Word 0) Wrong
 stepOf name Before b = cond (eqb b 0x3E) (Word 0) (inHeader false b)

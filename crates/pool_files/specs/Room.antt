@@ -19,11 +19,11 @@ opened h = h .bytes + cond (h .running) 0 3
 unfoldable pub roomIn : Held → ℕ
 roomIn h = greatestStretch - opened h
 
--- with so many bases more
+-- with that many bases more
 unfoldable pub withBases : Held → ℕ → Fit
 withBases h n =
     cond (eqb n 0) (Fits h) (cond (leb (opened h + n) greatestStretch) (Fits (record { bytes = opened h + n; running = true })) Full)
 
--- with a record's segment of so many bytes
+-- with a record's segment of that many bytes
 unfoldable pub withRecord : Held → ℕ → Fit
 withRecord h n = cond (leb (h .bytes + n) greatestStretch) (Fits (record { bytes = h .bytes + n; running = false })) Full

@@ -42,7 +42,7 @@ putting l b d =
           (l .behind) b;
     })
 
--- in field k, with so many bytes of CHROM that are the name's first
+-- in field k, with that many bytes of CHROM that are the name's first
 abbrev pub inField : Line → ℕ → ℕ → Line
 inField l k matched = record { field = k; matched = matched; behind = l .behind; whole = l .whole }
 
@@ -54,7 +54,7 @@ acted name l b d Name = record { line = inField l (l .field) (goOn name (l .matc
 acted name l b d Next = putting (inField l (l .field + 1) (l .matched)) b d
 acted name l b d Comment = record { line = inField l 8 (l .matched); buffer = d }
 
--- behind one byte more
+-- after one byte more
 unfoldable pub overByte : List ℕ → Line → ℕ → List ℕ → Shortened
 overByte name l b d = acted name l b d (actOf (l .field) (l .matched) b)
 

@@ -8,7 +8,7 @@ ghost use Rattle.pool_files.specs.Room.{nothing, roomIn, withBases, with
 pub struct Held {
     // The bytes of the stretch.
     pub bytes: usize,
-    // Whether its last segment is of bases behind the last record.
+    // Whether its last segment is of bases after the last record.
     pub running: bool,
 }
 
@@ -47,7 +47,7 @@ impl Held {
         left - 3
     }
 
-    // With so many bases more.
+    // With that many bases more.
     pub fn bases(self, n: usize) -> Fit
         ensures { λ r. ⌜ r ≡ withBases self n ⌝ }
     {
@@ -64,7 +64,7 @@ impl Held {
         })
     }
 
-    // With a record's segment of so many bytes.
+    // With a record's segment of that many bytes.
     pub fn record(self, n: usize) -> Fit
         ensures { λ r. ⌜ r ≡ withRecord self n ⌝ }
     {

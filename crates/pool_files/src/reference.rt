@@ -1,5 +1,5 @@
 // A file in FASTA format, of which the sequence of a name is taken: header lines begin with >, and their first word is a name; the lines
-// behind one, up to the next, are its sequence. A line ends with a line feed, before which a carriage return may stand; the last may
+// after one, up to the next, are its sequence. A line ends with a line feed, before which a carriage return may stand; the last may
 // end with the file. The file is read in pieces of any size, and a piece may end anywhere.
 use crate::word::go_on;
 use text::letter::is_letter;
@@ -18,23 +18,23 @@ pub enum Reading {
     Before,
     // In a line before the sequence.
     Passing,
-    // In the first word of a header, so many of whose bytes are the name's first.
+    // In the first word of a header, that many of whose bytes are the name's first.
     Word(usize),
-    // In the header of the sequence, behind its first word.
+    // In the header of the sequence, after its first word.
     Header,
     // Where a line of the sequence begins.
     Begun,
-    // In a line of the sequence, behind a letter.
+    // In a line of the sequence, after a letter.
     Inside,
-    // Behind a carriage return in a line of the sequence.
+    // After a carriage return in a line of the sequence.
     Returned,
-    // Behind the sequence: the next header begins.
+    // After the sequence: the next header begins.
     Over,
     // A byte is wrong: no > at the start, or no letter in the sequence.
     Wrong,
 }
 
-// Behind a byte of a header, the sequence's own or not, or of a line that counts no more.
+// After a byte of a header, the sequence's own or not, or of a line that counts no more.
 fn in_header(found: bool, byte: u8) -> Reading
     ensures { λ r. ⌜ r ≡ inHeader found byte ⌝ }
 {
@@ -66,7 +66,7 @@ fn ends_word(byte: u8) -> bool
     byte == b'\t'
 }
 
-// Behind a byte of a header's first word.
+// After a byte of a header's first word.
 fn in_word(name: &[u8], matched: usize, byte: u8) -> Reading
     ensures { λ r. ⌜ r ≡ inWord (now (name .entry)) matched byte ⌝ }
 {
@@ -77,7 +77,7 @@ fn in_word(name: &[u8], matched: usize, byte: u8) -> Reading
     Reading::Word(go_on(name, matched, byte))
 }
 
-// Behind a byte of a line of the sequence.
+// After a byte of a line of the sequence.
 fn in_line(byte: u8) -> Reading
     ensures { λ r. ⌜ r ≡ inLine byte ⌝ }
 {
@@ -103,7 +103,7 @@ fn either(byte: u8, wanted: u8, same: Reading, other: Reading) -> Reading
     other
 }
 
-// Behind one byte more.
+// After one byte more.
 fn step(name: &[u8], reading: Reading, byte: u8) -> Reading
     ensures { λ r. ⌜ r ≡ stepOf (now (name .entry)) reading byte ⌝ }
 {
@@ -199,7 +199,7 @@ fn less(all: usize, count: usize) -> usize
     all - count
 }
 
-// How many bases more are wanted in a buffer of so many bytes, where there are to be `most` in all.
+// How many bases more are wanted in a buffer of that many bytes, where there are to be `most` in all.
 fn wanted(size: usize, count: usize, most: usize) -> usize
     ensures { λ r. ⌜ r ≡ wanted size count most ⌝ }
 {
@@ -209,7 +209,7 @@ fn wanted(size: usize, count: usize, most: usize) -> usize
     less(size, count)
 }
 
-// Reads on in a piece from a place on, and puts the bases of the sequence into a buffer behind those that are there, until there are
+// Reads on in a piece from a place on, and puts the bases of the sequence into a buffer after those that are there, until there are
 // `most`, the buffer is full, the piece ends, the sequence is over or a byte is wrong. The place is then that of the byte that is not read.
 pub fn take(
     name: &[u8],

@@ -15,7 +15,7 @@ pub struct Line {
     pub field: usize,
     // How many bytes of CHROM are the name's first.
     pub matched: usize,
-    // The place behind what is put, and whether all had room.
+    // The place after what is put, and whether all had room.
     pub behind: usize,
     pub whole: bool,
 }
@@ -103,7 +103,7 @@ impl Line {
         next
     }
 
-    // Behind one byte more, which is no line feed.
+    // After one byte more, which is no line feed.
     fn over(self, name: &[u8], byte: u8, short: &mut [u8]) -> Line
         ensures { λ r. ⌜ r ≡ overByte (now (name .entry)) self byte (now (short .entry)) .line ⌝ }
         ensures { λ r. ⌜ now (short .exit) ≡ overByte (now (name .entry)) self byte (now (short .entry)) .buffer ⌝ }
@@ -160,7 +160,7 @@ impl Line {
     }
 }
 
-// A line that goes on in the next piece, or one that has ended, and the place behind its line feed.
+// A line that goes on in the next piece, or one that has ended, and the place after its line feed.
 pub enum Come {
     On(Line),
     End { line: Line, next: usize },

@@ -1,4 +1,4 @@
--- Input behind the bytes that count changes no line, so that it need not be read.
+-- Input after the bytes that count changes no line, so that it need not be read.
 use Prim.Native.Nat.{ℕ, zero, suc, _+_, _-_, _≤_, _<_}
 use native.Mathlib.Omega.{arith}
 use native.Mathlib.Decide.{decLt}
@@ -25,7 +25,7 @@ long :
 unfolding searching into
 long P s u room l k = rw (stretch-long s l, stretch-long u k)
 
--- behind the first byte
+-- after the first byte
 cut-behind : (S : Strands) (x : ℕ) (xs : List ℕ) (k : ℕ) → x < 256 → mostRead ≤ suc k → linesOf S (x ∷ take k xs) ≡ linesOf S (x ∷ xs)
 unfolding announced patternIn stretchIn linesOf
 cut-behind S x xs k small most =

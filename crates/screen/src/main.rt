@@ -13,7 +13,7 @@ ghost use Rattle.lines.specs.Answer.{mostBytes};
 ghost use Rattle.screen.specs.Screened.{Screened};
 
 // Puts the lines of an input into `out` and tells how many bytes they are. The first n of `bytes` are all of the input or, since no
-// line depends on what lies behind them, as much as there is room for.
+// line depends on what lies after them, as much as there is room for.
 fn screen(strands: Strands, bytes: &[u8], n: usize, out: &mut [u8]) -> usize
     requires { ⌜ Counts n (now bytes) × (mostRead ≤ length (now bytes)) × (mostBytes ≤ length (now out)) ⌝ }
     ensures { λ r. ⌜ Screened strands (now (bytes .entry)) n (now (out .exit)) r ⌝ }

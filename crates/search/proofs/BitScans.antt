@@ -288,7 +288,7 @@ module _ (P : List ℕ) (st : ℕ) (v : Variant) (i d hits bad : ℕ) (s : Scann
   pub scanning-wrong : not (eqb bad 0) ≡ not (every letter v)
   scanning-wrong = clean-all v i bad (s .clean) l
 
--- the same with the other bits kept, as the code has it
+-- the same with the complement kept, as the code has it
 pub record Turning (P : List ℕ) (st : ℕ) (v : Variant) (i before out missed bad : ℕ) : Type 0 where
   pub fits : before < 2 ^ 64
   pub word : out < 2 ^ 64

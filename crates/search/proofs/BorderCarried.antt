@@ -20,7 +20,7 @@ use Rattle.search.proofs.BorderLetters.{rest-meant}
 use Rattle.search.proofs.BorderHolds.{lone, holds-none, holds-lone, holds-map}
 
 module _ (P v : List ℕ) (q : ℕ) (near : q < length P) where
-  -- r is as far behind q as v is long
+  -- r is as far after q as v is long
   led-far : (r : ℕ) → r < length P → take r P ≡ take q P ++ v → q + length v ≡ r
   led-far r l e = omega (arith, split-length P (take q P) v r (le-of-lt l) e, length-take-le q P (le-of-lt near))
 

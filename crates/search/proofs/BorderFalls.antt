@@ -1,4 +1,4 @@
--- The fallback from k matched bases with a letter behind them, border by border.
+-- The fallback from k matched bases with a letter after them, border by border.
 use Prim.Native.Nat.{ℕ, zero, suc, _+_, _-_, _≤_, _<_}
 use native.Mathlib.Nat.{le-of-lt}
 use native.Mathlib.Numerals.{add-one}
@@ -29,7 +29,7 @@ module _ (P : List ℕ) (c : ℕ) where
       most (suc zero) h x = absurd (f (last-base P [] c 0 l x .1))
       most (suc (suc r)) h x = omega (arith, next-length P 0 c (suc (suc r)) (le-of-lt l) h x)
 
-  -- base k does not fit: whatever ends behind the border of k ends behind k
+  -- base k does not fit: whatever ends after the border of k ends after k
   next-border : (k b x : ℕ) → 0 < k → k < length P → (getD P k 0 ≡ c → ⊥) → Border P k b → Next P b c x → Next P k c x
   next-border k b x some l f border w =
       let near : k - 1 < length P = omega arith in
@@ -42,7 +42,7 @@ module _ (P : List ℕ) (c : ℕ) where
           let other : r ≡ k → ⊥ = λ (q : r ≡ k). f (ap (λ (i : ℕ). getD P i 0) (sym q) ∙ last-base P (take k P) c r h e .1) in
           omega (arith, next-length P k c (suc r) (le-of-lt l) h e)
 
--- a fallback from k has come down to q: whatever ends behind q ends behind k
+-- a fallback from k has come down to q: whatever ends after q ends after k
 pub record Falls (P : List ℕ) (c k q : ℕ) : Type 0 where
   pub down : q ≤ k
   pub rest : (x : ℕ) → Next P q c x → Next P k c x

@@ -12,7 +12,7 @@ use Rattle.text.proofs.Snoc.{suffix-less, suffix-more}
 use Rattle.search.proofs.BorderStrings.{suffix-trans, suffix-length, suffix-of-longer}
 
 module _ (P : List ℕ) where
-  -- bases that end a string with a letter behind it: those before the last one end the string, and the last one is the letter
+  -- bases that end a string with a letter after it: those before the last one end the string, and the last one is the letter
   pub last-base : (s : List ℕ) (c r : ℕ) → r < length P → Suffix (take (suc r) P) (s ++ (c ∷ []))
       → Suffix (take r P) s × (getD P r 0 ≡ c)
   last-base s c r l x = suffix-less s c (take r P) (getD P r 0) (rw (take-suc P r 0 l) at x)
@@ -24,7 +24,7 @@ module _ (P : List ℕ) where
   pub ends-length : (s : List ℕ) (r : ℕ) → r ≤ length P → Suffix (take r P) s → r ≤ length s
   ends-length s r l x = omega (arith, suffix-length x, length-take-le r P l)
 
-  -- behind k bases and a letter at most k + 1 bases end
+  -- after k bases and a letter at most k + 1 bases end
   pub next-length : (k c r : ℕ) → k ≤ length P → r ≤ length P → Suffix (take r P) (take k P ++ (c ∷ [])) → r ≤ suc k
   next-length k c r h l x =
       omega (arith, ends-length (take k P ++ (c ∷ [])) r l x, length-append (take k P) (c ∷ []), length-take-le k P h)

@@ -31,7 +31,7 @@ scans-none P l = record { ends = longest; inside = (λ e. absurd (false≢true e
     outside : Inside P [] → ⊥
     outside h = omega (arith, simp length-append at (ap length (h .split)))
 
--- the letter c is put behind s, and the first x bases end that
+-- the letter c is put after s, and the first x bases end that
 module _ {P s : List ℕ} {k : ℕ} {whole : Bool} (c : ℕ) {x : ℕ} (sized : Sized P) (g : Scans P s k whole) (w : Next P k c x) where
   grown : Longest P (s ++ (c ∷ [])) (length P) x
   grown =

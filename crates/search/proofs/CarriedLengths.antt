@@ -106,7 +106,7 @@ module _ (st : ℕ) where
       keep-length (st / 2 ^ r % 2) r (passing (bit st) (suc r) n) (digit-lt r)
       ∙ rw (ones-step (st / 2 ^ r), ← half r, rest)
 
-  -- the least of them stands behind the trailing zeros there; e, behind the last digit, if there is none
+  -- the least of them stands after the trailing zeros there; e, after the last digit, if there is none
   passing-zeros : (e r n : ℕ) → r + n ≡ e → firstOr e (passing (bit st) r n) ≡ r + trailingZeros n (st / 2 ^ r)
   unfolding passing bit trailingZeros
   passing-zeros e r zero p = sym p

@@ -35,7 +35,7 @@ use Rattle.search.proofs.Stops.{first-is}
 use Rattle.search.proofs.Hits.{hit-not, hit-ends}
 use Rattle.search.proofs.Chains.{run-state}
 
--- the first hit among marks: the first one, or the state behind them where there is none
+-- the first hit among marks: the first one, or the state after them where there is none
 abbrev pub hitOf : List ℕ → ℕ → Hit
 hitOf marks st = cond (ltb (firstEnd marks) none) (endsIn (firstEnd marks)) (clear st)
 
@@ -64,7 +64,7 @@ pub record Reads (s : List ℕ) (n k : ℕ) (seen : Text) (at : ℕ) : Type 0 wh
   pub all : many (λ _. segmentAt s) k [] 2 ≡ ok (record { value = seen; next = at })
 
 module _ (P : List ℕ) (st : ℕ) (s : List ℕ) (n k : ℕ) (seen : Text) (at : ℕ) where
-  -- a segment that reads whole and in which an occurrence ends, the first such: whatever stands behind it
+  -- a segment that reads whole and in which an occurrence ends, the first such: whatever stands after it
   pub hit-first : (g : Segment) (behind : ℕ) → Reads s n (k + 1) (seen ++ (g ∷ [])) behind → length seen ≡ k
       → total (λ x. x) (marksFrom P st seen) ≡ 0 → ends P (run P st seen) g ≡ true → hitting P st s ≡ ok (endsIn k)
   unfolding later

@@ -225,7 +225,7 @@ module _ (P Q : List ℕ) (st : ℕ) (s out : List ℕ) where
 
 -- a search of P as a strand reads it: Q
 module _ (P Q s out : List ℕ) where
-  -- what it says of the state behind the text is left out
+  -- what it says of the state after the text is left out
   summed : (o : Outcome Text) (told : Outcome Seen) (said : Outcome Sums) (left : List ℕ)
       → Told (seenFrom Q fresh) (marksFrom Q fresh) out o told left
       → said ≡ after told (λ x. ok (sums x)) → Told (sumsOf Q) (marks Q) out o said left

@@ -137,7 +137,7 @@ module _ (P : List ℕ) (st : ℕ) (s : List ℕ) (n from : ℕ) (small : length
   -- k of them have been read, those seen
   module _ (k : ℕ) (seen : Text) (at : ℕ) (w : many (λ _. segmentAt s) k [] from ≡ ok (record { value = seen; next = at }))
       (l : k ≤ n) where
-    -- what reads whole behind them
+    -- what reads whole after them
     pub behind : (rest : Text) × (whole (λ _. segmentAt s) n [] from ≡ seen ++ rest)
     behind =
         let more = whole-front (λ _. segmentAt s) (n - k) seen at in
@@ -183,7 +183,7 @@ module _ (P : List ℕ) (st : ℕ) (s : List ℕ) (n from : ℕ) (small : length
           go true is = omega (arith, not-yet is)
           go false is = all
 
-    -- where the last of them is the first that ends, the run stops behind it
+    -- where the last of them is the first that ends, the run stops after it
     pub reach-stopped : firstEnd (marksFrom P st seen) + 1 ≡ k → k ≡ reach true P st s n from
     unfolding reach later
     reach-stopped last = omega (arith, first-is, walk-few s from k seen at within w)
@@ -246,7 +246,7 @@ module _ (P : List ℕ) (st : ℕ) (s : List ℕ) (n from : ℕ) (small : length
         let is = first-is P st s n from small within (reach true P st s n from) t at e inside in
         (omega (arith, own, is, long, reach-is), omega (arith, own, is, long, few))
 
--- a one behind marks that have none
+-- a one after marks that have none
 pub first-last : (marks : List ℕ) (k : ℕ) → firstEnd marks ≡ none → length marks ≡ k → k < none → firstEnd (marks ++ (1 ∷ [])) ≡ k
 unfolding firstEnd later
 first-last marks k unmarked long few = firstEnd-append marks (1 ∷ []) ∙ omega (arith, unmarked, long)

@@ -167,7 +167,7 @@ feeds-text P strand ss T y e =
     }
 
 -- stretches of any number, searched one after another with the state handed on: their marks laid end to end are the marks of their
--- texts laid end to end, and the state is that behind them all; from the fresh state these are Grossi's ends, across every cut
+-- texts laid end to end, and the state is that after them all; from the fresh state these are Grossi's ends, across every cut
 pub seeks-stretches : (P : List ℕ) (strand : Strand) (st room : ℕ) (ss : List (List ℕ)) (T : Text) → SoundPattern P
     → isState (length P) st ≡ true
     → mostInStretch ≤ room → stretchesText ss ≡ ok T
@@ -184,13 +184,13 @@ seeks-ends P strand room ss T x j y roomy e f =
     rw (ap (λ (z : Trail). z .marks) (ok-inj (sym f ∙ all))) (marks-ends (onStrand strand P) T j (strand-sound strand P y .some))
 
 -- the first hit of a sound stretch is the first one among the marks that a search from the same state leaves; where it leaves none, it
--- is "none", and the state behind the stretch
+-- is "none", and the state after the stretch
 pub first-marks : (P : List ℕ) (strand : Strand) (st : ℕ) (s : List ℕ) (t : Text) → SoundPattern P → isState (length P) st ≡ true
     → stretchOf s ≡ ok t
     → firsting P strand st s ≡ ok (hitOf (marksFrom (onStrand strand P) st t) (run (onStrand strand P) st t))
 first-marks P strand st s t y i e = first-sound P strand y st s t i e
 
--- a segment that reads whole, in which an occurrence ends and in none before it, is the first hit, whatever stands behind it
+-- a segment that reads whole, in which an occurrence ends and in none before it, is the first hit, whatever stands after it
 pub first-beats-fault : (P : List ℕ) (strand : Strand) (st : ℕ) (s : List ℕ) (n k : ℕ) (T : Text) (g : Segment) (behind : ℕ)
     → Entered P st s
     → Reads s n (k + 1) (T ++ (g ∷ [])) behind → length T ≡ k → total (λ x. x) (marksFrom (onStrand strand P) st T) ≡ 0

@@ -1,4 +1,4 @@
--- Laws of words whose bits are turned: their other bits, what a shift brings into them, the bits from n up, and bits turned one by one.
+-- Laws of complemented words: their complements, what a shift brings into them, the bits from n up, and bits turned one by one.
 use Prim.Native.Nat.{ℕ, zero, suc, _+_, _-_, _*_, _/_, _%_, _^_, _≤_, _<_}
 use native.Mathlib.Nat.{pow-suc, one-mul, mul-suc, mul-comm, mod-lt, mod-eq-of-lt, div-add-mod'}
 use native.Mathlib.Numerals.{one-add}
@@ -18,7 +18,7 @@ use Rattle.text.proofs.Truth.{or-false, or-right, and-assoc}
 use Rattle.text.proofs.Bits.{bit-ext, bit-or, bit-and, bit-single, bit-shl, bit-shl-below, bit-mod, bit-mod-above, bit-not}
 use Rattle.search.specs.Masks.{others}
 
--- the other bits of a word, bit by bit and as a whole
+-- the complement of a word, bit by bit and as a whole
 module _ (a : ℕ) (la : a < 2 ^ 64) where
   others-bit : (r : ℕ) → r < 64 → bit (others a) r ≡ not (bit a r)
   others-bit r l = bit-not a 64 r la l
@@ -49,7 +49,7 @@ module _ (a : ℕ) (la : a < 2 ^ 64) where
         step true y = refl
         step false y = refl
 
--- a shift of the other bits lets an occurrence start afresh
+-- a shift of the complement lets an occurrence start afresh
 pub others-shift : (a : ℕ) → a < 2 ^ 64 → others (a * 2 ^ 1 % 2 ^ 64) ≡ bitOr (others a * 2 ^ 1 % 2 ^ 64) 1
 others-shift a la =
     bit-ext 64 (others (a * 2 ^ 1 % 2 ^ 64)) (bitOr (others a * 2 ^ 1 % 2 ^ 64) 1) (ones-sub-lt 64 (a * 2 ^ 1 % 2 ^ 64))
@@ -85,7 +85,7 @@ and-and a b c la lb lc =
 pub missed-all : (before : ℕ) → before < 2 ^ 64 → before ≡ bitAnd before (others 0)
 missed-all before fits = sym (and-mask before 64 ∙ mod-eq-of-lt fits)
 
--- a number of ones that is taken so many times
+-- a number of ones that is taken that many times
 times-ones : (o p : ℕ) → p ≤ o → o * suc p ≡ p * suc o + (o - p)
 times-ones o p l =
     let a : o * suc p ≡ o * p + o = mul-suc o p in

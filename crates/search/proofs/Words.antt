@@ -90,7 +90,7 @@ module _ (P : List ℕ) (st : ℕ) (v : Variant) (bits : ℕ) where
             bit-single (length P - 1) (length P - 1) ∙ eq-eqb (length P - 1) (length P - 1) refl ∙ sym hit ∙ t .end ∙ sym (one-ends P st v);
       })
 
--- the same with the other bits kept
+-- the same with the complement kept
 module _ (P : List ℕ) (st : ℕ) (v : Variant) (bits : ℕ) (some : 0 < length P) (short : length P ≤ 64) (before : ℕ) {end : Bool}
     (t : Steps P st v bits end) where
   small : bits < 2 ^ 64
@@ -181,7 +181,7 @@ module _ {P : List ℕ} {st : ℕ} {s : List ℕ} {from : ℕ} {c : Cursor} {out
             (turned .words));
       }
 
-  -- the bits from m up are cleared behind the last one
+  -- the bits from m up are cleared after the last one
   pub sweeping-taken : 0 < length P → length P ≤ 64 → (high : ℕ) → high ≡ 0xffff_ffff_ffff_ffff * 2 ^ (length P - 1) % 2 ^ 64
       → Taking P st s from c (others (bitOr out (high * 2 ^ 1 % 2 ^ 64))) (ltb missed high)
   sweeping-taken some short high e =

@@ -30,11 +30,11 @@ abbrev pub toldEntry : Entry → Outcome (Unit {0})
 toldEntry Open = ok tt
 toldEntry (Entry.Refused r) = refused (r .number) (r .place)
 
--- a text whose marks go into a buffer of so many bytes: 10
+-- a text whose marks go into a buffer of that many bytes: 10
 unfoldable pub into : ℕ → Outcome Text → Outcome Text
 into room o = after o λ t. demand (leb (length t) room) 10 0 (ok t)
 
--- a stretch whose marks go into a buffer of so many bytes
+-- a stretch whose marks go into a buffer of that many bytes
 abbrev pub stretchInto : List ℕ → ℕ → Outcome Text
 stretchInto s room = into room (stretchOf s)
 
@@ -46,7 +46,7 @@ searching P s room = pattern P (stretchInto s room)
 unfoldable pub seeking : List ℕ → ℕ → List ℕ → ℕ → Outcome Text
 seeking P st s room = entering P st s (stretchInto s room)
 
--- what a search from a state tells of a text: its segment count, its size, the number of ones among its marks, and the state behind it
+-- what a search from a state tells of a text: its segment count, its size, the number of ones among its marks, and the state after it
 pub record Seen : Type 0 where
   pub segments : ℕ
   pub size : ℕ
@@ -104,7 +104,7 @@ MarksOf f o buffer = (t : Text) → o ≡ ok t → take (length t) buffer ≡ f 
 abbrev pub handed : ℕ → List ℕ → List ℕ → List ℕ
 handed n found out = cond (leb n (length out)) (over out 0 (take n found)) out
 
--- what a run over segments tells: how many were read, the place behind them, their size, the state there, and the number of ones
+-- what a run over segments tells: how many were read, the place after them, their size, the state there, and the number of ones
 -- among their marks
 pub record Course : Type 0 where
   pub segments : ℕ

@@ -18,7 +18,7 @@ pub record Longest (P s : List ℕ) (n k : ℕ) : Type 0 where
 abbrev pub Border : List ℕ → ℕ → ℕ → Type 0
 Border P k b = Longest P (take k P) (k - 1) b
 
--- x is the greatest length at which the first bases of P end its first k with the letter c behind them
+-- x is the greatest length at which the first bases of P end its first k with the letter c after them
 abbrev pub Next : List ℕ → ℕ → ℕ → ℕ → Type 0
 Next P k c x = Longest P (take k P ++ (c ∷ [])) (length P) x
 

@@ -35,12 +35,12 @@ abbrev pub onward : (ℕ → Outcome Hit) → Hit → Outcome Hit
 onward f (endsIn k) = ok (endsIn k)
 onward f (clear st) = f st
 
--- the marks that searches leave, end to end, and the state behind the last of them
+-- the marks that searches leave, end to end, and the state after the last of them
 pub record Trail : Type 0 where
   pub marks : List ℕ
   pub state : ℕ
 
--- stretches searched one by one, each into a buffer of so many bytes, of the pattern as a strand reads it
+-- stretches searched one by one, each into a buffer of that many bytes, of the pattern as a strand reads it
 unfoldable pub seeks : List ℕ → Strand → ℕ → ℕ → List (List ℕ) → Outcome Trail
 seeks P strand st room [] = ok (record { marks = []; state = st })
 seeks P strand st room (s ∷ ss) =
@@ -48,7 +48,7 @@ seeks P strand st room (s ∷ ss) =
     after (seeks P strand (seenFrom (onStrand strand P) st t .state) room ss) λ x.
     ok (record { marks = marksFrom (onStrand strand P) st t ++ x .marks; state = x .state })
 
--- stretches asked one by one for the first hit, of the pattern as a strand reads it: each from the state behind the one before, up to
+-- stretches asked one by one for the first hit, of the pattern as a strand reads it: each from the state after the one before, up to
 -- the first in which something ends
 unfoldable pub asks : List ℕ → Strand → ℕ → List (List ℕ) → Outcome Hit
 asks P strand st [] = ok (clear st)

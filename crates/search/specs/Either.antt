@@ -43,7 +43,7 @@ enteringBoth P st re s o = entering P st s (demand (isState (length P) re) 17 0 
 unfoldable pub seekingBoth : List ℕ → ℕ → ℕ → List ℕ → ℕ → Outcome Text
 seekingBoth P st re s room = enteringBoth P st re s (stretchInto s room)
 
--- what it tells of a text: its segment count, its size, the number of ones among its marks, and the states behind it
+-- what it tells of a text: its segment count, its size, the number of ones among its marks, and the states after it
 pub record SeenBoth : Type 0 where
   pub segments : ℕ
   pub size : ℕ
@@ -110,7 +110,7 @@ abbrev pub passedOpposite : PassedBoth → Passed
 passedOpposite (PassedBoth.To next size state given opposite) = Passed.To next size (record { bits = state .opposite }) opposite
 passedOpposite (PassedBoth.Refused r) = Passed.Refused r
 
--- what a run over segments on both strands tells: the place behind them, their size, the number of ones among their marks, and the
+-- what a run over segments on both strands tells: the place after them, their size, the number of ones among their marks, and the
 -- states there
 pub record CourseBoth : Type 0 where
   pub next : ℕ

@@ -20,7 +20,7 @@ abbrev pub unless : {A B : Type 0} → Outcome A → B → (A → B) → B
 unless (ok a) b f = f a
 unless (refused n p) b f = b
 
--- of n things one after another, each read by f behind those seen, the ones that read whole before the first fault
+-- of n things one after another, each read by f after those seen, the ones that read whole before the first fault
 unfoldable pub whole : {A B : Type 0} → (List A → B → Outcome (Taken A B)) → ℕ → List A → B → List A
 whole f zero seen at = seen
 whole f (suc n) seen at = unless (f seen at) seen (λ x. whole f n (seen ++ (x .value ∷ [])) (x .next))
@@ -33,12 +33,12 @@ wholeOf s = unless (openAt s) [] λ n. whole (λ _. segmentAt s) n [] 2
 unfoldable pub firstIn : List ℕ → ℕ → List ℕ → ℕ
 firstIn P st s = firstEnd (marksFrom P st (wholeOf s))
 
--- an end in a segment; or that nothing ends, and the state behind the stretch
+-- an end in a segment; or that nothing ends, and the state after the stretch
 pub data Hit : Type 0 where
   endsIn : ℕ → Hit
   clear : ℕ → Hit
 
--- the first hit; if there is none, the refusal of the stretch, or the state behind a sound one
+-- the first hit; if there is none, the refusal of the stretch, or the state after a sound one
 unfoldable pub hitting : List ℕ → ℕ → List ℕ → Outcome Hit
 hitting P st s =
     cond (ltb (firstIn P st s) none) (ok (endsIn (firstIn P st s))) (after (stretchOf s) λ t. ok (clear (run P st t)))
@@ -52,7 +52,7 @@ toldFirst (First.Ends k) = ok (endsIn k)
 toldFirst (First.None state) = ok (clear (state .bits))
 toldFirst (First.Refused r) = refused (r .number) (r .place)
 
--- the same in numbers: the segment or "none", and the state behind the stretch, 0 where something ends
+-- the same in numbers: the segment or "none", and the state after the stretch, 0 where something ends
 pub record Stop : Type 0 where
   pub segment : ℕ
   pub state : ℕ

@@ -22,11 +22,11 @@ pub record Masks (P table : List ℕ) : Type 0 where
   pub full : length table ≡ 256
   pub each : (c : ℕ) → c < 256 → getD table c 0 ≡ maskOf P (raised c)
 
--- the other bits of a word
+-- the complement of a word
 abbrev pub others : ℕ → ℕ
 others a = (2 ^ 64 - 1) - a
 
--- a table with the other bits of these letter vectors
+-- a table with the complement of these letter vectors
 pub record Others (P table : List ℕ) : Type 0 where
   pub full : length table ≡ 256
   pub each : (c : ℕ) → c < 256 → getD table c 0 ≡ others (maskOf P (raised c))

@@ -10,7 +10,7 @@ use Rattle.search.specs.Border.{Borders}
 use Rattle.search.specs.declared.method.Method.{Method}
 use Rattle.search.specs.declared.method.Method.the-variants.{Bits}
 
--- the table of a method: the other bits of letter vectors, or borders
+-- the table of a method: the complement of letter vectors, or borders
 abbrev pub TableOf : Method → List ℕ → List ℕ → Type 0
 TableOf Bits P table = Others P table
 TableOf Method.Borders P table = Borders P table

@@ -15,7 +15,7 @@ pub record Steps (P : List ℕ) (st : ℕ) (v : Variant) (bits : ℕ) (ends : Bo
   pub state : bits ≡ next P st (v ∷ [])
   pub end : ends ≡ endsAt P st v
 
--- the place behind what was passed, its size, the state there, and whether an occurrence ends in it
+-- the place after what was passed, its size, the state there, and whether an occurrence ends in it
 pub record Pass : Type 0 where
   pub next : ℕ
   pub size : ℕ

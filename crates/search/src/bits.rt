@@ -1,9 +1,9 @@
 // The step of one variant by bit-vectors: shift-and with one word (Grossi et al., CPM 2017, section 5, with the ranges of its
-// letter vectors corrected: they hold the last base too). Fit for every pattern of up to 64 bases. Words are kept with all bits turned
-// (shift-or): a shift then brings in by itself what lets an occurrence start afresh, and a letter waits less for the one before it.
+// letter vectors corrected: they hold the last base too). The right step for every pattern of up to 64 bases.
+// Words are complemented (shift-or): a shift brings the fresh start in by itself, and the loop-carried dependency is shorter.
 ghost use Rattle.search.specs.Words.{ScannedBy};
 
-// What one pass over a variant's letters finds: the other bits of the word behind them, those that no word has had so far, and whether
+// What one pass over a variant's letters finds. `out`: complement of the final state word; `missed`: bits set in no word yet; `wrong`:
 // a byte is no letter.
 pub struct Scanned {
     pub out: u64,
@@ -11,8 +11,7 @@ pub struct Scanned {
     pub wrong: bool,
 }
 
-// The word that the variant leads to. What its words have is taken out of what was missed before. Bits from m up are cleared once behind
-// each segment: the letter vectors have none.
+// One variant's letters. Bits from m up are cleared once, after each segment: the letter vectors have none.
 pub fn scan(
     others: &[u64; 256],
     classes: &[u8; 256],

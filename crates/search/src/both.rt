@@ -33,7 +33,7 @@ mod words;
 pub use words::Pair;
 
 // What a search from a state of each strand answers: the segment count, the size, the number of ones among the marks, and the states
-// behind the stretch.
+// after the stretch.
 pub enum SoughtBoth {
     Marked {
         segments: usize,
@@ -131,7 +131,7 @@ fn enter_both(pattern: &[u8], state: Pair, bytes: &[u8]) -> Entry
 impl Pair {
     // The search of a whole stretch on both strands at once, each from its state: refusals 1, 2, 3 of the pattern as given, 4, 17,
     // those of the stretch, then 10. It writes 1 for each segment in which an occurrence ends on either strand, else 0; further bytes
-    // stay, and a refusal changes nothing. The states behind the stretch are where the search of the next one begins.
+    // stay, and a refusal changes nothing. The states after the stretch are where the search of the next one begins.
     pub fn through(self, pattern: &[u8], stretch: &[u8], marks: &mut [u8]) -> SoughtBoth
         ensures { λ r. ⌜ toldBoth r ≡ after (seekingBoth (now (pattern .entry)) (self .given) (self .opposite) (now (stretch .entry))
             (length (now (marks .entry)))) (λ t. ok (seenBoth (now (pattern .entry)) (self .given) (self .opposite) t)) ⌝ }
@@ -154,7 +154,7 @@ impl Pair {
     }
 }
 
-// What a search from the fresh states tells, without the states behind the stretch.
+// What a search from the fresh states tells, without the states after the stretch.
 fn summed_both(sought: SoughtBoth) -> Searched
     ensures { λ r. ⌜ toldSearched r ≡ after (toldBoth sought) (λ x. ok (sumsBoth x)) ⌝ }
 {

@@ -1,5 +1,5 @@
 // The first hit: whether a stretch is clear, and if not, the first segment in which an occurrence ends. It is the run of the searches,
-// which stops there: what stands behind is not read, and no mark is kept. The right call where one end decides.
+// which stops there: what stands after is not read, and no mark is kept. The right call where one end decides.
 use crate::entry::Entry;
 use crate::entry::enter;
 use crate::method::Method;
@@ -15,7 +15,7 @@ ghost use mathlib.Core.Path.{_≡_};
 ghost use Rattle.text.specs.Refusal.{ok, after, answer};
 ghost use Rattle.search.specs.First.{firsting, toldFirst, answerFirst, stopOf, zeroStop};
 
-// The first segment in which an occurrence ends; or the state behind a sound stretch in which nothing ends.
+// The first segment in which an occurrence ends; or the state after a sound stretch in which nothing ends.
 pub enum First {
     Ends(usize),
     None(State),
@@ -24,7 +24,7 @@ pub enum First {
 
 impl State {
     // The first segment in which an occurrence of the pattern ends, as the strand reads it: refusals 1, 2, 3, 4, 17. Where no segment
-    // that reads whole before the first fault ends one, the answer is that fault's refusal, or the state behind a sound stretch.
+    // that reads whole before the first fault ends one, the answer is that fault's refusal, or the state after a sound stretch.
     pub fn first(self, pattern: &[u8], strand: Strand, stretch: &[u8]) -> First
         ensures { λ r. ⌜ toldFirst r ≡ firsting (now (pattern .entry)) strand (self .bits) (now (stretch .entry)) ⌝ }
         ensures { λ r. ⌜ answerFirst r

@@ -1,4 +1,4 @@
-// The letter vectors of a pattern, as they are told to callers: the bits that the search keeps turned, turned back.
+// The letter vectors of a pattern, as they are told to callers: the search keeps their complement.
 use crate::vectors::filled;
 ghost use Rattle.search.specs.Masks.{bases, Masks};
 

@@ -18,7 +18,7 @@ ghost use Rattle.search.specs.Answers.{stretchInto, seenFrom, toldSought
 ghost use Rattle.search.specs.Masks.{StateOf};
 ghost use Rattle.search.specs.Method.{Founded};
 
-// A stretch of so many bytes is small, and has at most so many segments: each has at least 3 bytes, behind the count's 2.
+// A stretch of at most 1,024 bytes is small. It has at most 340 segments: each has at least 3 bytes, after the count's 2.
 pub const SMALL_STRETCH: usize = 1024;
 
 pub const MOST_IN_SMALL: usize = (SMALL_STRETCH - 2) / 3;
@@ -35,7 +35,7 @@ fn copy(from: &[u8], to: &mut [u8])
     }
 }
 
-// Hands over the marks of so many segments once all is accepted, and says whether there was room for them.
+// Hands over the marks of that many segments once all is accepted, and says whether there was room for them.
 pub fn handed(segments: usize, found: &[u8], marks: &mut [u8]) -> bool
     requires { ⌜ segments ≤ length (now found) ⌝ }
     ensures { λ r. ⌜ r ≡ leb segments (length (now (marks .entry))) ⌝ }

@@ -1,5 +1,5 @@
 // The run over segments that stand one after another, one for both methods: each variant is checked and stepped over at once. It keeps
-// the marks of all of them, or stops behind the first segment in which an occurrence ends and keeps none.
+// the marks of all of them, or stops after the first segment in which an occurrence ends and keeps none.
 use crate::method::Method;
 use crate::segment::Passed;
 use crate::state::Sought;
@@ -24,7 +24,7 @@ ghost use Rattle.search.specs.First.{manyTo, hitting, toldHit, Few};
 ghost use Rattle.search.specs.Masks.{StateOf};
 ghost use Rattle.search.specs.Method.{Tools};
 
-// The segments that were read, the place behind them, their size, the state there, and the number of ones among their marks.
+// The segments that were read, the place after them, their size, the state there, and the number of ones among their marks.
 pub enum Ran {
     To {
         segments: usize,
@@ -46,7 +46,7 @@ fn keep(stop: bool, mark: u8, k: usize, marks: &mut [u8])
     }
 }
 
-// Takes a state over so many segments from `at` on, and puts their marks into `marks`; or stops at the first end and puts none. A
+// Takes a state over that many segments from `at` on, and puts their marks into `marks`; or stops at the first end and puts none. A
 // refusal may leave some there. The step over a segment is called here alone: the compiler then makes it part of the loop, and each
 // segment is spared a call.
 pub fn run(
@@ -112,8 +112,8 @@ pub fn run(
     }
 }
 
-// Takes a state over a whole stretch: its count, its segments, and what may be wrong behind them; or stops at the first end, and what
-// stands behind is not looked at. A refusal may leave some marks in `marks`, so they are not the caller's yet.
+// Takes a state over a whole stretch: its count, its segments, and what may be wrong after them; or stops at the first end, and what
+// stands after is not looked at. A refusal may leave some marks in `marks`, so they are not the caller's yet.
 pub fn run_stretch(
     stop: bool,
     method: Method,

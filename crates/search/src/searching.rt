@@ -26,7 +26,7 @@ pub enum Searched {
     Refused(Refusal),
 }
 
-// What a search from the fresh state tells, without the state behind the stretch.
+// What a search from the fresh state tells, without the state after the stretch.
 fn summed(sought: Sought) -> Searched
     ensures { λ r. ⌜ toldSearched r ≡ after (toldSought sought) (λ x. ok (sums x)) ⌝ }
 {

@@ -1,4 +1,4 @@
-// One segment: its variants one after another, by either method, and the state behind them.
+// One segment: its variants one after another, by either method, and the state after them.
 use crate::method::Method;
 use crate::method::scan_by;
 use crate::state::State;
@@ -12,7 +12,7 @@ ghost use Rattle.search.specs.Step.{toldPassed, segmentPass};
 ghost use Rattle.search.specs.Masks.{StateOf};
 ghost use Rattle.search.specs.Method.{Tools};
 
-// How far a step over a segment has come in the bytes: the place behind it, its size, the state there, and whether an occurrence
+// How far a step over a segment has come in the bytes: the place after it, its size, the state there, and whether an occurrence
 // ends in it.
 pub enum Passed {
     To {
@@ -25,7 +25,7 @@ pub enum Passed {
 }
 
 impl State {
-    // The state behind the segment at `at`: refusals 5 to 8. It is the union of what the segment's variants lead to. The letters of a
+    // The state after the segment at `at`: refusals 5 to 8. It is the union of what the segment's variants lead to. The letters of a
     // variant are tested and stepped over in one pass.
     pub(crate) fn over(
         self,

@@ -40,7 +40,7 @@ pub enum Fed {
     Refused(Refusal),
 }
 
-// What a search from a state answers: the segment count, the size, the number of ones among the marks, and the state behind the
+// What a search from a state answers: the segment count, the size, the number of ones among the marks, and the state after the
 // stretch.
 pub enum Sought {
     Marked {
@@ -92,7 +92,7 @@ impl State {
 
     // The search of a whole stretch from this state, by bit-vectors, of the pattern as the strand reads it: refusals 1, 2, 3, 4, 17,
     // those of the stretch, then 10. It writes 1 or 0 for each segment; further bytes stay, and a refusal changes nothing. The state
-    // behind the stretch is where the search of the next one begins, so that nothing is lost at a cut.
+    // after the stretch is where the search of the next one begins, so that nothing is lost at a cut.
     pub fn through(self, pattern: &[u8], strand: Strand, stretch: &[u8], marks: &mut [u8]) -> Sought
         ensures { λ r. ⌜ toldSought r
             ≡ after (seeking (now (pattern .entry)) (self .bits) (now (stretch .entry)) (length (now (marks .entry))))

@@ -1,9 +1,9 @@
-// The tables of the search by bit-vectors, filled once for each call and lent to the loops. The loops keep words with all bits turned,
-// so the letter vectors that they are lent are turned too; the public letter vectors stand in letter_vectors.rt.
+// The tables of the search by bit-vectors, filled once for each call and lent to the loops. The loops keep words complemented,
+// so the letter vectors that they are lent are complemented too; the public ones stand in letter_vectors.rt.
 use text::refusal;
 ghost use Rattle.search.specs.Masks.{bases, Filled, Others};
 
-// A table of blank words, in which bit k of what base k of the pattern is has been turned. Of a pattern over 64 bytes the first 64
+// A table of blank words, in which bit k of what base k of the pattern is has been flipped. Of a pattern over 64 bytes the first 64
 // count, since a word has no more bits. Lower case has the entries of upper case, so that the loops look at a letter once.
 pub fn filled(pattern: &[u8], blank: u64) -> [u64; 256]
     ensures { λ r. ⌜ Filled blank (bases (now (pattern .entry))) r ⌝ }

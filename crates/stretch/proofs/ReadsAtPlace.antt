@@ -121,7 +121,7 @@ module _ (s : List ℕ) (segments j at n : ℕ) (h : Standing s segments j at n)
   unfolding T
   last-ended k v l = sym (read-it v ∙ read-end T j v (omega (arith, variants)) (omega (arith, h .whole .count)))
 
-  -- the segment behind it, where there is one
+  -- the segment after it, where there is one
   module _ (more : j + 1 ≡ segments → ⊥) where
     follows : j + 1 < length T
     unfolding T

@@ -43,7 +43,7 @@ abbrev Apart : ℕ → List Handed → Type 0
 Apart j [] = Unit {0}
 Apart j (h ∷ l) = j ≡ h .segment → ⊥
 
--- what stands at a place of a list, and what stands behind it
+-- what stands at a place of a list, and what stands after it
 drop-next :
     {A : Type 0} (l : List A) (k : ℕ) (none a : A) (rest : List A) → drop k l ≡ a ∷ rest →
     (getD l k none ≡ a) × (drop (k + 1) l ≡ rest)
@@ -144,7 +144,7 @@ module _ (s : List ℕ) (t : Text) (e : stretchOf s ≡ ok t) where
     letters = sym (read-letters j v l ∙ is);
   }
 
-  -- the rest of a segment, from variant v on, and what is read behind it
+  -- the rest of a segment, from variant v on, and what is read after it
   read-segment :
       (j : ℕ) (g : Segment) (v : ℕ) (rest : List Handed) → v ≤ length (segment T j) → drop v (segment T j) ≡ g →
       ReadOn s j (length (segment T j)) rest → ReadOn s j v (map (tag j) g ++ rest)
@@ -157,7 +157,7 @@ module _ (s : List ℕ) (t : Text) (e : stretchOf s ≡ ok t) where
       let n = drop-next (segment T j) v [] a g d in
       (read-one j v a m (n .0), read-segment j g (v + 1) rest (omega arith) (n .1) r)
 
-  -- behind a segment's last variant stands the next segment's first
+  -- after a segment's last variant stands the next segment's first
   read-across : (j : ℕ) (l : List Handed) → j + 1 < length T → 0 < length l → ReadOn s (j + 1) 0 l → ReadOn s j (length (segment T j)) l
   unfolding ReadOn
   read-across j [] more some r = absurd (let z : ⊥ = omega arith in z)

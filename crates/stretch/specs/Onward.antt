@@ -15,7 +15,7 @@ pub record Handed : Type 0 where
   pub segment : ℕ
   pub letters : Variant
 
--- it is what the calls answer at the place j v: `read` a variant of that segment and the place behind it, `letters` its letters
+-- it is what the calls answer at the place j v: `read` a variant of that segment and the place after it, `letters` its letters
 pub record HandsOut (s : List ℕ) (j v : ℕ) (h : Handed) : Type 0 where
   pub start : ℕ
   pub len : ℕ

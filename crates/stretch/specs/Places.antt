@@ -32,12 +32,12 @@ pub record Reading : Type 0 where
   pub segment : ℕ
   pub variant : ℕ
 
--- variant v of segment j is handed out, with the place one variant number behind it
+-- variant v of segment j is handed out, with the place one variant number after it
 abbrev pub handed : Text → ℕ → ℕ → Reading
 handed T j v =
     record { answer = ok (found (startOf T j v) (length (variant T j v))); segment = j; variant = v + 1 }
 
--- the first variant at or after variant v of segment j; behind the last one the end, with the place unchanged
+-- the first variant at or after variant v of segment j; after the last one the end, with the place unchanged
 unfoldable pub readFrom : Text → ℕ → ℕ → Reading
 readFrom T j v =
     cond (ltb v (length (segment T j))) (handed T j v)

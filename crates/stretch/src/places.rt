@@ -8,7 +8,7 @@ ghost use mathlib.Core.Path.{_≡_};
 ghost use lib.ListN.{length};
 ghost use Rattle.layout.specs.Skips.{behindVariants, segmentPlace};
 
-// The place behind k variants, of which the first stands at `first`.
+// The place after k variants, of which the first stands at `first`.
 pub fn behind_variants(stretch: &[u8], k: usize, first: usize) -> usize
     requires { ⌜ behindVariants (now stretch) k first ≤ length (now stretch) ⌝ }
     ensures { λ r. ⌜ r ≡ behindVariants (now (stretch .entry)) k first ⌝ }

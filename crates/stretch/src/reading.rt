@@ -18,14 +18,14 @@ ghost use Rattle.stretch.specs.Answers.{Accepted, toldGot, answerGot, an
 
 // What a read finds, and the place that goes with it.
 pub enum Got {
-    // Where the variant's letters stand, and the place one variant number behind it.
+    // Where the variant's letters stand, and the place one variant number after it.
     Variant {
         start: usize,
         len: usize,
         segment: usize,
         variant: usize,
     },
-    // Behind the last variant; the place unchanged.
+    // After the last variant; the place unchanged.
     End {
         segment: usize,
         variant: usize,

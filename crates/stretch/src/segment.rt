@@ -9,7 +9,7 @@ ghost use mathlib.Core.Path.{_≡_};
 ghost use Rattle.text.specs.Letter.{Classes};
 ghost use Rattle.stretch.specs.Answers.{toldWalked, walkedSegment};
 
-// How far a walk has come: the place behind what was read, and its size.
+// How far a walk has come: the place after what was read, and its size.
 pub enum Walked {
     To { next: usize, size: usize },
     Refused(Refusal),

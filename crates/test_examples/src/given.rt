@@ -28,7 +28,7 @@ pub fn strand(line: &[u8]) -> Strand {
     Strand::Given
 }
 
-// The wanted answer: behind = up to three results, behind ! the refusal's number and place and what goes with them.
+// The wanted answer: after = up to three results, after ! the refusal's number and place and what goes with them.
 pub fn wanted(line: &[u8]) -> Answer {
     let refusal = behind(line, b'!');
     let results = behind(line, b'=');

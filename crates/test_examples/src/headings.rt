@@ -1,4 +1,4 @@
-// The lines of the input, one after the other. The heading above a line, which starts with =, is the name of its group. Nothing comes of
+// The lines of the input, one after another. The heading above a line, which starts with =, is the name of its group. Nothing comes of
 // an empty line or a comment.
 use crate::notation::behind;
 use crate::notation::find;
@@ -27,7 +27,7 @@ impl Line {
         group: GROUPS - 1,
     };
 
-    // The line behind it, or an empty one behind the last.
+    // The line after it, or an empty one after the last.
     pub fn next(self, input: &[u8]) -> Line {
         let start = wrapping_add_usize(self.end, 1);
         let end = find(input, start, b'\n');
@@ -54,7 +54,7 @@ pub fn call(line: &[u8]) -> usize {
     }
 }
 
-// Puts the name of a heading, if the line is one, and tells the place behind it.
+// Puts the name of a heading, if the line is one, and tells the place after it.
 fn put_name(out: &mut [u8], at: usize, line: &[u8]) -> usize {
     if number_at(line, 0) != 61 {
         return at;

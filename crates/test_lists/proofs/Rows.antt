@@ -38,7 +38,7 @@ recordsTy = tyArray T′.mir 33
 abbrev pub row : List Watched → ℕ → ℕ → Fml
 row ws b o = parts (mem T.the-row) (shares T.the-row) fullShare ws b o
 
--- where the records behind the first n stand
+-- where the records after the first n stand
 abbrev pub behind : ℕ → List Watched → ℕ → ℕ
 behind zero ws o = o
 behind (suc n) [] o = o

@@ -30,7 +30,7 @@ impl List {
         }
     }
 
-    // One record more, of these bases, as far as there is room. What stands behind them is no base.
+    // One record more, of these bases, as far as there is room. What stands after them is no base.
     pub fn with(self, bases: &[u8], label: u64) -> List {
         let n = self.n;
         if MOST <= n {
@@ -54,7 +54,7 @@ impl List {
         first_in(records, n, stretch)
     }
 
-    // A mark for each record, into the first so many bytes; a refusal that no call gives where there are fewer.
+    // A mark for each record, into the first that many bytes; a refusal that no call gives where there are fewer.
     pub fn mark(self, stretch: &[u8], marks: &mut [u8], room: usize) -> Listed {
         let n = self.n;
         if MOST < n {

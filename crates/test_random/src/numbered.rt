@@ -1,4 +1,4 @@
-// The case of a number. There are 5,000 texts; of two cases the second one has its text damaged, with a pattern that may be spoilt. Behind
+// The case of a number. There are 5,000 texts; of two cases the second one has its text damaged, with a pattern that may be spoilt. After
 // the cases on the given strand stand the same on the opposite one.
 use crate::damaged::damage;
 use crate::drawn::seed;

@@ -34,7 +34,7 @@ fn picked(bytes: &[u8], at: usize, seed: u64) -> &[u8] {
     letters_at(bytes, skip(bytes, wrapping_add_usize(at, 1), number))
 }
 
-// Puts a random variant of each segment behind the other, and tells how many letters they have.
+// Puts a random variant of each segment after the other, and tells how many letters they have.
 fn path(out: &mut [u8], bytes: &[u8], seed: u64) -> usize {
     let segments = word_at(bytes, 0);
     let mut n = 0;
@@ -67,7 +67,7 @@ fn put_bases(out: &mut [u8], letters: &[u8], seed: u64) -> usize {
     i
 }
 
-// Puts up to so many bases that can be read along a path of a text, and tells how many.
+// Puts up to that many bases that can be read along a path of a text, and tells how many.
 fn read_out(out: &mut [u8], bytes: &[u8], wanted: usize, seed: u64) -> usize {
     let mut letters = [0u8; 1024];
     let n = path(&mut letters, bytes, seed);

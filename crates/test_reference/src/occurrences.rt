@@ -46,7 +46,7 @@ fn carried(p: &[u8], s: &[u8], from: u64, r: usize) -> bool {
     has(from, r - n) && alike(part(p, r - n, n), s)
 }
 
-// The lengths that are carried out behind s.
+// The lengths that are carried out after s.
 fn carries(p: &[u8], s: &[u8], from: u64) -> u64 {
     let mut set = 0;
     let mut r = 1;
@@ -59,7 +59,7 @@ fn carries(p: &[u8], s: &[u8], from: u64) -> u64 {
     set
 }
 
-// Whether what is left of P behind q bases is a prefix of s; where q is 0, whether P lies inside s.
+// Whether what is left of P after q bases is a prefix of s; where q is 0, whether P lies inside s.
 fn finished(p: &[u8], s: &[u8], from: u64, q: usize) -> bool {
     if p.len() <= q {
         return false;
@@ -83,7 +83,7 @@ fn ends(p: &[u8], s: &[u8], from: u64) -> bool {
     false
 }
 
-// What comes of a set of lengths in a segment: the lengths behind it, and whether an occurrence ends in it.
+// What comes of a set of lengths in a segment: the lengths after it, and whether an occurrence ends in it.
 pub struct Step {
     pub bits: u64,
     pub ends: bool,
@@ -118,7 +118,7 @@ pub fn through(p: &[u8], bytes: &[u8], at: usize, from: u64) -> Step {
     step
 }
 
-// What comes of a set of lengths in a text: the lengths behind it, the marks, their number, and the first end.
+// What comes of a set of lengths in a text: the lengths after it, the marks, their number, and the first end.
 pub struct Ran {
     pub bits: u64,
     pub first: usize,
@@ -127,7 +127,7 @@ pub struct Ran {
 }
 
 impl Ran {
-    // Behind one segment more.
+    // After one segment more.
     fn with(self, segment: usize, step: Step) -> Ran {
         let mut marks = self.marks;
         let first = self.first;

@@ -7,7 +7,7 @@ use crate::places::repeats;
 use crate::places::word_at;
 use std::num::wrapping_add_usize;
 
-// How far the reader has come: a refusal and its place, or number 0 and the place behind what was read; the letters and the
+// How far the reader has come: a refusal and its place, or number 0 and the place after what was read; the letters and the
 // variants that were read.
 pub struct Came {
     pub number: u64,
@@ -27,7 +27,7 @@ impl Came {
         }
     }
 
-    // One variant more, of so many letters, and the place behind it. In the size the empty variant counts as one letter.
+    // One variant more, of that many letters, and the place after it. In the size the empty variant counts as one letter.
     fn with(self, letters: usize, place: usize) -> Came {
         let counts = if letters == 0 { 1 } else { letters };
         Came {
@@ -75,7 +75,7 @@ fn wrong_base(bases: &[u8]) -> usize {
     i
 }
 
-// Reads one variant more, behind the k of its segment, which stand from `first` on.
+// Reads one variant more, after the k of its segment, which stand from `first` on.
 fn variant(bytes: &[u8], first: usize, k: usize, came: Came) -> Came {
     let at = came.place;
     if came.number != 0 {
@@ -96,7 +96,7 @@ fn variant(bytes: &[u8], first: usize, k: usize, came: Came) -> Came {
     came.with(letters.len(), end)
 }
 
-// Reads so many variants more.
+// Reads that many variants more.
 fn variants(bytes: &[u8], count: usize, before: Came) -> Came {
     let first = before.place;
     let mut came = before;
@@ -124,7 +124,7 @@ fn segment(bytes: &[u8], came: Came) -> Came {
     variants(bytes, count, came.at(0, wrapping_add_usize(at, 1)))
 }
 
-// Reads so many segments.
+// Reads that many segments.
 fn read(bytes: &[u8], count: usize) -> Came {
     let mut came = START;
     let mut j = 0;

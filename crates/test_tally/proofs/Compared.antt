@@ -1,4 +1,4 @@
--- The counts behind a comparison, from what the called functions ensure.
+-- The counts after a comparison, from what the called functions ensure.
 use Prim.Native.Nat.{ℕ}
 use mathlib.Core.Path.{_≡_, ap}
 use mathlib.Core.Bool.{true, false}

@@ -57,7 +57,7 @@ writtenAs r = saidAs (λ (n : ℕ). n) (λ (n : ℕ). 0) (λ (n : ℕ). 0) (answ
 abbrev pub readAs : Got → Answer
 readAs r = saidAs (λ (x : Handed). x .start) (λ (x : Handed). x .segment) (λ (x : Handed). x .variant) (answerGot r)
 
--- a read that is to find so many letters; 100 at 1, which no call answers, where it finds a variant of another length
+-- a read that is to find that many letters; 100 at 1, which no call answers, where it finds a variant of another length
 abbrev pub gotAs : Got → ℕ → Answer
 gotAs (Got.Variant start len j v) n = cond (eqb len n) (readAs (Got.Variant start len j v)) (refusedAs 100 1)
 gotAs (Got.End j v) n = readAs (Got.End j v)
@@ -79,7 +79,7 @@ foundAs r = saidAs (λ (x : Pointed). x .label) (λ (x : Pointed). x .segment) (
 abbrev pub listedAs : Listed → Answer
 listedAs r = saidAs (λ (x : Unit {0}). 0) (λ (x : Unit {0}). 0) (λ (x : Unit {0}). 0) (answerListed r)
 
--- what a card tells of a state: the state behind, and the first end
+-- what a card tells of a state: the state after, and the first end
 abbrev pub askedAs : Asked → Answer
 askedAs r = saidAs (λ (x : Row). x .exit) (λ (x : Row). x .first) (λ (x : Row). 0) (answerAsked r)
 

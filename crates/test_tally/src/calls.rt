@@ -34,7 +34,7 @@ pub fn written(answer: Written) -> Answer
     }
 }
 
-// A read that is to find so many letters: where they start, 0 for the end and a refusal, and the place that goes with it. A
+// A read that is to find that many letters: where they start, 0 for the end and a refusal, and the place that goes with it. A
 // refusal that no call gives where it finds more or fewer.
 pub fn got(answer: Got, letters: usize) -> Answer
     ensures { λ r. ⌜ r ≡ gotAs answer letters ⌝ }
@@ -111,7 +111,7 @@ pub fn listed(answer: Listed) -> Answer
     }
 }
 
-// What a card tells of a state: the bits of the state behind the stretch, and the first end.
+// What a card tells of a state: the bits of the state after the stretch, and the first end.
 pub fn asked(answer: Asked) -> Answer
     ensures { λ r. ⌜ r ≡ askedAs answer ⌝ }
 {

@@ -27,7 +27,7 @@ impl Tally {
         groups: [0; GROUPS],
     };
 
-    // So many more in a group, modulo their number.
+    // That many more in a group, modulo their number.
     pub fn more(self, group: usize, n: usize) -> Tally
         ensures { λ r. ⌜ r ≡ moreIn self group n ⌝ }
     {

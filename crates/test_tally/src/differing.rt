@@ -7,7 +7,7 @@ fn item(name: &[u8], number: u64) {
     io::print_decimal(1, number);
 }
 
-// An answer behind a name.
+// An answer after a name.
 fn answer(name: &[u8], answer: Answer) {
     item(name, answer.number);
     item(b" ", answer.place as u64);

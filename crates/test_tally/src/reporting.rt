@@ -39,7 +39,7 @@ fn put_groups(tally: Tally, names: &[u8], out: &mut [u8]) -> usize
     next
 }
 
-// The groups, and the last line, which calls what was compared by a name. The place behind them.
+// The groups, and the last line, which calls what was compared by a name. The place after them.
 pub fn report(tally: Tally, names: &[u8], compared: &[u8], out: &mut [u8]) -> usize
     ensures { λ r. ⌜ Put (now (out .entry)) 0 (reportOf tally (now (names .entry)) (now (compared .entry))) (now (out .exit)) r ⌝ }
 {

@@ -24,7 +24,7 @@ pub bit-shr : (a k r : ℕ) → bit (a / 2 ^ k) r ≡ bit a (k + r)
 unfolding bit
 bit-shr a k r = rw shr-shr
 
--- bit 0, and the bits behind it
+-- bit 0, and the bits after it
 pub bit-first : (a : ℕ) → bit a 0 ≡ eqb (a % 2) 1
 unfolding bit
 bit-first a = rw div-one
@@ -74,7 +74,7 @@ bit-digit a r = test-digit (a / 2 ^ r % 2) (mod-lt (a / 2 ^ r) (lit< tt))
 half-digit : (a : ℕ) → a ≡ a / 2 * 2 + digit (bit a 0)
 half-digit a = omega (arith, bit-digit a 0, div-one a)
 
--- a bit put below a number is bit 0, and the number's bits stand behind it
+-- a bit put below a number is bit 0, and the number's bits stand after it
 below-first : (a : ℕ) (b : Bool) → bit (a * 2 + digit b) 0 ≡ b
 below-first a b = rw (bit-first, digits-mod a (digit-lt b)) (digit-test b)
 

@@ -1,4 +1,4 @@
--- Laws of bytes that are tested many at a time: whether one of the first so many is no letter, in whole blocks, and by a table.
+-- Laws of bytes that are tested many at a time: whether one of the first that many is no letter, in whole blocks, and by a table.
 use Prim.Native.Nat.{ℕ, _+_, _-_, _<_, _≤_}
 use native.Mathlib.Numerals.{add-one}
 use native.Mathlib.Decide.{decLt}

@@ -1,4 +1,4 @@
--- What holds of each number below n + 1: of the first and of those behind it, or of those before the last and of the last.
+-- What holds of each number below n + 1: of the first and of those after it, or of those before the last and of the last.
 use Prim.Native.Nat.{ℕ, zero, suc, _<_}
 use native.Mathlib.Omega.{arith}
 use native.Mathlib.Decide.{decLt}

@@ -57,7 +57,7 @@ EndOf n e = (e ≡ none) ⊎ (e < n)
 pub end-le : (n e : ℕ) → n ≤ none → EndOf n e → e ≤ none
 end-le n e l h = ⊎-elim (λ (p : e ≡ none). omega arith) (λ (p : e < n). omega arith) h
 
--- more segments behind, and segments before
+-- more segments after, and segments before
 pub end-behind : (n k e : ℕ) → EndOf n e → EndOf (n + k) e
 end-behind n k e h = ⊎-elim (λ (p : e ≡ none). inl p) (λ (p : e < n). inr (omega arith)) h
 
@@ -137,7 +137,7 @@ firstEnd-append (x ∷ l) k = rw (firstEnd-append l k) (either (eqb x 1) (firstE
     either true e f n = omega arith
     either false e f n = omega arith
 
--- an end behind the first mark
+-- an end after the first mark
 first-least : (x f e : ℕ) → suc e ≤ none → (suc e ≤ cond (eqb x 1) 0 (later 1 f)) ↔ ((x ≡ 1 → ⊥) × (e ≤ f))
 unfolding later
 first-least x f e l = either (eqb x 1) refl

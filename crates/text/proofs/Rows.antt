@@ -229,7 +229,7 @@ follow-onward m n rows next st =
     (λ q l. row-map (through m n next) rows q (through-dead m n next))
     ∙ gather-through m n (row rows) next st
 
--- two cards on, at once or one after the other
+-- two cards on, at once or one after another
 pub through-through : (m n k : ℕ) (next last : List Row) (r : Row)
     → through m (n + k) last (through m n next r) ≡ through m n (map (through m k last) next) r
 unfolding onward
@@ -270,7 +270,7 @@ pub follow-rowsOf : (m : ℕ) (f : ℕ → Row) (st : ℕ) → m ≤ greatestPat
 unfolding follow
 follow-rowsOf m f st h = gather-cong m (row (rowsOf m f)) f st (λ q l. rowsOf-below m f q l h)
 
--- what comes behind a lone q is what its row says
+-- what comes after a lone q is what its row says
 pub through-lone : (m : ℕ) (next : List Row) (q : ℕ) → q < m → row next q .exit < 2 ^ m → row next q .first ≤ none
     → through m 0 next (lone q) ≡ row next q
 unfolding onward
@@ -280,7 +280,7 @@ through-lone m next q l small end =
     ends : min none (later 0 (row next q .first)) ≡ row next q .first
     ends = rw (later-zero (row next q .first) end) (min-eq-right end)
 
--- no segments behind a row change nothing
+-- no segments after a row change nothing
 pub lone-through : (m n : ℕ) (r : Row) → m ≤ greatestPattern → r .exit < 2 ^ m → r .first ≤ none → through m n (rowsOf m lone) r ≡ r
 unfolding onward
 lone-through m n r short small end =

@@ -35,7 +35,7 @@ run-lt P st [] l = l
 run-lt P st (g ∷ T) l = run-lt P (next P st g) T (next-lt P st g)
 
 module _ (P : List ℕ) (st : ℕ) (g : Segment) (T : Text) (r : ℕ) (some : 0 < r) (short : r < length P) where
-  -- what leaves T behind g was begun in g or in T, or has passed both
+  -- what leaves T after g was begun in g or in T, or has passed both
   leaves-both : Leaves P (next P st g) T r → Leaves P st (g ∷ T) r
   leaves-both (afresh e b) =
       let l : 0 < length P = omega arith in

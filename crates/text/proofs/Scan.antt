@@ -87,7 +87,7 @@ module _ (P : List ℕ) (st : ℕ) where
 
 -- a letter more
 module _ (P : List ℕ) (st : ℕ) (v : Variant) (c : ℕ) where
-  -- r + 1 bases are carried out with c exactly when r are without it, and c is the base behind them
+  -- r + 1 bases are carried out with c exactly when r are without it, and c is the base after them
   less : (r : ℕ) → r < length P → CarriedBy P st (suc r) (v ▸ c) → CarriedBy P st r v × (getD P r 0 ≡ c)
   less r l (afresh e h) =
       let s = suffix-less v c (take r P) (getD P r 0) (rw (take-suc P r 0 l) at h) in

@@ -7,7 +7,7 @@ use mathlib.Core.List.{List, [], _∷_, _++_, append-assoc, append-nil, head-eq-
 use lib.ListN.{length, length-append}
 use Rattle.text.specs.Occurrence.{Prefix, Suffix, Inside}
 
--- s with the letter c behind it
+-- s with the letter c after it
 abbrev pub _▸_ : List ℕ → ℕ → List ℕ
 _▸_ s c = s ++ (c ∷ [])
 

@@ -26,7 +26,7 @@ parted (a ∷ x) (b ∷ s) u y e l =
     let h = parted x s u y q (omega arith) in
     record { middle = h .middle; first = ap₂ _∷_ p (h .first); rest = h .rest }
 
--- an occurrence stays one behind a further segment
+-- an occurrence stays one after a further segment
 module _ (g : Segment) (T : Text) (P : List ℕ) where
   pub across-later : (i j : ℕ) → Across P T i j → Across P (g ∷ T) (suc i) (suc j)
   across-later i j a =
@@ -186,7 +186,7 @@ begins-prefix (g ∷ T) (suc at) front last f s e =
     ∙ ap (λ (z : List ℕ). z ++ p .rest) (sym (append-assoc v x last) ∙ ap (λ (z : List ℕ). z ++ last) (sym q)) in
     (v ++ u, record { variant = v; listed = s .listed; is = (u, t, refl) }, record { rest = p .rest; split = split })
 
--- behind any string
+-- after any string
 later : (v P h : List ℕ) → Inside P h → Inside P (v ++ h)
 later v P h p = record {
   start = v ++ p .start;

@@ -41,7 +41,7 @@ module _ {A : Type 0} (f : A → A) where
           ∙ ap (λ (k : List A). k ++ turned (take i l)) (turned-cons (getD l i e) behind)
           ∙ append-snoc (turned behind) (f (getD l i e)) (turned (take i l))
 
-  -- the first k are the last k turned, and behind them stand the others
+  -- the first k are the last k turned, and after them stand the others
   module _ (k : ℕ) (l : List A) (h : k ≤ length l) where
     n : ℕ
     n = length l - k

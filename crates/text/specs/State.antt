@@ -37,7 +37,7 @@ nextBit P st g (suc r) = anyOf (carries P st (suc r)) g
 unfoldable pub next : List ℕ → ℕ → Segment → ℕ
 next P st g = fromBits (nextBit P st g) (length P)
 
--- an occurrence ends in variant s: it lies in s, or the bases behind a carried q begin s
+-- an occurrence ends in variant s: it lies in s, or the bases after a carried q begin s
 unfoldable pub endsAt : List ℕ → ℕ → Variant → Bool
 endsAt P st s = brings P st (inside P s) (λ q. prefix (drop q P) s)
 

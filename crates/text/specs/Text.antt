@@ -15,7 +15,7 @@ Segment = List Variant
 abbrev pub Text : Type 0
 Text = List Segment
 
--- segment j; a number behind the last one has no variants
+-- segment j; a number after the last one has no variants
 abbrev pub segment : Text → ℕ → Segment
 segment T j = getD T j []
 

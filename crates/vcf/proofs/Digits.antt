@@ -31,7 +31,7 @@ unfolding decimal
 decimal-grows [] n = omega arith
 decimal-grows (c ∷ s) n = let h : n * 10 + (c - 48) ≤ decimal (n * 10 + (c - 48)) s = decimal-grows s (n * 10 + (c - 48)) in omega arith
 
--- the position that the digits s state behind those of n
+-- the position that the digits s state after those of n
 unfoldable pub readOn : ℕ → List ℕ → ℕ
 readOn n s = cond (every digit s && leb (decimal n s) lastPosition) (decimal n s) 0
 

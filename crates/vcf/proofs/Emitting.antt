@@ -1,4 +1,4 @@
--- Laws of the second pass: pieces of the text are put one behind the other.
+-- Laws of the second pass: pieces of the text are put one after another.
 use Prim.Native.Nat.{ℕ, suc, _+_, _-_, _%_, _<_, _≤_}
 use native.Mathlib.Omega.{arith}
 use mathlib.Core.Path.{_≡_, refl, sym, ap, _∙_}

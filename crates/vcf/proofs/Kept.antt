@@ -1,4 +1,4 @@
--- What an accepted file says of its records: which of them are in the window, that each is sound, and that they lie one behind the other.
+-- What an accepted file says of its records: which of them are in the window, that each is sound, and that they lie one after another.
 use Prim.Native.Nat.{ℕ, suc, _≤_}
 use native.Mathlib.Omega.{arith}
 use mathlib.Core.Path.{_≡_, refl, sym, ap, _∙_}
@@ -21,13 +21,13 @@ pub record InWindow (name w : List ℕ) (p from : ℕ) (l : List ℕ) : Type 0 w
   pub inside : passedOver w p l ≡ false
   pub agreed : agrees w p (position l) (reference l) ≡ true
 
--- such lines, each behind the one before it
+-- such lines, each after the one before it
 unfoldable pub Kept : List ℕ → List ℕ → ℕ → ℕ → List (List ℕ) → Type 0
 Kept name w p from [] = Unit {0}
 Kept name w p from (l ∷ ls) = InWindow name w p from l × Kept name w p (behind l) ls
 
 module _ (name w : List ℕ) (p : ℕ) where
-  -- they are so behind any earlier position
+  -- they are so after any earlier position
   kept-earlier : (ls : List (List ℕ)) (from to : ℕ) → from ≤ to → Kept name w p to ls → Kept name w p from ls
   unfolding Kept
   kept-earlier [] from to l k = k

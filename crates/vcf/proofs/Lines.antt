@@ -129,7 +129,7 @@ module _ (w : List ℕ) (p base : ℕ) (l : List ℕ) where
           let fewer : count - 1 ≡ lineLeft w p count l = rw (idle-is false out) in
           ((fewer, based, omega arith), k ∙ rw (h, f, b) (over-over d n between fits (own alt)))
 
--- the records left behind one line, and what it adds to the text
+-- the records left after one line, and what it adds to the text
 pub record Went (name w : List ℕ) (p base n from : ℕ) (l : List ℕ) (ls rs : List (List ℕ)) : Type 0 where
   pub next : ℕ
   pub left : List (List ℕ)
@@ -226,7 +226,7 @@ module _ (name w : List ℕ) (p base n from : ℕ) (l : List ℕ) (ls rs : List 
           let m = after-met (records name w p (suc n) (behind l) ls) (λ xs. ok (l ∷ xs)) rs (d .1) in
           joins e (d .0) f (m .0) (m .1) (sym (ok-inj (m .2)))
 
--- the loop over the lines: what stands from place `at` on adds the rest of the text, with so many records
+-- the loop over the lines: what stands from place `at` on adds the rest of the text, with that many records
 pub record Putting (w : List ℕ) (p : ℕ) (file d out : List ℕ) (base place count at : ℕ) : Type 0 where
   pub put : placed w p ≡ true
   pub inside : at ≤ length file

@@ -1,4 +1,4 @@
--- Laws of bytes cut at marks: the first piece from a place on, and the rest behind its mark.
+-- Laws of bytes cut at marks: the first piece from a place on, and the rest after its mark.
 use Prim.Native.Nat.{ℕ, suc, _+_, _-_, _<_, _≤_}
 use native.Mathlib.Numerals.{add-one}
 use native.Mathlib.Omega.{arith}
@@ -25,7 +25,7 @@ pub is-other : (c x : ℕ) → (x ≡ c → ⊥) → other c x ≡ true
 is-other c x e = rw (ne-eqb x c e)
 
 module _ (c : ℕ) where
-  -- a mark: the piece before it, and what is cut behind it
+  -- a mark: the piece before it, and what is cut after it
   cut-marked :
       (end : List (List ℕ)) (s : List ℕ) → firstNot (other c) s < length s →
       cutAt c end s ≡ take (firstNot (other c) s) s ∷ cutAt c end (drop (suc (firstNot (other c) s)) s)
@@ -77,7 +77,7 @@ module _ (c : ℕ) where
     unfolding endOf
     end-inside l = omega (arith, first-le (other c) (drop from s), length-drop from s)
 
-    -- a mark at or behind `from`
+    -- a mark at or after `from`
     pub cut-next :
         (end : List (List ℕ)) → endOf c s from < length s →
         cutAt c end (drop from s) ≡ part s from (endOf c s from - from) ∷ cutAt c end (drop (endOf c s from + 1) s)
@@ -115,7 +115,7 @@ ends-is c s from n l e =
 pub ends-inside : {c : ℕ} {s : List ℕ} {from end : ℕ} → Ends c s from end → from ≤ length s → end ≤ length s
 ends-inside e l = omega (arith, e .inside)
 
--- from behind the list on there is nothing
+-- from after the list on there is nothing
 pub ends-behind : (c : ℕ) (s : List ℕ) (from : ℕ) → length s < from → Ends c s from from
 unfolding endOf firstNot
 ends-behind c s from l =
@@ -172,7 +172,7 @@ skips-more {c} {s} {from} {at} n h l e =
     ap (firstNot f) split ∙ first-behind f (take n (drop at s)) (drop (at + n) s) (rw size at e) ∙ rw own in
     record { rest = h .rest ∙ omega (arith, first); behind = omega (arith, h .behind); inside = l }
 
--- so many bytes are left
+-- that many bytes are left
 pub record Skipping (c : ℕ) (s : List ℕ) (from at left : ℕ) : Type 0 where
   pub skips : Skips c s from at
   pub count : at + left ≡ length s
@@ -281,7 +281,7 @@ last-line s at l f =
     let c : drop at s ≡ getD s at 0 ∷ drop (suc at) s = drop-cons s at 0 l in
     rw c (line-whole 0x0A (getD s at 0) (drop (suc at) s) (rw c at f))
 
--- the next line, and the lines behind it
+-- the next line, and the lines after it
 pub lines-next :
     (s : List ℕ) (at end : ℕ) → at < length s → Ends 0x0A s at end →
     lines (drop at s) ≡ part s at (end - at) ∷ lines (drop (nextLine s end) s)

@@ -149,7 +149,7 @@ some-reference name l e =
     ltb-true 0 (length (field l 3)) (and-left (ltb 0 (length (field l 3))) (every letter (field l 3)) (and-right eight own front)) in
     rw (meant-length (field l 3)) h
 
--- a record is asked for a position that is cut at one behind every position
+-- a record is asked for a position that is cut at one after every position
 fitting-capped : (name w : List ℕ) (p from g : ℕ) (l : List ℕ) → from ≡ min beyond g → fitting name w p g l ≡ fitting name w p from l
 unfolding fitting
 fitting-capped name w p from g l e =
@@ -206,7 +206,7 @@ module _ (name w : List ℕ) (p : ℕ) (s : Reached) (l : List ℕ) (n g : ℕ) 
     unfolding records
     more-in e = rw (plain, fitting-capped name w p (s .from) g l capped, fits, e)
 
-  -- what is left behind a line that passes
+  -- what is left after a line that passes
   pub record Behind (s′ : Reached) : Type 0 where
     pub from : ℕ
     pub cut : s′ .from ≡ min beyond from
@@ -322,7 +322,7 @@ module _ (name w : List ℕ) (p : ℕ) (s : Reached) (l : List ℕ) (n g : ℕ) 
                 more-in h k m;
           }
 
--- the loop over the lines: so many are passed, and those from place `at` on say what the whole file says; those before `start` held no
+-- the loop over the lines: that many are passed, and those from place `at` on say what the whole file says; those before `start` held no
 -- record in the window
 pub record Scanning (name w : List ℕ) (p : ℕ) (file : List ℕ) (at start passed : ℕ) (s : Reached) : Type 0 where
   pub inside : at ≤ length file

@@ -227,7 +227,7 @@ module _ {v a : List ℕ} {k from i : ℕ} (h : Compared v a k from i) where
   unfolding among anyOf
   compared-end l = let z : k - i ≡ 0 = omega arith in h .rest ∙ rw z
 
--- the alleles of ALT are tallied behind REF: the first k of them are, and the others come next
+-- the alleles of ALT are tallied after REF: the first k of them are, and the others come next
 pub record Behind (t₀ : Tally) (ref a : List ℕ) (t : Tally) (from k : ℕ) : Type 0 where
   pub inside : from ≤ length a
   pub few : k ≤ from

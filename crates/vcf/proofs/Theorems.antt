@@ -142,7 +142,7 @@ built-reads-back file window p name d n out told left =
     rw (front, ← built file window p name (length d) U e) (means, rw (standing-encoded U w) at (reads-as (encode U) U means))
 
 -- Records outside the window change nothing but what they may refuse: of a file that 19 does not refuse, the lines that have a base in
--- the window, behind any heading and among any skipped lines, have the same answer.
+-- the window, after any heading and among any skipped lines, have the same answer.
 pub part-built :
     (file part window : List ℕ) (p : ℕ) (name : List ℕ) (room : ℕ) →
     ((k : ℕ) → building file window p name room ≡ refused 19 k → ⊥) →

@@ -51,7 +51,7 @@ opened-meant b g o = step (within b) o (within-more b 1)
         fits false = refl
     step false o h = rw (h refl)
 
--- the number behind a variant that is repeated or not
+-- the number after a variant that is repeated or not
 abbrev counted : Bool → ℕ → Outcome ℕ
 counted again v = demand (not again) 8 v (ok (v + 1))
 

@@ -63,7 +63,7 @@ module _ (w : List ℕ) (p at : ℕ) where
       rw (ne-eqb (length w) 0 n, lt-leb end p l)
       (same-leb (length w) (at - p) (p + length w) at (λ (h : length w ≤ at - p). omega arith) (λ (h : p + length w ≤ at). omega arith))
 
-  -- REF of so many letters, compared by what they mean
+  -- REF of that many letters, compared by what they mean
   module _ (r : List ℕ) where
     pub agrees-before : at < p → agrees (meant w) p at (meant r) ≡ false
     unfolding agrees
@@ -102,7 +102,7 @@ placed-small w p e n =
     rw (ne-eqb (length w) 0 n) at (and-right (ltb 0 p) (eqb (length w) 0 || leb (p + length w) 2147483648) e) in
     leb-true (p + length w) 2147483648 h
 
--- the same of a position that is cut at one behind every window
+-- the same of a position that is cut at one after every window
 pub outside-capped : (w : List ℕ) (p at end : ℕ) → placed w p ≡ true → outside w p at (min 4294967296 end) ≡ outside w p at end
 unfolding outside
 outside-capped w p at end e =

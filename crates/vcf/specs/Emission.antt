@@ -17,14 +17,14 @@ use Rattle.vcf.specs.Building.{gap, windowText}
 unfoldable pub gapOf : Variant → Text
 gapOf v = cond (ltb 0 (length v)) ((v ∷ []) ∷ []) []
 
--- what a line adds behind base `base`, and the first base behind it
+-- what a line adds after base `base`, and the first base after it
 unfoldable pub lineText : List ℕ → ℕ → ℕ → List ℕ → Text
 lineText w p base l = cond (idle w p l) [] (gap w base (position l - p) ++ ((reference l ∷ alts l) ∷ []))
 
 unfoldable pub lineBase : List ℕ → ℕ → ℕ → List ℕ → ℕ
 lineBase w p base l = cond (idle w p l) base (behind l - p)
 
--- how many records are left behind it
+-- how many records are left after it
 unfoldable pub lineLeft : List ℕ → ℕ → ℕ → List ℕ → ℕ
 lineLeft w p left l = cond (idle w p l) left (left - 1)
 

@@ -12,7 +12,7 @@ abbrev pub onto : ℕ → List (List ℕ) → List (List ℕ)
 onto x [] = (x ∷ []) ∷ []
 onto x (p ∷ ps) = (x ∷ p) ∷ ps
 
--- s cut at each byte c, which goes; `end` is what comes behind the last one where nothing is left
+-- s cut at each byte c, which goes; `end` is what comes after the last one where nothing is left
 unfoldable pub cutAt : ℕ → List (List ℕ) → List ℕ → List (List ℕ)
 cutAt c end [] = end
 cutAt c end (x ∷ s) = cond (eqb x c) ([] ∷ cutAt c end s) (onto x (cutAt c end s))
@@ -29,7 +29,7 @@ lines s = cutAt 0x0A [] s
 abbrev pub other : ℕ → ℕ → Bool
 other c x = not (eqb x c)
 
--- the place of the first byte c from place `from` on; the length where there is none, and `from` where it lies behind the list
+-- the place of the first byte c from place `from` on; the length where there is none, and `from` where it lies after the list
 unfoldable pub endOf : ℕ → List ℕ → ℕ → ℕ
 endOf c s from = from + firstNot (other c) (drop from s)
 
@@ -39,12 +39,12 @@ pub record Skips (c : ℕ) (s : List ℕ) (from at : ℕ) : Type 0 where
   pub behind : from ≤ at
   pub inside : at ≤ length s
 
--- that place, which lies behind `from`, and in the list if `from` does
+-- that place, which lies after `from`, and in the list if `from` does
 pub record Ends (c : ℕ) (s : List ℕ) (from end : ℕ) : Type 0 where
   pub is : end ≡ endOf c s from
   pub behind : from ≤ end
   pub inside : end ≤ max from (length s)
 
--- the place behind a line that ends at `end`
+-- the place after a line that ends at `end`
 unfoldable pub nextLine : List ℕ → ℕ → ℕ
 nextLine s end = cond (ltb end (length s)) (end + 1) end

@@ -25,7 +25,7 @@ field l k = getD (pieces 0x09 l) k []
 unfoldable pub digit : ℕ → Bool
 digit c = leb 0x30 c && leb c 0x39
 
--- the number that digits write behind those of n
+-- the number that digits write after those of n
 unfoldable pub decimal : ℕ → List ℕ → ℕ
 decimal n [] = n
 decimal n (c ∷ s) = decimal (n * 10 + (c - 0x30)) s
@@ -34,7 +34,7 @@ decimal n (c ∷ s) = decimal (n * 10 + (c - 0x30)) s
 abbrev pub lastPosition : ℕ
 lastPosition = 2147483647
 
--- behind every position and every window
+-- after every position and every window
 abbrev pub beyond : ℕ
 beyond = 4294967296
 
@@ -62,7 +62,7 @@ areAlleles a = all allele (pieces 0x2C a)
 unfoldable pub alternatesSound : List ℕ → Bool
 alternatesSound a = leb (length (alternates a)) 254 && all allele (alternates a)
 
--- POS of a line, what its REF and the alleles of its ALT spell, and the position behind REF's last base
+-- POS of a line, what its REF and the alleles of its ALT spell, and the position after REF's last base
 abbrev pub position : List ℕ → ℕ
 position l = positionOf (field l 1)
 
@@ -104,7 +104,7 @@ passedOver w p l = outside w p (position l) (behind l)
 unfoldable pub comment : List ℕ → Bool
 comment l = eqb (getD l 0 0) 0x23
 
--- what is asked of a record behind position `from`, where the one before it ends
+-- what is asked of a record after position `from`, where the one before it ends
 unfoldable pub fitting : List ℕ → List ℕ → ℕ → ℕ → List ℕ → Bool
 fitting name w p from l = isRecord name l && leb from (position l) && (passedOver w p l || agrees w p (position l) (reference l))
 

@@ -17,7 +17,7 @@ use Rattle.vcf.specs.declared.survey.scan.Line.the-variants.{Passed, Wro
 use Rattle.vcf.specs.declared.survey.scan.Scanned.{Scanned}
 use Rattle.vcf.specs.declared.survey.scan.Scanned.the-variants.{Needs}
 
--- behind a record outside the window, and behind one in it
+-- after a record outside the window, and after one in it
 abbrev pub overRecord : Reached → List ℕ → Reached
 overRecord s l = record { from = min beyond (behind l); base = s .base; kept = s .kept; tally = s .tally }
 
@@ -38,7 +38,7 @@ lineStep name w p s l =
     (Passed (cond (passedOver w p l) (overRecord s l) (behindRecord w p s l)))
     Wrong)
 
--- what every line leaves: the base is not behind the last record, nor behind the window, and each record has moved it
+-- what every line leaves: the base is not after the last record, nor after the window, and each record has moved it
 pub record Reach (w : List ℕ) (p : ℕ) (s : Reached) : Type 0 where
   pub put : placed w p ≡ true
   pub sane : Sane (s .tally)
@@ -63,7 +63,7 @@ abbrev pub Starts : List ℕ → List ℕ → ℕ → List ℕ → Scanned → T
 Starts name w p file (Needs t start n) = Starting name w p file start n
 Starts name w p file (Scanned.Wrong k) = Unit {0}
 
--- the tally of the text of the lines from number n on, behind what was reached
+-- the tally of the text of the lines from number n on, after what was reached
 unfoldable pub scanFrom : List ℕ → List ℕ → ℕ → ℕ → ℕ → ℕ → Tally → List (List ℕ) → Outcome Tally
 scanFrom name w p n from base t ls = after (records name w p n from ls) λ rs. ok (tallyText t (textFrom w p base rs))
 

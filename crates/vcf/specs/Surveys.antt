@@ -13,7 +13,7 @@ use Rattle.vcf.specs.Building.{windowText, building}
 use Rattle.vcf.specs.declared.survey.surveying.Surveyed.{Surveyed}
 use Rattle.vcf.specs.declared.survey.surveying.Surveyed.the-variants.{Needs, Refused}
 
--- the lines from place `start` on hold the records of the window, so many of them, and their text has so many segments and fits the room
+-- the lines from place `start` on hold the records of the window, that many of them, and their text has that many segments and fits the room
 pub record Readable (w : List ℕ) (p : ℕ) (file : List ℕ) (start left segments room : ℕ) : Type 0 where
   pub put : placed w p ≡ true
   pub inside : start ≤ length file
@@ -25,7 +25,7 @@ pub record Readable (w : List ℕ) (p : ℕ) (file : List ℕ) (start left segme
   pub count : segments ≡ length (windowText w p file)
   pub fits : length (encode (windowText w p file)) ≤ room
 
--- the text of the window has so many bytes: it is built into any room that has them, and 15 is refused in any other
+-- the text of the window has that many bytes: it is built into any room that has them, and 15 is refused in any other
 pub record Built (file window : List ℕ) (p : ℕ) (name : List ℕ) (bytes segments start kept : ℕ) : Type 0 where
   pub size : bytes ≡ length (encode (windowText (meant window) p file))
   pub short : (room : ℕ) → room < bytes → building file window p name room ≡ refused 15 0

@@ -10,7 +10,7 @@ use Rattle.layout.specs.Reading.{among}
 use Rattle.vcf.specs.declared.survey.tally.Tally.{Tally}
 use Rattle.vcf.specs.declared.survey.tally.Tally.the-variants.{Fits, Repeated, Long}
 
--- so many bytes fit
+-- that many bytes fit
 abbrev pub within : ℕ → Bool
 within b = leb b greatestStretch
 
@@ -26,7 +26,7 @@ tallied (Fits b g v) n again = cond (within (b + (n + 2))) (cond again (Repeated
 tallied (Repeated b k) n again = cond (within (b + (n + 2))) (Repeated (b + (n + 2)) k) Long
 tallied Long n again = Long
 
--- the variants of a segment behind those seen
+-- the variants of a segment after those seen
 unfoldable pub tallyIn : Tally → Segment → Segment → Tally
 tallyIn t seen [] = t
 tallyIn t seen (v ∷ g) = tallyIn (tallied t (length v) (among v seen)) (seen ++ (v ∷ [])) g

@@ -4,7 +4,4 @@ mod put;
 pub mod records;
 pub mod survey;
 
-pub use crate::records::heading;
-pub use crate::records::position;
-pub use crate::records::record::field;
 pub use building::build;

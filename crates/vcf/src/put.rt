@@ -25,7 +25,7 @@ ghost use Rattle.vcf.specs.Building.{windowText};
 ghost use Rattle.vcf.specs.Surveys.{Readable};
 ghost use Rattle.vcf.specs.Emission.{gapOf, Placing, lineText, lineBase, lineLeft};
 
-// Bases as a segment of one variant, nothing where there are none. The place behind them.
+// Bases as a segment of one variant, nothing where there are none. The place after them.
 fn put_gap(bases: &[u8], out: &mut [u8], at: usize) -> usize
     requires { ⌜ at + length (bytesOf encodeSegment (gapOf (meant (now bases)))) ≤ length (now out) ⌝ }
     ensures { λ r. ⌜ r ≡ at + length (bytesOf encodeSegment (gapOf (meant (now (bases .entry))))) ⌝ }
@@ -40,7 +40,7 @@ fn put_gap(bases: &[u8], out: &mut [u8], at: usize) -> usize
     at + 3 + n
 }
 
-// The alleles of ALT, one after another. The place behind them.
+// The alleles of ALT, one after another. The place after them.
 fn put_alleles(alt: &[u8], out: &mut [u8], at: usize) -> usize
     requires { ⌜ at + length (bytesOf encodeVariant (pieces 0x2C (meant (now alt)))) ≤ length (now out) ⌝ }
     ensures { λ r. ⌜ r ≡ at + length (bytesOf encodeVariant (pieces 0x2C (meant (now (alt .entry))))) ⌝ }
@@ -76,7 +76,7 @@ fn count(s: &[u8], mark: u8) -> usize
     }
 }
 
-// A record's segment: its variant count, REF, and the alleles of ALT. The place behind it.
+// A record's segment: its variant count, REF, and the alleles of ALT. The place after it.
 fn put_record(reference: &[u8], alt: &[u8], out: &mut [u8], at: usize) -> usize
     requires { ⌜ length (alternates (meant (now alt))) ≤ 254 ⌝ }
     requires { ⌜ at + length (encodeSegment (meant (now reference) ∷ alternates (meant (now alt)))) ≤ length (now out) ⌝ }
@@ -139,7 +139,7 @@ fn put_line(line: &[u8], window: &[u8], first: usize, put: Put, out: &mut [u8]) 
     }
 }
 
-// The whole text of so many segments. The lines from place `start` on hold its records, so many of them; none behind the last of these
+// The whole text of that many segments. The lines from place `start` on hold its records, that many of them; none after the last of these
 // is looked at.
 pub fn put_text(
     file: &[u8],

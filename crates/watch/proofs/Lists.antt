@@ -99,7 +99,7 @@ pub record Earliest (ws : List Watched) (t : Text) (label segment : ℕ) : Type 
   pub segment-is : segment ≡ firstOf (getD ws index blank) t
   pub before : (i : ℕ) → i < index → endsIn (getD ws i blank) t ≡ false
 
--- of a record and those behind it
+-- of a record and those after it
 each-more : (w : Watched) (ws : List Watched) (t : Text) (n i : ℕ) → endsIn w t ≡ false
     → ((j : ℕ) → j < n → endsIn (getD ws j blank) t ≡ false) → i < suc n → endsIn (getD (w ∷ ws) i blank) t ≡ false
 each-more w ws t n zero e h l = e

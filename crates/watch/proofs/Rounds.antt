@@ -184,7 +184,7 @@ text-of : (s : List ℕ) (t : Text) → stretchOf s ≡ ok t → textOf s ≡ t
 unfolding textOf
 text-of s t e = rw e refl
 
--- the second round may begin behind the first
+-- the second round may begin after the first
 pub ready-begun : (s : List ℕ) (ws : List Watched) → ReadyAll s ws 0 (begunOf (length ws))
 unfolding begunOf
 ready-begun s ws = begun (leb (length ws) mostWatched)
@@ -247,7 +247,7 @@ watched-found ws s =
     watched-is ws s false _ (λ y. toldFound (foundOf y)) (λ o. after o λ t. ok (firstSeen ws t)) (λ n p. refl)
     (λ t. ap (λ (y : Round). toldFound (foundOf y)) (rounds-seeking t 0 ws) ∙ told-sighted (firstSeen ws t))
 
--- and `mark`, with a buffer of so many bytes
+-- and `mark`, with a buffer of that many bytes
 lists-marked : (t : Text) (ws : List Watched) → rounds t 0 ws (Marking 0) ≡ Marking (number (marksOf ws t))
 lists-marked t ws = rounds-marking t 0 ws 0
     ∙ ap Marking (let z : 0 + 2 ^ 0 * number (marksOf ws t) ≡ number (marksOf ws t) = omega arith in z)

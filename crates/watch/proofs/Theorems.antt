@@ -170,7 +170,7 @@ pub list-empty : (s : List ℕ) → watching [] s ≡ after (stretchOf s) (λ _.
 unfolding watching listing allSound firstSeen
 list-empty s = refl
 
--- both calls refuse alike, `mark` 10 behind all of that
+-- both calls refuse alike, `mark` 10 after all of that
 pub refuse-alike : (ws : List Watched) (s : List ℕ) (room n p : ℕ) → listing ws s ≡ refused n p
     → (watching ws s ≡ refused n p) × (marking ws s room ≡ refused n p)
 unfolding watching marking

@@ -30,19 +30,19 @@ stopped n p = Round.Refused (record { number = n; place = p })
 unfoldable pub begunOf : ℕ → Round
 begunOf n = cond (leb n mostWatched) Asking (stopped 20 0)
 
--- behind record i, whose pattern is asked: 21
+-- after record i, whose pattern is asked: 21
 unfoldable pub askedOf : ℕ → Watched → Round
 askedOf i w = cond (sound w) Asking (stopped 21 i)
 
--- behind a record before which none ended
+-- after a record before which none ended
 unfoldable pub foundBy : Text → Watched → Round
 foundBy t w = cond (endsIn w t) (Round.Found (w .label) (firstOf w t)) Seeking
 
--- behind record i, before which the bits are b
+-- after record i, before which the bits are b
 unfoldable pub markedBy : Text → ℕ → Watched → ℕ → Round
 markedBy t i w b = Marking (b + cond (endsIn w t) (2 ^ i) 0)
 
--- behind record i
+-- after record i
 abbrev pub stepOf : Text → ℕ → Watched → Round → Round
 stepOf t i w (Round.Refused r) = Round.Refused r
 stepOf t i w Asking = askedOf i w
@@ -50,7 +50,7 @@ stepOf t i w Seeking = foundBy t w
 stepOf t i w (Round.Found label segment) = Round.Found label segment
 stepOf t i w (Marking b) = markedBy t i w b
 
--- behind the records of a list, the first of which is record i
+-- after the records of a list, the first of which is record i
 unfoldable pub rounds : Text → ℕ → List Watched → Round → Round
 rounds t i [] x = x
 rounds t i (w ∷ ws) x = rounds t (i + 1) ws (stepOf t i w x)
@@ -75,7 +75,7 @@ turnedOf s all (Marking b) = Marking b
 unfoldable pub watched : List Watched → List ℕ → Bool → Round
 watched ws s all = rounds (textOf s) 0 ws (turnedOf s all (rounds (textOf s) 0 ws (begunOf (length ws))))
 
--- what `first` answers behind them
+-- what `first` answers after them
 abbrev pub foundOf : Round → Found
 foundOf (Round.Refused r) = Found.Refused r
 foundOf Asking = Found.None
@@ -88,7 +88,7 @@ unfoldable pub digits : ℕ → ℕ → List ℕ
 digits zero b = []
 digits (suc n) b = b % 2 ∷ digits n (b / 2)
 
--- what `mark` answers behind them, with a buffer of so many bytes: 10
+-- what `mark` answers after them, with a buffer of that many bytes: 10
 abbrev pub listedOf : ℕ → Round → ℕ → Listed
 listedOf n (Round.Refused r) room = Listed.Refused r
 listedOf n Asking room = Listed.Marked

@@ -12,7 +12,7 @@ use Rattle.layout.specs.Reading.{Taken, segmentAt}
 use Rattle.search.specs.Masks.{Others, StateOf}
 use Rattle.search.specs.Words.{Turned}
 
--- a pattern of 1 to 64 bases, and the other bits of its letter vectors
+-- a pattern of 1 to 64 bases, and the complement of its letter vectors
 pub record Vectors (P vectors : List ℕ) : Type 0 where
   pub some : 0 < length P
   pub short : length P ≤ 64
@@ -32,7 +32,7 @@ pub record Readable (s : List ℕ) (at : ℕ) : Type 0 where
   pub read : Taken Segment ℕ
   pub is : segmentAt s at ≡ ok read
 
--- the segment that stands from `at` up to `behind`, the state behind it, and whether an occurrence ends in it
+-- the segment that stands from `at` up to `behind`, the state after it, and whether an occurrence ends in it
 pub record Stepped (P : List ℕ) (st : ℕ) (s : List ℕ) (at behind state : ℕ) (end : Bool) : Type 0 where
   pub segment : Segment
   pub read : segmentAt s at ≡ ok (record { value = segment; next = behind })

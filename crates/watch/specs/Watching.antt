@@ -96,7 +96,7 @@ answerFound (Found.Refused r) = record { number = r .number; place = r .place; v
 unfoldable pub marksOf : List Watched → Text → List ℕ
 marksOf ws t = map (λ w. cond (endsIn w t) 1 0) ws
 
--- the text whose marks go into a buffer of so many bytes: those of `first`, then 10
+-- the text whose marks go into a buffer of that many bytes: those of `first`, then 10
 unfoldable pub marking : List Watched → List ℕ → ℕ → Outcome Text
 marking ws s room = after (listing ws s) λ t. demand (leb (length ws) room) 10 0 (ok t)
 

@@ -1,4 +1,4 @@
-// The rounds over a list: what is known behind the records so far. One step serves both rounds, the one that asks every pattern and the
+// The rounds over a list: what is known after the records so far. One step serves both rounds, the one that asks every pattern and the
 // one that looks for every record; once something is refused, or the first end is found, it leaves all as it is.
 use crate::sight::sight;
 use crate::watched::Watched;
@@ -90,7 +90,7 @@ fn marked(stretch: &[u8], i: usize, item: Watched, bits: u64) -> Round
     Round::Marking(bits)
 }
 
-// Behind record i.
+// After record i.
 pub fn step(stretch: &[u8], i: usize, item: Watched, round: Round) -> Round
     requires { ⌜ Ready (now stretch) i item round ⌝ }
     ensures { λ r. ⌜ r ≡ stepOf (textOf (now (stretch .entry))) i item round ⌝ }

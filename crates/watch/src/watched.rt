@@ -5,7 +5,7 @@ use text::refusal;
 ghost use mathlib.Core.Path.{_≡_};
 ghost use Rattle.watch.specs.Watching.{sound};
 
-// A withheld sequence, the first m bytes of `pattern`, and its label. Bytes behind the m bases are disregarded.
+// A withheld sequence, the first m bytes of `pattern`, and its label. Bytes after the m bases are disregarded.
 pub struct Watched {
     pub pattern: [u8; 64],
     pub m: u8,

@@ -50,7 +50,7 @@ module _ (ns : List ℕ) (k : ℕ) where
       let e : n ≡ i + (n - i) = omega arith in
       omega (arith, ap (sumFrom ns k) e, sum-add i (n - i))
 
--- the piece behind i others, which begins at place `next`, lies inside, and so do those before it
+-- the piece after i others, which begins at place `next`, lies inside, and so do those before it
 module _ {size : ℕ} {ns : List ℕ} {k at i next : ℕ} (b : Behind size ns k at i next) where
   number-in : k + i < length ns
   number-in = omega (arith, b .within .listed)
@@ -109,7 +109,7 @@ module _ (l ns : List ℕ) (k at : ℕ) where
   unfolding cut
   pieces-first n h = rw (part-first ns k n, drop-drop)
 
--- the rest of n pieces behind i of them: the next, and the rest behind it
+-- the rest of n pieces after i of them: the next, and the rest after it
 pub pieces-rest :
     (l ns : List ℕ) (k at n i : ℕ) → i < n → k + i < length ns →
     pieces l ns (k + i) at (n - i) ≡ part l at (getD ns (k + i) 0) ∷ pieces l ns (k + (i + 1)) (at + getD ns (k + i) 0) (n - (i + 1))

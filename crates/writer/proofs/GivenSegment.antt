@@ -20,7 +20,7 @@ use Rattle.writer.specs.Answers.{reached}
 use Rattle.layout.proofs.Walks.{Walk, walk-none, walk-more, walk-refused}
 use Rattle.writer.proofs.Cuts.{Passing, passing-none, passing-more, part-slice, length-part, pieces-first, sum-first}
 
--- variant v, of m letters from letter `at` on, as a slice hands them on, behind those seen of its segment; w is the first that is
+-- variant v, of m letters from letter `at` on, as a slice hands them on, after those seen of its segment; w is the first that is
 -- no letter
 module _
     (letters lengths : List ℕ) (seen : Segment) (v at : ℕ) {m w : ℕ} (e : m ≡ getD lengths v 0)

@@ -36,7 +36,7 @@ module _ (letters lengths counts : List ℕ) where
       let a = demand-met (ltb 0 n) 6 j (many (variantGiven letters lengths) n [] (spot v at)) x e in
       variants-are letters lengths n [] v at x (matched-within m l .listed) (a .1)
 
-  -- n segments behind those seen: an accepted walk over them gives the rest of the text
+  -- n segments after those seen: an accepted walk over them gives the rest of the text
   segments-are :
       (n : ℕ) (seen : Text) (v at : ℕ) (x : Taken Text Spot) → Matched letters lengths counts (length seen) v at →
       length seen + n ≡ length counts → many next-segment n seen (spot v at) ≡ ok x →

@@ -72,7 +72,7 @@ pub all-capitals : (g : Segment) → formedSegment g ≡ true → all (every cap
 unfolding formedSegment
 all-capitals g f = and-right (ltb 0 (length g) && leb (length g) 255) (all (every capital) g) f
 
--- an accepted segment gives the number behind its variants
+-- an accepted segment gives the number after its variants
 once-count : (g : Segment) (v : ℕ) (seen : Segment) (k : ℕ) → onceIn v seen g ≡ ok k → k ≡ v + length g
 unfolding onceIn
 once-count [] v seen k e = let h : v ≡ k = ok-inj e in omega arith
@@ -101,7 +101,7 @@ module _ (letters lengths : List ℕ) where
         spelt = stands-back letters at (flatten g) (flatten l) (rw flatten-append at (h .spelt));
       }
 
-  -- what is behind a segment, and behind a text
+  -- what is after a segment, and after a text
   abbrev behind : Segment → ℕ → ℕ → Outcome (Taken Segment Spot)
   behind g at k = ok (record { value = g; next = spot k at })
 

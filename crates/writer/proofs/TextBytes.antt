@@ -16,7 +16,7 @@ use Rattle.layout.proofs.Overs.{over-over, Emitted, emitted-none, emitted-room,
 abbrev pub segmentBytes : List ℕ → List ℕ → List ℕ → List ℕ
 segmentBytes letters lengths counts = bytesOf encodeSegment (given letters lengths counts)
 
--- j segments are written over d, behind the segment count; the next one begins with variant v and letter `at`. Before it stand j
+-- j segments are written over d, after the segment count; the next one begins with variant v and letter `at`. Before it stand j
 -- variant counts, v lengths, and `at` letters
 pub record SegmentsPut (letters lengths counts d out : List ℕ) (v at j : ℕ) : Type 0 where
   pub matched : Matched letters lengths counts j v at

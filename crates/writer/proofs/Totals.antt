@@ -45,7 +45,7 @@ module _ {ns : List ℕ} {target i left : ℕ} (s : Summing ns target i left) wh
       (λ e. let h : left ≡ 0 = eqb-true left 0 e in let k : sum ns ≡ target = omega arith in eq-eqb (sum ns) target k)
       (λ e. let h : sum ns ≡ target = eqb-true (sum ns) target e in let k : left ≡ 0 = omega arith in eq-eqb left 0 k)
 
--- a write of so many letters, variants and segments that is longer than a stretch
+-- a write of that many letters, variants and segments that is longer than a stretch
 pub too-long :
     (letters variants segments : ℕ) → greatestStretch < 2 + segments + 2 * variants + letters →
     false ≡ leb (2 + segments + 2 * variants + letters) greatestStretch

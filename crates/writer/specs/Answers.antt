@@ -11,7 +11,7 @@ use Rattle.writer.specs.declared.sound.Reached.the-variants.{Letter}
 use Rattle.writer.specs.declared.writing.Put.{Put}
 use Rattle.writer.specs.declared.writing.Put.the-variants.{Bytes}
 
--- the number of the first letter behind what a write has checked
+-- the number of the first letter after what a write has checked
 abbrev pub toldReached : Reached → Outcome ℕ
 toldReached (Letter at) = ok at
 toldReached (Reached.Refused r) = refused (r .number) (r .place)

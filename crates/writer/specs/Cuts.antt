@@ -27,7 +27,7 @@ pub record Within (size : ℕ) (ns : List ℕ) (k at n : ℕ) : Type 0 where
   pub listed : k + n ≤ length ns
   pub inside : at + sumFrom ns k n ≤ size
 
--- so does the one behind them, which begins at place `next`
+-- so does the one after them, which begins at place `next`
 pub record Behind (size : ℕ) (ns : List ℕ) (k at n next : ℕ) : Type 0 where
   pub within : Within size ns k at (n + 1)
   pub begins : next ≡ at + sumFrom ns k n

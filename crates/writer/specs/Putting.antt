@@ -15,7 +15,7 @@ use Rattle.layout.specs.Encoding.{encode, all}
 unfoldable pub formedSegment : Segment → Bool
 formedSegment g = ltb 0 (length g) && leb (length g) 255 && all (every capital) g
 
--- variants behind those seen of their segment, numbered from k: 8 at the first equal to an earlier one; else the number behind them
+-- variants after those seen of their segment, numbered from k: 8 at the first equal to an earlier one; else the number after them
 unfoldable pub onceIn : ℕ → Segment → Segment → Outcome ℕ
 onceIn k seen [] = ok k
 onceIn k seen (v ∷ g) =

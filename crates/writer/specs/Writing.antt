@@ -29,7 +29,7 @@ pub record Spot : Type 0 where
 abbrev pub spot : ℕ → ℕ → Spot
 spot v at = record { variant = v; letter = at }
 
--- one variant of a write, its letters raised, behind those seen of its segment: 7 at its letter's number, 8 at its own
+-- one variant of a write, its letters raised, after those seen of its segment: 7 at its letter's number, 8 at its own
 unfoldable pub variantGiven : List ℕ → List ℕ → Segment → Spot → Outcome (Taken Variant Spot)
 variantGiven letters lengths seen at =
     let n : ℕ = getD lengths (at .variant) 0 in

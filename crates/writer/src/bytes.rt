@@ -13,7 +13,7 @@ ghost use Rattle.writer.specs.Cuts.{Within, sumFrom, pieces};
 ghost use Rattle.writer.specs.Writing.{Matching, given, needed};
 
 // A segment: its variant count, then that many variants, from variant `first` on, whose letters stand from `from` on. The number of
-// the first letter behind them.
+// the first letter after them.
 fn put_segment(
     letters: &[u8],
     lengths: &[u16],

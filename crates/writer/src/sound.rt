@@ -15,7 +15,7 @@ ghost use Rattle.writer.specs.Cuts.{Within, Behind, pieces};
 ghost use Rattle.writer.specs.Writing.{Matching, spot, variantGiven, segmentGiven, segmentsGiven};
 ghost use Rattle.writer.specs.Answers.{toldReached, reached};
 
-// The number of the first letter behind what was checked.
+// The number of the first letter after what was checked.
 pub enum Reached {
     Letter(usize),
     Refused(Refusal),
@@ -47,7 +47,7 @@ fn repeated(
     false
 }
 
-// The variant behind the k of its segment, which begins with variant `first` at letter `from`; its own letters stand from `at`
+// The variant after the k of its segment, which begins with variant `first` at letter `from`; its own letters stand from `at`
 // on. Refusals 7 and 8.
 fn variant_given(
     letters: &[u8],

@@ -48,7 +48,7 @@ pub fn lengths_sum(lengths: &[u16], target: usize) -> bool
     left == 0
 }
 
-// Whether so many letters, variants and segments fit a stretch. Each number is asked first, so that their sum is small.
+// Whether that many letters, variants and segments fit a stretch. Each number is asked first, so that their sum is small.
 pub fn fits_stretch(letters: usize, variants: usize, segments: usize) -> bool
     ensures { λ r. ⌜ r ≡ leb (2 + segments + 2 * variants + letters) greatestStretch ⌝ }
 {

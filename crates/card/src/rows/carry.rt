@@ -3,7 +3,7 @@
 use text::state::low;
 ghost use Rattle.card.specs.RowStep.{Alive, Moves};
 
-// What one pass over a variant's letters makes of the carried lengths: those reached behind it, and which of those carried in end
+// What one pass over a variant's letters makes of the carried lengths: those reached after it, and which of those carried in end
 // an occurrence in it.
 pub struct Moved {
     pub reached: u64,

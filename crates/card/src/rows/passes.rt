@@ -67,7 +67,7 @@ fn rows_over(
     }
 }
 
-// The rows over a sound stretch of so many segments, whose row 0 is known.
+// The rows over a sound stretch of that many segments, whose row 0 is known.
 fn told(pattern: &[u8], stretch: &[u8], segments: usize, exit: u64, first: u32) -> Rows
     requires { ⌜ RowZero (now pattern) (now stretch) segments exit first ⌝ }
     ensures { λ r. ⌜ AreOver (now (pattern .entry)) (now (stretch .entry)) r ⌝ }

@@ -12,7 +12,7 @@ ghost use lib.ListN.{length};
 ghost use Rattle.card.specs.Held.{Full};
 ghost use Rattle.card.specs.RowStep.{Alive, Covers, Readable, Spread, VariantOver, Settled, SegmentOver};
 
-// What a segment leaves: the union of the rows' states, and the place behind it.
+// What a segment leaves: the union of the rows' states, and the place after it.
 pub struct Behind {
     pub live: u64,
     pub next: usize,

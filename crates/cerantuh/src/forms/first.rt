@@ -1,5 +1,5 @@
-// The first hit for C: whether a stretch is clear, and if not, in which segment an occurrence ends first. What stands behind the hit is
-// not read. The stretches of a text are asked in order, the state behind each clear one handed to the next.
+// The first hit for C: whether a stretch is clear, and if not, in which segment an occurrence ends first. What stands after the hit is
+// not read. The stretches of a text are asked in order, the state after each clear one handed to the next.
 use crate::forms::block::code;
 use crate::forms::block::two;
 use search::First;
@@ -9,7 +9,7 @@ use text::strand::Strand;
 ghost use mathlib.Core.Path.{_≡_};
 ghost use Rattle.cerantuh.specs.Forms.{firstAnswer, firstBlock};
 
-// The first ending segment, and no state; or "none", and the state behind the stretch; of the pattern as the strand reads it. The
+// The first ending segment, and no state; or "none", and the state after the stretch; of the pattern as the strand reads it. The
 // block's room is asked last, of a hit too.
 pub fn first_hit(
     pattern: &[u8],

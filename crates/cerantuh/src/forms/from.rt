@@ -1,4 +1,4 @@
-// The search of a stretch from a state, for C: a text of many stretches is searched one after another, the state behind each handed to the
+// The search of a stretch from a state, for C: a text of many stretches is searched one after another, the state after each handed to the
 // next, so that nothing is lost at a cut. The block's room is asked before the search, since a search that is accepted has written its
 // marks.
 use crate::forms::block::code;

@@ -25,7 +25,7 @@ fn put_named(word: &[u8], name: &[u8], out: &mut [u8], at: usize) -> usize
     put_bytes(b"\n", &mut *out, end)
 }
 
-// A segment in which a sequence ends: its number in the text, with so many segments before its file, and its number in the file.
+// A segment in which a sequence ends: its number in the text, with that many segments before its file, and its number in the file.
 pub fn put_hit(label: u64, before: u64, segment: u64, name: &[u8], out: &mut [u8]) -> usize
     ensures { λ r. ⌜ Put (now (out .entry)) 0 (hitLine label before segment (now (name .entry))) (now (out .exit)) r ⌝ }
     ensures { λ r. ⌜ Fits r (now (out .exit)) ⌝ }
@@ -37,7 +37,7 @@ pub fn put_hit(label: u64, before: u64, segment: u64, name: &[u8], out: &mut [u8
     put_named(b" of ", name, &mut *out, three)
 }
 
-// Where a sequence stands behind the whole text: clear, or in how many of the segments it ends.
+// Where a sequence stands after the whole text: clear, or in how many of the segments it ends.
 pub fn put_standing(label: u64, standing: Standing, out: &mut [u8]) -> usize
     ensures { λ r. ⌜ Put (now (out .entry)) 0 (standingLine label standing) (now (out .exit)) r ⌝ }
     ensures { λ r. ⌜ Fits r (now (out .exit)) ⌝ }

@@ -1,8 +1,8 @@
 // The border table of a pattern.
 ghost use Rattle.search.specs.Border.{Borders, Matched, Next, Sized};
 
-// The greatest length at which the pattern's first bases end its first k with the letter behind them: the first base
-// that fits behind k, behind its border, behind that one's border, and so on.
+// The greatest length at which the pattern's first bases end its first k with the letter after them: the first base
+// that fits after k, after its border, after that one's border, and so on.
 pub fn fallback(pattern: &[u8], table: &[u64; 256], k: usize, letter: u8) -> usize
     requires { ⌜ Matched (now pattern) (now table) k ⌝ }
     ensures { λ r. ⌜ Next (now (pattern .entry)) k letter r ⌝ }

@@ -20,7 +20,7 @@ ghost use Rattle.search.specs.Answers.{MarksFrom, RoomyFrom, MarksOf, Ro
 ghost use Rattle.search.specs.Masks.{StateOf};
 ghost use Rattle.search.specs.Either.{evens, odds, Vectors, eitherFrom, eitherCourse, toldRanBoth, seenBoth, toldBoth};
 
-// The place behind the segments, their size, the number of ones among their marks, and the states there.
+// The place after the segments, their size, the number of ones among their marks, and the states there.
 pub enum RanBoth {
     To {
         next: usize,
@@ -31,7 +31,7 @@ pub enum RanBoth {
     Refused(Refusal),
 }
 
-// Takes the states over so many segments from `at` on, and puts their marks into `marks`. A refusal may leave some there.
+// Takes the states over that many segments from `at` on, and puts their marks into `marks`. A refusal may leave some there.
 fn run_both(
     pattern: &[u8],
     table: &[u64; 512],
@@ -87,7 +87,7 @@ fn run_both(
     }
 }
 
-// Takes the states over a whole stretch: its count, its segments, and what may be wrong behind them. A refusal may leave some marks in
+// Takes the states over a whole stretch: its count, its segments, and what may be wrong after them. A refusal may leave some marks in
 // `marks`, so they are not the caller's yet.
 pub fn stretch_both(
     pattern: &[u8],

@@ -1,4 +1,4 @@
-// One segment on both strands: its variants one after another, each read once, and the states behind them.
+// One segment on both strands: its variants one after another, each read once, and the states after them.
 use crate::both::words::Pair;
 use crate::both::words::scan_both;
 use layout::cursor::Cursor;
@@ -12,7 +12,7 @@ ghost use Rattle.search.specs.Masks.{StateOf};
 ghost use Rattle.search.specs.Step.{toldPassed, segmentPass};
 ghost use Rattle.search.specs.Either.{evens, odds, Vectors, passedGiven, passedOpposite};
 
-// How far a step over a segment has come in the bytes: the place behind it, its size, the states there, and on which strand an
+// How far a step over a segment has come in the bytes: the place after it, its size, the states there, and on which strand an
 // occurrence ends in it.
 pub enum PassedBoth {
     To {
@@ -26,7 +26,7 @@ pub enum PassedBoth {
 }
 
 impl Pair {
-    // The states behind the segment at `at`: refusals 5 to 8.
+    // The states after the segment at `at`: refusals 5 to 8.
     pub(crate) fn over(
         self,
         pattern: &[u8],

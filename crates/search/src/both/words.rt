@@ -31,16 +31,14 @@ impl Pair {
     }
 }
 
-// What one pass over a variant's letters finds on each strand: the other bits of the words behind them, those that no word has had so
-// far, and whether a byte is no letter.
+// What one pass over a variant's letters finds on each strand, as a scan of one strand tells it.
 pub struct ScannedBoth {
     pub out: Pair,
     pub missed: Pair,
     pub wrong: bool,
 }
 
-// The other bits of the letter vectors of both strands: those of the strand as given in the even entries, those of the opposite one in
-// the odd entries.
+// The complemented letter vectors of both strands: the strand as given in the even entries, the opposite one in the odd entries.
 pub fn masks_both(given: &[u8], opposite: &[u8]) -> [u64; 512]
     ensures { λ r. ⌜ Others (bases (now (given .entry))) (evens r) ⌝ }
     ensures { λ r. ⌜ Others (bases (now (opposite .entry))) (odds r) ⌝ }

@@ -25,7 +25,7 @@ fn wanted(p: &[u8], bytes: &[u8], verdict: Verdict, q: usize) -> Answer {
     }
 }
 
-// A card is to have the pattern P, behind it 0, and the rows of a text.
+// A card is to have the pattern P, after it 0, and the rows of a text.
 pub fn compare(
     tally: Tally,
     group: usize,

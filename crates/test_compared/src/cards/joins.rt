@@ -39,7 +39,7 @@ fn parts(
     cards::compare(t, JOINS, p, bytes, verdict, front.card.join(back.card))
 }
 
-// A text, asked whole, and cut behind some of its segments.
+// A text, asked whole, and cut after some of its segments.
 pub fn compare(tally: Tally, p: &[u8], bytes: &[u8], verdict: Verdict) -> Tally {
     let t = ask(tally, p, bytes, 1);
     let segments = verdict.segments;

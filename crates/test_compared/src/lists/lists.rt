@@ -50,7 +50,7 @@ fn draw(out: &mut [u8], text: &[u8], k: usize, seed: u64) -> usize {
 }
 
 // What is to be found once record k is looked at too, whose label is 100 more than its number, and its mark. The first that is wrong
-// comes before a refusal of the stretch, and behind too many records.
+// comes before a refusal of the stretch, and after too many records.
 fn with(
     before: Answer,
     k: usize,

@@ -20,7 +20,7 @@ fn search_into(marks: &mut [u8], bits: bool, p: &[u8], strand: Strand, bytes: &[
     searched(by_borders(p, strand, bytes, &mut *marks))
 }
 
-// A search of a text is to mark what is found, and to leave what stood behind.
+// A search of a text is to mark what is found, and to leave what stood after.
 pub fn compare(
     tally: Tally,
     bits: bool,

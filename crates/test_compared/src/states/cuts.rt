@@ -1,4 +1,4 @@
-// A text cut behind each of its segments into two stretches: the search of the second goes on from the state behind the first, and both
+// A text cut after each of its segments into two stretches: the search of the second goes on from the state after the first, and both
 // together mark what the whole text has, on the way across the cut too.
 use search::Sought;
 use search::State;
@@ -15,7 +15,7 @@ use text::strand::Strand;
 // The group of the cuts.
 const CUTS: usize = 1;
 
-// One stretch more, behind those that told so many segments, the bits of a state, and so many ends: its marks go behind theirs.
+// One stretch more, after those that told that many segments, the bits of a state, and that many ends: its marks go after theirs.
 fn onward(before: Answer, p: &[u8], strand: Strand, stretch: &[u8], marks: &mut [u8]) -> Answer {
     let from = before.first;
     if marks.len() < from {
@@ -39,7 +39,7 @@ fn onward(before: Answer, p: &[u8], strand: Strand, stretch: &[u8], marks: &mut 
     }
 }
 
-// A text cut behind so many of its segments, where its stretches leave these marks.
+// A text cut after that many of its segments, where its stretches leave these marks.
 fn parted(
     p: &[u8],
     strand: Strand,
@@ -64,7 +64,7 @@ fn parted(
     held(both, &marks, left)
 }
 
-// A text cut behind each of its segments, and before the first, compared with what is found in the whole.
+// A text cut after each of its segments, and before the first, compared with what is found in the whole.
 pub fn compare(
     tally: Tally,
     p: &[u8],

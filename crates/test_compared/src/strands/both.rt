@@ -13,7 +13,7 @@ use test_tally::Tally;
 use test_tally::held;
 use test_tally::searched;
 
-// The whole text is to have so many ends, and to leave these marks.
+// The whole text is to have that many ends, and to leave these marks.
 fn whole(
     tally: Tally,
     p: &[u8],

@@ -1,4 +1,4 @@
-// A text cut in two and searched on both strands at once: the search of the second stretch goes on from the states behind the first, and
+// A text cut in two and searched on both strands at once: the search of the second stretch goes on from the states after the first, and
 // both together mark what either strand has in the whole text.
 use crate::strands::EITHER;
 use search::Pair;
@@ -9,7 +9,7 @@ use test_tally::Answer;
 use test_tally::Tally;
 use test_tally::held;
 
-// One stretch more, behind those that told so many segments and the bits of a state of each strand: its marks go behind theirs.
+// One stretch more, after those that told that many segments and the bits of a state of each strand: its marks go after theirs.
 fn onward(before: Answer, p: &[u8], stretch: &[u8], marks: &mut [u8]) -> Answer {
     let from = before.first;
     if marks.len() < from {

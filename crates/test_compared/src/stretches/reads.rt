@@ -1,4 +1,4 @@
-// The reader, at every variant and behind the last one: from a plain place, and as one that keeps the stretch.
+// The reader, at every variant and after the last one: from a plain place, and as one that keeps the stretch.
 use std::num::wrapping_add_usize;
 use stretch::letters;
 use stretch::read;
@@ -29,8 +29,8 @@ fn from(tally: Tally, bytes: &[u8], place: Place, part: &[u8], wanted: Answer) -
     t.compare(READS, kept, wanted)
 }
 
-// From the place behind the last variant, or the start where the stretch is refused: no letters, and the same place. From the place of
-// each variant: its letters, and the place behind it.
+// From the place after the last variant, or the start where the stretch is refused: no letters, and the same place. From the place of
+// each variant: its letters, and the place after it.
 pub fn compare(tally: Tally, bytes: &[u8], verdict: Verdict) -> Tally {
     let last = place_of(bytes, verdict.segments, verdict.variants);
     let end = Answer {

@@ -19,7 +19,7 @@ fn digit(byte: u8) -> usize
     low + 9
 }
 
-// Puts a raw character behind so many half bytes, and tells how many there are then.
+// Puts a raw character after that many half bytes, and tells how many there are then.
 fn raw_one(out: &mut [u8], halves: usize, byte: u8) -> usize {
     let at = halves / 2;
     match byte {
@@ -75,7 +75,7 @@ fn bump(out: &mut [u8], at: usize) {
     put(&mut *out, at, wrapping_add_u8(before, 1));
 }
 
-// Puts segments from a place on into a buffer of zeros, counts them in its first byte, and tells the place behind them. A lone
+// Puts segments from a place on into a buffer of zeros, counts them in its first byte, and tells the place after them. A lone
 // segment, from place 0 on, has its variant count there instead.
 fn segments(out: &mut [u8], from: usize, word: &[u8]) -> usize {
     let mut at = from;

@@ -17,7 +17,7 @@ pub fn find(line: &[u8], from: usize, byte: u8) -> usize {
     at
 }
 
-// What stands behind the first such byte.
+// What stands after the first such byte.
 pub fn behind(line: &[u8], byte: u8) -> &[u8] {
     let at = wrapping_add_usize(find(line, 0, byte), 1);
     part(line, at, wrapping_sub_usize(line.len(), at))

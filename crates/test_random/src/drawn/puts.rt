@@ -13,7 +13,7 @@ pub fn put_word(out: &mut [u8], at: usize, number: usize) {
     );
 }
 
-// One of the first so many of A, C, G, T.
+// One of the first that many of A, C, G, T.
 pub fn letter(seed: u64, what: usize, alphabet: usize) -> u8 {
     let number = below(seed, what, alphabet);
     match number {

@@ -13,7 +13,7 @@ use test_reference::places::put_part;
 use test_reference::places::repeats;
 use test_reference::places::segment_at;
 
-// The place behind what was put, and how many variants or segments there are.
+// The place after what was put, and how many variants or segments there are.
 struct Made {
     at: usize,
     count: usize,
@@ -59,7 +59,7 @@ fn variant(out: &mut [u8], first: usize, made: Made, text: u64, seed: u64) -> Ma
     }
 }
 
-// Puts up to so many variants.
+// Puts up to that many variants.
 fn variants(out: &mut [u8], first: usize, tries: usize, text: u64, from: u64) -> Made {
     let mut made = Made {
         at: first,

@@ -1,4 +1,4 @@
-// What stands at a place of a stretch. Behind its end stand zeros, and a part that does not lie within is empty.
+// What stands at a place of a stretch. After its end stand zeros, and a part that does not lie within is empty.
 use std::num::wrapping_add_usize;
 use std::num::wrapping_sub_usize;
 ghost use Prim.Native.Nat.{_<_};
@@ -40,12 +40,12 @@ pub fn letters_at(bytes: &[u8], at: usize) -> &[u8] {
     part(bytes, wrapping_add_usize(at, 2), word_at(bytes, at))
 }
 
-// The place behind that variant.
+// The place after that variant.
 pub fn behind(bytes: &[u8], at: usize) -> usize {
     wrapping_add_usize(wrapping_add_usize(at, 2), word_at(bytes, at))
 }
 
-// The place behind so many variants.
+// The place after that many variants.
 pub fn skip(bytes: &[u8], from: usize, variants: usize) -> usize {
     let mut at = from;
     let mut k = 0;
@@ -85,7 +85,7 @@ pub struct Place {
     pub at: usize,
 }
 
-// The place of the variant of that number, counted over the whole text, of so many segments; behind the last one a place behind them.
+// The place of the variant of that number, counted over the whole text, of that many segments; after the last one a place after them.
 pub fn place_of(bytes: &[u8], segments: usize, number: usize) -> Place {
     let mut left = number;
     let mut at = 2;
@@ -118,7 +118,7 @@ pub fn put(out: &mut [u8], at: usize, byte: u8) {
     }
 }
 
-// Puts a part from a place on, as far as there is room, and tells the place behind it.
+// Puts a part from a place on, as far as there is room, and tells the place after it.
 pub fn put_part(out: &mut [u8], from: usize, part: &[u8]) -> usize {
     let mut at = from;
     let mut i = 0;

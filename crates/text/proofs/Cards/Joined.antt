@@ -36,7 +36,7 @@ joined-assoc a b c e =
         ∙ ap (λ (f : Row → Row). map f (a .rows)) (fun-ext (through-through (a .m) (a .segments) (b .segments) (b .rows) (c .rows)))
         ∙ ap (λ (m : ℕ). map (through (a .m) (a .segments) (map (through m (b .segments) (c .rows)) (b .rows))) (a .rows)) e
 
--- a live row stays live with live rows behind it
+-- a live row stays live with live rows after it
 live-through : (m n k q : ℕ) (r : Row) (next : List Row) → 0 < m
     → LiveRow m n q r
     → ((p : ℕ) → p < m → LiveRow m k p (row next p))

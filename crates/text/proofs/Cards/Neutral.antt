@@ -45,7 +45,7 @@ row-bounds a w q =
     (λ (l : q < a .m). (w .live q l .small, end-le (a .segments) (row (a .rows) q .first) (omega arith) (w .live q l .ends)))
     (λ (l : ¬ (q < a .m)). let from : a .m ≤ q = omega arith in rw (w .idle q from) (pow-pos (a .m), omega arith))
 
--- the empty card's rows, before a card's rows and behind them
+-- the empty card's rows, before a card's rows and after them
 lone-before : (a : Card) → WellFormed a → map (through (a .m) 0 (a .rows)) (rowsOf (a .m) lone) ≡ a .rows
 lone-before a w = map-rows on (rowsOf (a .m) lone) (a .rows) still (length-rowsOf (a .m) lone ∙ sym (w .full)) each
   where

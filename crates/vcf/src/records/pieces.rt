@@ -29,7 +29,7 @@ fn find(s: &[u8], mark: u8) -> usize
     i
 }
 
-// The place of the first byte `mark` from `from` on; the length where there is none, and `from` where it lies behind the bytes.
+// The place of the first byte `mark` from `from` on; the length where there is none, and `from` where it lies after the bytes.
 pub fn end_of(s: &[u8], mark: u8, from: usize) -> usize
     ensures { λ r. ⌜ Ends mark (now (s .entry)) from r ⌝ }
 {
@@ -82,7 +82,7 @@ pub fn far_end(s: &[u8], mark: u8, from: usize) -> usize
     end_of(s, mark, near)
 }
 
-// Piece number k of those between the marks; an empty one behind the last.
+// Piece number k of those between the marks; an empty one after the last.
 pub fn piece(s: &[u8], mark: u8, k: usize) -> &[u8]
     ensures { λ r. ⌜ now r ≡ getD (pieces mark (now (s .entry))) k [] ⌝ }
 {
@@ -117,7 +117,7 @@ pub fn more_than(s: &[u8], mark: u8, n: usize) -> bool
     true
 }
 
-// The place behind a line that ends at `end`: its line feed goes.
+// The place after a line that ends at `end`: its line feed goes.
 pub fn next_line(file: &[u8], end: usize) -> usize
     ensures { λ r. ⌜ r ≡ nextLine (now (file .entry)) end ⌝ }
 {

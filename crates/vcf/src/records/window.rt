@@ -5,7 +5,7 @@ ghost use Prim.Native.Nat.{_+_, min};
 ghost use Rattle.text.specs.Letter.{meant};
 ghost use Rattle.vcf.specs.Records.{beyond, placed, outside, agrees};
 
-// Behind every position and every window.
+// After every position and every window.
 pub const BEYOND: usize = 4294967296;
 
 // Refusal 28: whether the window begins at position 1 or later and has no base beyond the last position.
@@ -25,7 +25,7 @@ pub fn is_placed(window: &[u8], first: usize) -> bool
     bases <= 2147483648 - first
 }
 
-// The position behind so many bases from a position on; BEYOND where that is greater.
+// The position after that many bases from a position on; BEYOND where that is greater.
 pub fn behind(position: usize, bases: usize) -> usize
     ensures { λ r. ⌜ r ≡ min beyond (position + bases) ⌝ }
 {

@@ -16,7 +16,7 @@ ghost use Rattle.text.specs.Letter.{meant};
 ghost use Rattle.vcf.specs.Records.{placed};
 ghost use Rattle.vcf.specs.Steps.{lineStep, Reach, toldScanned, Starts, scanning};
 
-// How far the lines have come: the position behind the last record, the first base of the window behind the last record in it,
+// How far the lines have come: the position after the last record, the first base of the window after the last record in it,
 // how many records are in it, and the text so far.
 pub struct Reached {
     pub from: usize,
@@ -32,7 +32,7 @@ pub enum Line {
 }
 
 impl Reached {
-    // Behind one line more.
+    // After one line more.
     fn line(self, line: &[u8], window: &[u8], first: usize, name: &[u8]) -> Line
         requires { ⌜ Reach (meant (now window)) first self ⌝ }
         ensures { λ r. ⌜ r ≡ lineStep (now (name .entry)) (meant (now (window .entry))) first self (now (line .entry)) ⌝ }

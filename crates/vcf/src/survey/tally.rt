@@ -30,7 +30,7 @@ pub enum Tally {
     Long,
 }
 
-// Whether so many bytes and so many more fit a stretch.
+// Whether that many bytes and that many more fit a stretch.
 fn fits(bytes: usize, more: usize) -> bool
     ensures { λ r. ⌜ r ≡ within (bytes + more) ⌝ }
 {
@@ -117,7 +117,7 @@ impl Tally {
         }
     }
 
-    // With so many bases as a segment of one variant; none where there are none.
+    // With that many bases as a segment of one variant; none where there are none.
     pub fn gap(self, bases: usize) -> Tally
         requires { ⌜ Sane self ⌝ }
         ensures { λ r. ⌜ r ≡ cond (ltb 0 bases) (tallied (opened self) bases false) self ⌝ }
@@ -129,7 +129,7 @@ impl Tally {
         begun.variant(bases, false)
     }
 
-    // With the alleles of ALT behind REF.
+    // With the alleles of ALT after REF.
     fn alternates(self, reference: &[u8], alt: &[u8]) -> Tally
         requires { ⌜ Sane self ⌝ }
         ensures { λ r. ⌜ r ≡ tallyIn self (meant (now (reference .entry)) ∷ []) (pieces 0x2C (meant (now (alt .entry)))) ⌝ }

@@ -1,4 +1,4 @@
--- `desk_list::reading::behind` meets its contract: behind a line's end, or at the end of the list.
+-- `desk_list::reading::behind` meets its contract: after a line's end, or at the end of the list.
 use Rattle.desk_list.proofs.Entries.{behind-end, behind-none}
 use borrow.Author.Needs.{needs}
 use Rattle.desk_list.proofs.reading.behind.Statement.{statement}

@@ -1,4 +1,4 @@
--- `desk_list::reading::sequence` meets its contract: the refusals of a pattern, what stands behind it, or the sequence.
+-- `desk_list::reading::sequence` meets its contract: the refusals of a pattern, what stands after it, or the sequence.
 use native.Mathlib.Omega.{arith}
 use borrow.Author.Tests.{not-true, not-false}
 use Rattle.desk_list.proofs.Entries.{sequence-not, sequence-more, sequence-is}

@@ -1,4 +1,4 @@
--- `layout::number::put_word` meets its contract: two numbers set one after the other are written over the buffer, where they have room.
+-- `layout::number::put_word` meets its contract: two numbers set one after another are written over the buffer, where they have room.
 use Prim.Native.Nat.{_+_, _≤_}
 use native.Mathlib.Omega.{arith}
 use mathlib.Core.Path.{sym, _∙_}

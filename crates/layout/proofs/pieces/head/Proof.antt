@@ -1,4 +1,4 @@
--- `layout::pieces::head` meets its contract: each test compares the end with the place behind the letters, or with the least that it
+-- `layout::pieces::head` meets its contract: each test compares the end with the place after the letters, or with the least that it
 -- can be.
 use borrow.Author.Needs.{needs}
 use native.Mathlib.Omega.{arith}

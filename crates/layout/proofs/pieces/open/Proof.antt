@@ -1,4 +1,4 @@
--- `layout::pieces::open` meets its contract, from what `fits` tells and the test behind it.
+-- `layout::pieces::open` meets its contract, from what `fits` tells and the test after it.
 use borrow.Author.Needs.{needs}
 use mathlib.Core.Path.{sym, ap, _∙_}
 use Rattle.text.specs.Refusal.{ok}

@@ -1,4 +1,4 @@
--- `layout::variant::put_variant` meets its contract. The loop's invariant, `Copied`: the first i letters stand behind the
+-- `layout::variant::put_variant` meets its contract. The loop's invariant, `Copied`: the first i letters stand after the
 -- length. The measure is the number of letters left.
 use Prim.Native.Nat.{_+_, _-_, _≤_}
 use native.Mathlib.Omega.{arith}

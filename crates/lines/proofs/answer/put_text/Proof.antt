@@ -1,4 +1,4 @@
--- `lines::answer::put_text` meets its contract: its lines one behind another.
+-- `lines::answer::put_text` meets its contract: its lines one after another.
 use borrow.Author.Needs.{needs}
 use Rattle.lines.specs.Answer.{textLines}
 use Rattle.lines.proofs.Putting.{put-more}

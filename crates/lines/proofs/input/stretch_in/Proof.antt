@@ -1,4 +1,4 @@
--- `lines::input::stretch_in` meets its contract, whether the input goes on behind the pattern or not.
+-- `lines::input::stretch_in` meets its contract, whether the input goes on after the pattern or not.
 use Rattle.lines.proofs.Inputs.{no-stretch, whole-stretch}
 use borrow.Author.Needs.{needs}
 use Rattle.lines.proofs.input.stretch_in.Statement.{statement}

@@ -1,4 +1,4 @@
--- `lines::numbered::put_numbered` meets its contract: the name, then a point and five digits behind it.
+-- `lines::numbered::put_numbered` meets its contract: the name, then a point and five digits after it.
 use borrow.Author.Needs.{needs}
 use Rattle.lines.proofs.FileNames.{put-numbered}
 use Rattle.lines.proofs.numbered.put_numbered.Statement.{statement}

@@ -1,4 +1,4 @@
--- `lines::put::put_line` meets its contract: the word, the digits and the line's end, one behind another.
+-- `lines::put::put_line` meets its contract: the word, the digits and the line's end, one after another.
 use borrow.Author.Needs.{needs}
 use Rattle.lines.specs.Decimal.{line}
 use Rattle.lines.proofs.Putting.{put-more}

@@ -1,4 +1,4 @@
--- `lines::put::spell` meets its contract. The loop's invariant, `Spelling`: the digits behind those of `rest` are put. The measure is
+-- `lines::put::spell` meets its contract. The loop's invariant, `Spelling`: the digits after those of `rest` are put. The measure is
 -- the place, since each digit has one.
 use native.Mathlib.Omega.{arith}
 use mathlib.Core.Path.{_∙_}

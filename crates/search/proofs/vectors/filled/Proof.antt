@@ -1,5 +1,5 @@
 -- `search::vectors::filled` meets its contract. The loop's invariant, `Filling`: the first k bases are entered. The measure is the number
--- of bases left. Behind it the five entries of lower case are copied.
+-- of bases left. After it the five entries of lower case are copied.
 use Prim.Native.Nat.{_-_, _<_}
 use borrow.Author.Needs.{needs}
 use native.Mathlib.Omega.{arith}

@@ -1,5 +1,5 @@
 -- `first_in` meets its contract: a walk of its MIR, by hand. The array is copied into memory, its first n records are lent for a
--- lifetime that the walk makes, and come back behind the call.
+-- lifetime that the walk makes, and come back after the call.
 use mathlib.Core.Path.{_≡_, refl, sym, ap, _∙_}
 use Prim.Native.Nat.{ℕ, _*_, _<_, _≤_, _^_}
 use native.Mathlib.Omega.{arith}

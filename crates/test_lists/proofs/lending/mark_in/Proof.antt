@@ -1,5 +1,5 @@
 -- `mark_in` meets its contract: a walk of its MIR, by hand. The array is copied into memory, its first n records are lent for a lifetime
--- that the walk makes, and come back behind the call. The buffer goes to `mark` for good, which says its last list.
+-- that the walk makes, and come back after the call. The buffer goes to `mark` for good, which says its last list.
 use mathlib.Core.Path.{_≡_, refl, sym, ap, _∙_}
 use Prim.Native.Nat.{ℕ, _*_, _<_, _≤_, _^_}
 use native.Mathlib.Omega.{arith}

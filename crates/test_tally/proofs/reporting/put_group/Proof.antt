@@ -1,4 +1,4 @@
--- `test_tally::reporting::put_group` meets its contract: a group that counts something has its name and its count put one behind the other.
+-- `test_tally::reporting::put_group` meets its contract: a group that counts something has its name and its count put one after another.
 use borrow.Author.Needs.{needs}
 use Rattle.test_tally.proofs.Reports.{group-none, group-line}
 use Rattle.test_tally.proofs.reporting.put_group.Statement.{statement}

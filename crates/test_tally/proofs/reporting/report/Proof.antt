@@ -1,4 +1,4 @@
--- `test_tally::report` meets its contract: its parts one behind another.
+-- `test_tally::report` meets its contract: its parts one after another.
 use borrow.Author.Needs.{needs}
 use Rattle.lines.proofs.Putting.{put-more}
 use Rattle.test_tally.specs.Report.{reportOf}

@@ -25,7 +25,7 @@ plain q = sym (q .before .before .before .is-comment .ensures) ∙ q .before .be
 stated : (q : tie.After-position) → q .position .result ≡ position (S q .args .line .now)
 stated q = q .position .ensures ∙ ap positionOf (q .before .field .ensures)
 
--- the position behind REF
+-- the position after REF
 ending : (b : tie.After-behind) → b .behind .result ≡ min beyond
     (b .before .before .position .result + length (meant (b .before .field2 .result .now)))
 ending b = b .behind .ensures ∙ rw (← meant-length (b .before .field2 .result .now))

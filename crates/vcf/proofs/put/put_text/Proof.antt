@@ -31,7 +31,7 @@ S l = l .before .before .before .before .before .before .before .before
 abbrev W : tie.At-loop Inv-loop μ-loop → List ℕ
 W l = S l .args .window .now
 
--- its bases behind the last record
+-- its bases after the last record
 within : (l : tie.At-loop Inv-loop μ-loop) → l .loop .put .base ≤ length (W l)
 within l = rw (meant-length (W l)) at (l .loop .inv .within)
 

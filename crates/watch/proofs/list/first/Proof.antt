@@ -128,7 +128,7 @@ module _ {M : Type 1} (𝓤 : URA M) (H : Heap 𝓤) (A : Atoms 𝓤) (W : Given
       (qed W (tokens κ q κ′ q′ ∷ ‵ Passed ∷ []) ∵ join ! $ frame ! $ done !) $ frame ! $
       nothing ! $ move ! (2 ∷ 0 ∷ []) $ fjoin ! $ move ! (1 ∷ 0 ∷ []) $ fjoin ! $ done !
 
-  -- the call of `sighted`, behind the round y with the machine value u
+  -- the call of `sighted`, after the round y with the machine value u
   abbrev to-sighted : Round → Val → Sighted 𝓤 H A mem run .Ghost
   to-sighted y u = ((tt, tt, tt, (y, tt), (u ∷ [], tt)), tt)
 

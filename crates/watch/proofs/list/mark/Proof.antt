@@ -132,7 +132,7 @@ module _ {M : Type 1} (𝓤 : URA M) (H : Heap 𝓤) (A : Atoms 𝓤) (W : Given
       move ! (1 ∷ 0 ∷ []) $ join ! $ nothing ! $ owned ! bool (Is bool) (bool-makes 𝓤 H A W) true _ refl $ fjoin ! $
       move ! (3 ∷ 0 ∷ []) $ fjoin ! $ move ! (2 ∷ 0 ∷ []) $ fjoin ! $ move ! (1 ∷ 0 ∷ []) $ join ! $ frame ! $ done !
 
-  -- the call of `put_marks`, behind the round y with the machine value u, at the buffer's own lifetime, share and value
+  -- the call of `put_marks`, after the round y with the machine value u, at the buffer's own lifetime, share and value
   abbrev to-put : Round → Val → Put 𝓤 H A mem run .Ghost
   to-put y u = (((κ″, tt), (q″, tt), tt, (n, (y, (d, tt))), (vint w64 n ∷ [], (u ∷ [], (vd ∷ [], tt)))), tt)
 

@@ -136,7 +136,7 @@ module _ {M : Type 1} (𝓤 : URA M) (H : Heap 𝓤) (A : Atoms 𝓤) (W : Given
       nothing ! $ owned ! usize (Is usize) (uint-makes 𝓤 H A W w64) i _ (refl, fits) $ fjoin ! $ move ! (1 ∷ 0 ∷ []) $ fjoin ! $
       move ! (1 ∷ 0 ∷ []) $ join ! $ says ! l $ done !
 
-  -- the call of `step` for record i, which is w with the machine value u, behind the round y with the machine value u′
+  -- the call of `step` for record i, which is w with the machine value u, after the round y with the machine value u′
   abbrev to-step : ℕ → Watched → Val → Round → Val → Step 𝓤 H A mem run .Ghost
   to-step i w u y u′ = (((κ′, tt), (q′, tt), tt, (s, (i, (w, (y, tt)))), (vs ∷ [], (vint w64 i ∷ [], (u ∷ [], (u′ ∷ [], tt))))), tt)
 
@@ -202,7 +202,7 @@ module _ {M : Type 1} (𝓤 : URA M) (H : Heap 𝓤) (A : Atoms 𝓤) (W : Given
         ∷ ‵ (fdies wordTy l₅)
         ∷ ‵ (fdies wordTy l₆) ∷ ‵ (fdies testTy l₇) ∷ ‵ (fdies recordTy l₈) ∷ []
 
-    -- before record i, behind a round with the machine value u
+    -- before record i, after a round with the machine value u
     abbrev Before : ℕ → Val → List (Item 𝓤)
     Before i u = ‵ OwnX ∷ ‵ OwnS ∷ ‵ (flft κ q) ∷ ‵ (flft κ′ q′) ∷ ‵ (fat fullShare roundTy l₄ 0 u)
         ∷ ‵ (fat fullShare wordTy l₅ 0 (vint w64 i))

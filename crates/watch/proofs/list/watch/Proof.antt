@@ -118,7 +118,7 @@ module _ {M : Type 1} (𝓤 : URA M) (H : Heap 𝓤) (A : Atoms 𝓤) (W : Given
       qed W (‵ ftrue ∷ []) ∵ nothing ! $ owned ! usize (Is usize) (uint-makes 𝓤 H A W w64) n _ (refl, few) $ fjoin ! $
       move ! (1 ∷ 0 ∷ []) $ join ! $ frame ! $ done !
 
-  -- a call of `over_all`, behind the round y with the machine value u
+  -- a call of `over_all`, after the round y with the machine value u
   abbrev to-over : Round → Val → Over 𝓤 H A mem run .Ghost
   to-over y u = (((κ, (κ′, tt)), (q, (q′, tt)), tt, (x, (s, (y, tt))), (vx ∷ [], (vs ∷ [], (u ∷ [], tt)))), tt)
 

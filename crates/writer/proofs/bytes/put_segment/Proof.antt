@@ -1,4 +1,4 @@
--- `writer::bytes::put_segment` meets its contract. The loop's invariant, `VariantsPut`: k variants stand behind the count, and the
+-- `writer::bytes::put_segment` meets its contract. The loop's invariant, `VariantsPut`: k variants stand after the count, and the
 -- others come next. The measure is the number of variants left.
 use Prim.Native.Nat.{_+_, _-_, _<_, _≤_}
 use native.Mathlib.Omega.{arith}

@@ -1,4 +1,4 @@
--- `writer::bytes::put_text` meets its contract. The loop's invariant, `SegmentsPut`: so many segments stand behind the
+-- `writer::bytes::put_text` meets its contract. The loop's invariant, `SegmentsPut`: that many segments stand after the
 -- segment count, and the others come next. The measure is the number of segments left.
 use Prim.Native.Nat.{_+_, _*_, _-_, _≤_}
 use native.Mathlib.Omega.{arith}

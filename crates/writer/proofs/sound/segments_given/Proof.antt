@@ -1,5 +1,5 @@
 -- `writer::sound::segments_given` meets its contract. The loop's invariant, `SegmentsAccepted`: a walk over the segments
--- has accepted so many of them. The measure is the number of segments left.
+-- has accepted that many of them. The measure is the number of segments left.
 use Prim.Native.Nat.{_-_}
 use native.Mathlib.Omega.{arith}
 use mathlib.Core.Path.{sym, ap, _∙_}

@@ -15,7 +15,7 @@ use Rattle.writer.proofs.Told.{put-both}
 use Rattle.writer.proofs.writing.put_stretch.Statement.{statement}
 use Rattle.writer.proofs.writing.put_stretch.Tie as tie
 
--- behind the tests of the sums the numbers match, and behind the test of the size they fit
+-- after the tests of the sums the numbers match, and after the test of the size they fit
 abbrev entry : tie.Else2 → tie.Start
 entry c = c .before .before .before .before .before .before .before .before
 

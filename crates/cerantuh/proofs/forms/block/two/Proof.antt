@@ -1,4 +1,4 @@
--- `cerantuh::forms::block::two` meets its contract: 10 where there is no room, else the two numbers one behind the other.
+-- `cerantuh::forms::block::two` meets its contract: 10 where there is no room, else the two numbers one after another.
 use borrow.Author.Needs.{needs}
 use Rattle.cerantuh.proofs.Rooms.{two-short, two-room}
 use Rattle.cerantuh.proofs.forms.block.two.Statement.{statement}

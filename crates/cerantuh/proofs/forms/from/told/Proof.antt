@@ -1,4 +1,4 @@
--- `cerantuh::forms::from::told` meets its contract: a refusal's code, or the four numbers put one behind the other.
+-- `cerantuh::forms::from::told` meets its contract: a refusal's code, or the four numbers put one after another.
 use Rattle.cerantuh.proofs.FromForms.{told-not, told-fits, told-put}
 use borrow.Author.Needs.{needs}
 use Rattle.cerantuh.proofs.forms.from.told.Statement.{statement}

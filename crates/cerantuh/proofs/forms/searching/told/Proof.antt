@@ -1,4 +1,4 @@
--- `cerantuh::forms::searching::told` meets its contract: a refusal's code, or the three numbers put one behind the other.
+-- `cerantuh::forms::searching::told` meets its contract: a refusal's code, or the three numbers put one after another.
 use Rattle.cerantuh.proofs.SearchForms.{told-not, told-fits, told-put}
 use borrow.Author.Needs.{needs}
 use Rattle.cerantuh.proofs.forms.searching.told.Statement.{statement}

@@ -1,4 +1,4 @@
--- `desk_verdict::said::put::put_done` meets its contract: the two numbers, one behind another.
+-- `desk_verdict::said::put::put_done` meets its contract: the two numbers, one after another.
 use borrow.Author.Needs.{needs}
 use Rattle.lines.proofs.Putting.{put-more}
 use Rattle.desk_verdict.specs.Said.{doneLine}

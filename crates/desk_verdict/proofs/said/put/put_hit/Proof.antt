@@ -1,4 +1,4 @@
--- `desk_verdict::said::put::put_hit` meets its contract: the label, the two numbers and the name, one behind another.
+-- `desk_verdict::said::put::put_hit` meets its contract: the label, the two numbers and the name, one after another.
 use Rattle.lines.proofs.Putting.{put-more}
 use Rattle.desk_verdict.specs.Said.{hitLine}
 use Rattle.desk_verdict.proofs.Saying.{put-fits, hit-put}

@@ -1,4 +1,4 @@
--- `desk_verdict::said::put::put_named` meets its contract: the word, the name and the line's end, one behind another.
+-- `desk_verdict::said::put::put_named` meets its contract: the word, the name and the line's end, one after another.
 use Rattle.lines.proofs.Putting.{put-more}
 use Rattle.desk_verdict.specs.Said.{named}
 use borrow.Author.Needs.{needs}

@@ -1,4 +1,4 @@
--- `desk_verdict::said::put::put_refused` meets its contract: the number, the place and the name, one behind another.
+-- `desk_verdict::said::put::put_refused` meets its contract: the number, the place and the name, one after another.
 use Rattle.lines.proofs.Putting.{put-more}
 use Rattle.desk_verdict.specs.Said.{refusedLine}
 use Rattle.desk_verdict.proofs.Saying.{put-fits}

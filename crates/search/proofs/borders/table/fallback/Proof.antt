@@ -1,4 +1,4 @@
--- `search::borders::table::fallback` meets its contract. The loop's invariant, `Falls`: whatever ends behind q ends behind k. Each
+-- `search::borders::table::fallback` meets its contract. The loop's invariant, `Falls`: whatever ends after q ends after k. Each
 -- turn goes to the border of q, which is shorter, so the measure is q.
 use native.Mathlib.Omega.{arith}
 use Rattle.search.proofs.BorderFalls.{Falls, falls-none, falls-less, falls-more, falls-found, falls-end}

@@ -1,4 +1,4 @@
--- `vcf::records::pieces::passed` meets its contract. The loop's invariant, `Skipping`: no mark stands before `at`, and so many bytes are
+-- `vcf::records::pieces::passed` meets its contract. The loop's invariant, `Skipping`: no mark stands before `at`, and that many bytes are
 -- left. They are the measure.
 use mathlib.Core.Path.{sym, _∙_}
 use borrow.Author.Needs.{needs}

@@ -1,4 +1,4 @@
--- `vcf::survey::scan::scan` meets its contract. The loop's invariant, `Scanning`: so many lines are passed, and those left say what the whole
+-- `vcf::survey::scan::scan` meets its contract. The loop's invariant, `Scanning`: that many lines are passed, and those left say what the whole
 -- file says. The measure is the number of bytes left.
 use Prim.Native.Nat.{_-_, _<_, _≤_}
 use native.Mathlib.Omega.{arith}

@@ -20,7 +20,7 @@ S b = b .before .before .before .before .before .before .before .before .before 
 plain : (c : tie.Else1) → comment (c .before .before .before .before .before .args .line .now) ≡ false
 plain c = sym (c .before .is-comment .ensures) ∙ c .if1 .left
 
--- the position behind REF
+-- the position after REF
 ending :
     (b : tie.After-behind) →
     b .behind .result ≡ min beyond (b .before .before .before .before .sound .result + length (meant (b .before .field .result .now)))
