@@ -15,12 +15,12 @@ use lib.Dec.{eqb, ltb, lit<}
 use lib.ListN.{length, getD, take, set, replicate, length-set, length-take, length-replicate, getD-replicate}
 use lib.Pow.{pow-pos, pow-lt, pow-mono, ones-sub-lt}
 use lib.Seq.{take-suc, take-all, getD-take, getD-set-same, getD-set-other}
-use Rattle.text.specs.Letter.{raised, letter, meant, every}
+use Rattle.text.specs.Letter.{raised, letter, meant, every, zeroFor}
 use Rattle.text.specs.Text.{Variant}
 use Rattle.text.specs.Bits.{bit, fromBits}
 use Rattle.text.specs.State.{next, endsAt}
 use Rattle.text.proofs.Truth.{or-false}
-use Rattle.text.proofs.Blocks.{Clean, clean-none, clean-more, clean-all}
+use Rattle.text.proofs.Blocks.{clean-more, zero-letters}
 use Rattle.text.proofs.Likes.{meant-length, meant-at}
 use Rattle.text.proofs.Bits.{bit-ext, bit-above, bit-zero, bit-or, bit-and, bit-fromBits, fromBits-lt, bit-single, bit-shl, bit-shl-below}
 use Rattle.text.proofs.Bits.{bit-mod, bit-mod-above, bit-shr-test}
@@ -195,13 +195,17 @@ module _ (P masks : List ℕ) (vectors : Masks P masks) (d c : ℕ) (small : c <
   pub kept-lt : bitAnd d (getD masks c 0) < 2 ^ length P
   kept-lt = vector-lt P d c (getD masks c 0) (vectors .each c small)
 
+none-bad : (v : Variant) → eqb 0 0 ≡ every letter (take 0 v)
+unfolding every
+none-bad v = refl
+
 -- i of the bytes v have been read, for what they mean
 pub record Scanning (P : List ℕ) (st : ℕ) (v : Variant) (i d hits bad : ℕ) : Type 0 where
   pub inside : i ≤ length v
   pub state : (r : ℕ) → r < length P → bit d r ≡ bit (next P st (take i (meant v) ∷ [])) r
   pub fits : hits < 2 ^ length P
   pub ended : bit hits (length P - 1) ≡ endsAt P st (take i (meant v))
-  pub clean : Clean v i bad
+  pub clean : eqb bad 0 ≡ every letter (take i v)
 
 pub scanning-none : (P masks classes : List ℕ) (st : ℕ) (v : Variant) → Ready P masks classes st → Scanning P st v 0 st 0 0
 scanning-none P masks classes st v y =
@@ -210,7 +214,7 @@ scanning-none P masks classes st v y =
       state = λ r l. ap (λ (n : ℕ). bit n r) (sym (empty-state P st (y .some) (y .state .small)));
       fits = pow-pos (length P);
       ended = bit-zero (length P - 1) ∙ sym (empty-ends P st (y .some));
-      clean = clean-none v;
+      clean = none-bad v;
     }
 
 module _ (P masks classes : List ℕ) (st : ℕ) (v : Variant) (i d hits bad : ℕ) (y : Ready P masks classes st)
@@ -257,7 +261,9 @@ module _ (P masks classes : List ℕ) (st : ℕ) (v : Variant) (i d hits bad : �
         state = λ r h. ap (λ (n : ℕ). bit (bitOr (bitAnd d w * 2 ^ 1 % 2 ^ 64) n) r) (sym (y .state .odd)) ∙ shifted r h;
         fits = or-lt (length P) hits (bitAnd d w) (s .fits) (vector-lt P d c w is);
         ended = ends-more;
-        clean = clean-more v classes (y .letters) i bad (s .clean) l c e small;
+        clean =
+            let clean : eqb bad 0 ≡ every (zeroFor classes) (take i v) = s .clean ∙ sym (zero-letters classes (y .letters) (take i v)) in
+            clean-more classes v i bad clean l c e small ∙ zero-letters classes (y .letters) (take (i + 1) v);
       }
 
 -- a number below 2 ^ (n + 1) has bit n exactly when it is above 2 ^ n - 1
@@ -286,7 +292,7 @@ module _ (P : List ℕ) (st : ℕ) (v : Variant) (i d hits bad : ℕ) (s : Scann
       }
 
   pub scanning-wrong : not (eqb bad 0) ≡ not (every letter v)
-  scanning-wrong = clean-all v i bad (s .clean) l
+  scanning-wrong = ap not (s .clean ∙ ap (every letter) (take-all i v l))
 
 -- the same with the complement kept, as the code has it
 pub record Turning (P : List ℕ) (st : ℕ) (v : Variant) (i before out missed bad : ℕ) : Type 0 where

@@ -173,7 +173,7 @@ zero-letter table classes c =
     step true = refl
     step false = refl
 
-zero-letters : (table : List ℕ) → Classes table → (v : List ℕ) → every (zeroFor table) v ≡ every letter v
+pub zero-letters : (table : List ℕ) → Classes table → (v : List ℕ) → every (zeroFor table) v ≡ every letter v
 unfolding every
 zero-letters table classes [] = refl
 zero-letters table classes (c ∷ v) = ap₂ _&&_ (zero-letter table classes c) (zero-letters table classes v)
