@@ -17,6 +17,6 @@ pub use filling::Step;
 pub use filling::Tape;
 pub use filling::finish;
 pub use filling::read_on;
+pub use notation::Begun;
+pub use notation::Mode;
 pub use place::Place;
-pub use test_examples::notation::Begun;
-pub use test_examples::notation::Mode;
