@@ -43,7 +43,7 @@ fn all() -> Tally {
     tally
 }
 
-pub fn run() {
+pub fn tell() {
     let mut out = [0u8; 4096];
     let names = b"cards, row by row\njoins of two parts, and what cards tell of states\n";
     let end = report(all(), names, b" comparisons, ", &mut out);

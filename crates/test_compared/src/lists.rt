@@ -32,7 +32,7 @@ fn all() -> Tally {
     tally
 }
 
-pub fn run() {
+pub fn tell() {
     let mut out = [0u8; 4096];
     let end = report(all(), b"watch lists\n", b" comparisons, ", &mut out);
     io::write_all(1, part(&out, 0, end));

@@ -8,10 +8,10 @@ mod strands;
 mod stretches;
 
 fn main() {
-    searches::run();
-    strands::run();
-    states::run();
-    cards::run();
-    stretches::run();
-    lists::run();
+    searches::tell();
+    strands::tell();
+    states::tell();
+    cards::tell();
+    stretches::tell();
+    lists::tell();
 }

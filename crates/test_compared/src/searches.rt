@@ -56,7 +56,7 @@ fn all() -> Tally {
     tally
 }
 
-pub fn run() {
+pub fn tell() {
     let mut out = [0u8; 4096];
     let end = report(
         all(),

@@ -46,7 +46,7 @@ fn all() -> Tally {
     tally
 }
 
-pub fn run() {
+pub fn tell() {
     let mut out = [0u8; 4096];
     let names = b"feeds, segment by segment\nsearches from a state, cut at every segment\n";
     let end = report(all(), names, b" comparisons, ", &mut out);

@@ -54,7 +54,7 @@ fn all() -> Tally {
     tally
 }
 
-pub fn run() {
+pub fn tell() {
     let mut out = [0u8; 4096];
     let names = b"checks\nreads, at every variant\nwrites\n";
     let end = report(all(), names, b" comparisons, ", &mut out);
