@@ -39,6 +39,7 @@ end_prover() {
     trap '' HUP INT TERM
     [ -z "$prover" ] || kill -- "-$prover" 2>/dev/null || kill "$prover" 2>/dev/null
     wait
+    rm -f "$made.new"
     exit 2
 }
 
@@ -81,17 +82,20 @@ alone() {
     }
 }
 
-# Whether a program is proved and built: rt's stamp is newer than every crate.
+# Whether a program is proved and built, and what it runs with is there.
 is_built() {
-    is_new "target/stamp/$1" && [ -x "target/bin/$1" ]
+    is_new "target/$1.done" && [ -x "target/bin/$1" ] && [ -x "$runtime/ld-linux-x86-64.so.2" ]
 }
 
 # Proves and builds a program. What an earlier run has left half built is built again, from nothing if need be.
 build_program() {
-    began=target/$1.began log=target/$1.log
+    made=target/$1.done log=target/$1.log
     echo "The program $1 is being proved and built: some minutes on the first call, nothing on later ones." >&2
+    if ! : >"$made.new" || ! keep_runtime; then
+        echo "${0##*/}: the toolchain's files that programs run with could not be copied to $runtime" >&2
+        return 1
+    fi
     [ -x "target/bin/$1" ] || rm -f "target/stamp/$1"
-    : >"$began"
     check_program "$1" "$log" || {
         echo 'It was not built; once more, from nothing.' >&2
         rm -rf target/stamp target/rlib target/obj target/bin
@@ -100,23 +104,17 @@ build_program() {
         echo "${0##*/}: the program $1 could not be proved and built; $log says why" >&2
         return 1
     }
-    # what changes while rt works is newer than the stamp
-    touch -r "$began" "target/stamp/$1"
+    mv "$made.new" "$made"
 }
 
-# Proves and builds a program, and copies what it runs with, unless that is done.
+# Proves and builds a program, unless that is done.
 prove_program() {
-    is_built "$1" && [ -x "$runtime/ld-linux-x86-64.so.2" ] && return
+    is_built "$1" && return
     if ! command -v rt >/dev/null; then
         echo "${0##*/}: the program $1 is to be proved and built; that needs the Rattle toolchain, whose command rt is not found" >&2
         return 1
     fi
-    mkdir -p target && alone && {
-        keep_runtime || {
-            echo "${0##*/}: the toolchain's files that programs run with could not be copied to $runtime" >&2
-            false
-        }
-    } && { is_built "$1" || build_program "$1"; }
+    mkdir -p target && alone && { is_built "$1" || build_program "$1"; }
     built=$?
     exec 9>&-
     return $built
