@@ -25,14 +25,44 @@ keep_runtime() {
     done
 }
 
-# Runs a program of target/bin as rt does, with the words after its name, from whatever folder.
-run_program() (
+# Becomes a program of target/bin, run as rt does, with the words after its name, from whatever folder.
+exec_program() {
     runs="$top_folder/$runtime" program=$top_folder/target/bin/$1
     shift
     set -- "$runs/ld-linux-x86-64.so.2" --library-path "$runs" "$program" "$@"
     [ ! -x "$runs/qemu-x86_64" ] || set -- "$runs/qemu-x86_64" "$@"
     exec "$@"
-)
+}
+run_program() (exec_program "$@")
+
+# Runs a program in the background, since a shell waits for what runs before it and hears no signal in between. Its standard input is that
+# of this shell, and its status the answer.
+child=''
+run_to_end() {
+    exec 8<&0
+    exec_program "$@" <&8 8<&- &
+    child=$!
+    exec 8<&-
+    wait "$child"
+    ended=$?
+    child=''
+    return $ended
+}
+
+# Ends the program that still runs, if one does.
+end_child() {
+    [ -z "$child" ] || { kill "$child" && wait "$child"; } 2>/dev/null
+}
+
+# What every program does that is asked for its usage or its version.
+help_or_version() {
+    case ${1-} in
+    --help) usage && status=0 ;;
+    --version) echo "cerantuh $(cat VERSION)" && status=0 ;;
+    *) return ;;
+    esac
+    exit
+}
 
 # Ends what rt has started, all of it, and then the script. rt starts provers that a Ctrl-C does not reach, so it has a group of its own.
 end_prover() {
@@ -40,6 +70,7 @@ end_prover() {
     [ -z "$prover" ] || kill -- "-$prover" 2>/dev/null || kill "$prover" 2>/dev/null
     wait
     rm -f "$made.new"
+    put_back
     exit 2
 }
 
@@ -69,7 +100,7 @@ check_program() {
     show_prover "$2"
     wait "$prover"
     checked=$?
-    trap 'exit 2' HUP INT TERM
+    trap 'end_child; exit 2' HUP INT TERM
     [ $checked = 0 ] && [ -x "target/bin/$1" ]
 }
 
@@ -87,7 +118,17 @@ is_built() {
     is_new "target/$1.done" && [ -x "target/bin/$1" ] && [ -x "$runtime/ld-linux-x86-64.so.2" ]
 }
 
-# Proves and builds a program. What an earlier run has left half built is built again, from nothing if need be.
+# Keeps a copy of what was built before, and puts it back where nothing new was built.
+keep_built() {
+    rm -rf target/kept
+    [ ! -d target/bin ] || cp -Rp target/bin target/kept
+}
+put_back() {
+    [ ! -d target/kept ] || { rm -rf target/bin && mv target/kept target/bin; }
+}
+
+# Proves and builds a program. What an earlier run has left half built is built again, from nothing if need be; where that fails too, what
+# was built before stays.
 build_program() {
     made=target/$1.done log=target/$1.log
     echo "The program $1 is being proved and built: some minutes on the first call, nothing on later ones." >&2
@@ -96,14 +137,17 @@ build_program() {
         return 1
     fi
     [ -x "target/bin/$1" ] || rm -f "target/stamp/$1"
+    keep_built
     check_program "$1" "$log" || {
         echo 'It was not built; once more, from nothing.' >&2
         rm -rf target/stamp target/rlib target/obj target/bin
         check_program "$1" "$log"
     } || {
+        put_back
         echo "${0##*/}: the program $1 could not be proved and built; $log says why" >&2
         return 1
     }
+    rm -rf target/kept
     mv "$made.new" "$made"
 }
 

@@ -1,6 +1,8 @@
 """Texts for the tests of ./desk: each argument NAME=TEXT writes the file NAME, the stretch of a text such as '{TTACG,TTAGG}{,C}'.
-With 'cuts FOLDER NUMBER' it writes that many drawn texts: whole, and cut behind every segment and at some places, with the files'
-names in FOLDER/N.whole and FOLDER/N.cut-M, and a list of sequences that are spelt by them, some turned, in FOLDER/N.list."""
+With 'manifest NAME FILE...' it writes the manifest NAME of these stretches, which lie in its folder, as docs/FORMAT.md has it.
+With 'cuts FOLDER NUMBER' it writes that many drawn texts: whole, and cut after every segment and at some places, with the manifests
+FOLDER/N.whole and FOLDER/N.cut-M, and a list of sequences that are spelt by them, some on the opposite strand, in FOLDER/N.list."""
+import hashlib
 import os
 import random
 import re
@@ -19,6 +21,22 @@ def stretch(segments):
 def write(name, data):
     with open(name, "wb") as file:
         file.write(data)
+
+
+def digest(data):
+    return hashlib.blake2b(data, digest_size=32).hexdigest()
+
+
+def manifest(name, files):
+    folder = os.path.dirname(name)
+    lines, segments, size = "# cerantuh text 1\n# made by a test\n", 0, 0
+    for file in files:
+        with open(os.path.join(folder, file), "rb") as opened:
+            data = opened.read()
+        lines += f"{digest(data)}  {file}\n"
+        segments, size = segments + int.from_bytes(data[:2], "little"), size + len(data)
+    lines += f"# stretches {len(files)}, segments {segments}, bytes {size}\n"
+    write(name, (lines + f"# digest {digest(lines.encode())}\n").encode())
 
 
 def segments_of(text):
@@ -52,15 +70,16 @@ def cuts(folder, number):
         for m, way in enumerate(ways):
             names = []
             for k, (a, b) in enumerate(zip(way, way[1:])):
-                names.append(f"{folder}/{n}-{m}-{k}")
-                write(names[-1], stretch(segments[a:b]))
-            with open(f"{folder}/{n}.whole" if m == 0 else f"{folder}/{n}.cut-{m}", "w") as file:
-                file.writelines(name + "\n" for name in names)
+                names.append(f"{n}-{m}-{k}")
+                write(f"{folder}/{names[-1]}", stretch(segments[a:b]))
+            manifest(f"{folder}/{n}.whole" if m == 0 else f"{folder}/{n}.cut-{m}", names)
 
 
 if sys.argv[1] == "cuts":
     os.makedirs(sys.argv[2], exist_ok=True)
     cuts(sys.argv[2], int(sys.argv[3]))
+elif sys.argv[1] == "manifest":
+    manifest(sys.argv[2], sys.argv[3:])
 else:
     for argument in sys.argv[1:]:
         name, text = argument.split("=", 1)

@@ -16,7 +16,7 @@ from reference import Wrong, haplotypes, pooled, records_of, sequence_of  # noqa
 WORDS = {
     'FASTA': 'it does not begin with >', 'letter': 'this byte is no letter', 'name': 'no sequence in it has that name',
     'no base': 'the sequence of that name has no base', 'VCF': 'it does not begin with ##fileformat=VCFv4.',
-    'fields': 'it has fewer than eight fields', 'POS': 'POS is no number from 1 to 2147483647', 'REF is empty': 'REF is empty',
+    'fields': 'it has fewer than eight fields', 'columns': 'it does not have as many columns', 'POS': 'POS is no number from 1 to 2147483647', 'REF is empty': 'REF is empty',
     'REF': 'REF has a byte that is no letter', 'ALT': 'ALT ', 'long': 'the record is too long',
     'equal': 'is equal to REF or to an earlier one',
     'order': 'it begins before the record before it ends', 'beyond': 'the last base of the chromosome',
@@ -79,10 +79,11 @@ def fasta_of(name, bases):
 def vcf_of(name, records, others=True):
     """A variant file with lines of other chromosomes and comments in between, in one of its forms."""
     end, samples = random.choice(['\n', '\r\n']), random.choice([0, 0, 1, 5])
-    lines = ['##fileformat=VCFv4.2', '##contig=<ID=x>', '#CHROM\tPOS\tID\tREF\tALT\tQUAL\tFILTER\tINFO']
+    head = '#CHROM\tPOS\tID\tREF\tALT\tQUAL\tFILTER\tINFO' + ('\tFORMAT' + ''.join(f'\ts{i}' for i in range(samples)) if samples else '')
+    lines = ['##fileformat=VCFv4.2', '##contig=<ID=x>'] + [head] * (random.random() < 0.8)
     for record in records:
         if others and random.random() < 0.1:
-            lines.append(random.choice(['# a comment', line_of(name + '2', (7, 'A', ['<DEL>']), 0), line_of('y', record, samples)]))
+            lines.append(random.choice(['# a comment', line_of(name + '2', (7, 'A', ['<DEL>']), samples), line_of('y', record, samples)]))
         lines.append(line_of(name, record, samples))
     whole = end.join(lines) + end
     return whole[:-len(end)] if random.random() < 0.3 else whole
@@ -148,7 +149,8 @@ def make_wrong(folder, number):
         if i % 8 == 0:
             fasta = random.choice([fasta[1:], fasta.replace('>' + name, '>z' + name), fasta.replace('A', 'R'), fasta.replace('C', '>'), ''])
         if i % 8 == 1:
-            vcf = random.choice([vcf[1:], vcf.replace('\tPASS\tAC=1', ''), vcf.replace('\n' + name + '\t', '\nz\t'), '\n' + vcf])
+            vcf = random.choice([vcf[1:], vcf.replace('\tPASS\tAC=1', ''), vcf.replace('\n' + name + '\t', '\nz\t'), '\n' + vcf,
+                                 vcf.replace('\tPASS', '\tPASS\tx', 1)])
         store(f'{folder}/{i:03}', fasta.encode(), name, vcf.encode())
 
 
@@ -187,7 +189,7 @@ def make_real(folder, data):
     number = 0
     for file in sorted(file for file in files if file.endswith('.vcf')):
         with open(file, 'rb') as source:
-            vcf = source.read()
+            vcf = source.read().replace(b'length=', b'len=')  # the references here are as short as the records let them be
         names = {line.split(b'\t')[0] for line in vcf.split(b'\n') if line and not line.startswith(b'#')}
         for name in sorted(names)[:8]:
             bases = bytearray()

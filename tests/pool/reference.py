@@ -1,4 +1,5 @@
-"""What ./pool is to write, from the documents alone: request 6, docs/FORMAT.md and the formats FASTA and VCF. Whole files, no pieces."""
+"""What ./pool --unended is to write, from the documents alone: request 6, docs/FORMAT.md and the formats FASTA and VCF. Whole files, no
+pieces."""
 
 MOST = 32768
 LETTERS = b'ACGTNacgtn'
@@ -61,13 +62,18 @@ def records_of(name, bases, vcf):
     lines = vcf.split(b'\n')
     if lines[-1] == b'':
         lines.pop()
-    records, others, end = {}, 0, 0
+    records, others, end, columns = {}, 0, 0, 0
     for number, line in enumerate(lines, 1):
+        fields = line.split(b'\t')
+        if line.startswith(b'#CHROM'):
+            columns = len(fields)
         if line.startswith(b'#'):
             continue
-        fields = line.split(b'\t')
         if len(fields) < 8:
             raise Wrong('vcf', number, 'fields')
+        columns = columns or len(fields)
+        if len(fields) != columns:
+            raise Wrong('vcf', number, 'columns')
         if fields[0] != name:
             others += 1
             continue

@@ -1,62 +1,81 @@
-// The release desk's night: screens a text of many stretches for a list of withheld sequences, on both strands, and prints the lines of
-// crate `said`. The words after the program's name are `--first`, if each sequence is to be searched to its first end alone, the
-// list's file, then the files of the stretches in order, or `-l` and a file with one name to a line. The lines that decide go to
-// descriptor 3 as well, once all that stands before them is written: a program has no status, and who reads there need not read what
-// may be long.
-mod list;
-mod names;
-mod read;
-mod sequence;
+// The release desk's night: screens a text for a list of withheld sequences, on both strands, and prints what crate desk_night decides. The
+// words after the program's name are `--first`, if each sequence is to be searched to its first end alone, the list's file, then the file
+// of the text's manifest, or `--files` and the files of stretches in order, for which nobody vouches. Each file is read once. The lines that
+// decide go to descriptor 3 as well, once all that stands before them is written: a program has no status, and who reads there need not
+// read what may be long.
+mod about;
+mod ending;
+mod faults;
+mod handing;
+mod hits;
+mod named;
 mod tell;
-mod work;
+mod whole;
 
-use list::is_sound;
-use names::asked;
-use read::read_file;
+use desk_list::part;
+use files::Read;
+use files::read_file;
+use named::screen_files;
 use tell::say;
 use text::compare::same;
-use work::screen;
+use whole::screen_text;
 
-// Screens the files that the command line names after the list's word for the sequences of that list.
-fn screen_for(list: &[u8], word: usize) {
-    if !is_sound(list) {
-        return;
-    }
-    let files = asked(std::num::wrapping_add_usize(word, 1));
-    if files.count == 0 {
-        say(b"there is no file to screen\n");
-        return;
-    }
-    screen(list, files, word == 2);
+// The most bytes of a list.
+const MOST_BYTES: usize = 65536;
+
+// Whether a word of the command line is this one.
+fn is_word(at: usize, wanted: &[u8]) -> bool {
+    let mut word = io::buffer();
+    let n = os::arg(at, &mut word);
+    same(&word[..n], wanted)
 }
 
 // The word of the command line that names the list: the second, or the one after `--first`.
 fn list_word() -> usize {
-    let mut word = io::buffer();
-    let n = os::arg(1, &mut word);
-    if same(&word[..n], b"--first") {
+    if is_word(1, b"--first") {
         return 2;
     }
     1
 }
 
-fn main() {
-    let word = list_word();
-    if os::arg_count() < std::num::wrapping_add_usize(word, 2) {
-        say(b"usage: desk [--first] LIST FILE... or desk [--first] LIST -l NAMES\n");
-        return;
+// Whether the words after the list's are the manifest alone, or `--files` and one file at least.
+fn is_asked(next: usize, words: usize) -> bool {
+    if is_word(next, b"--files") {
+        return std::num::wrapping_add_usize(next, 1) < words;
     }
-    let mut bytes = io::large_buffer();
+    std::num::wrapping_add_usize(next, 1) == words
+}
+
+// Screens what the command line names after the list's word for the sequences of this list.
+fn screen_for(list: &[u8], word: usize) {
+    let next = std::num::wrapping_add_usize(word, 1);
+    let first = word == 2;
+    if is_word(next, b"--files") {
+        screen_files(list, first, std::num::wrapping_add_usize(next, 1));
+    } else {
+        screen_text(list, first, next);
+    }
+}
+
+// Reads the list that this word names, and screens.
+fn screen_by(word: usize) {
+    let mut bytes = [0u8; MOST_BYTES];
     let mut name = io::buffer();
     let n = os::arg(word, &mut name);
-    let got = read_file(&name[..n], &mut bytes);
-    let count = got.count;
-    if !got.whole {
+    match read_file(&name[..n], &mut bytes) {
+        Read::Failed => {}
+        Read::Full => {
+            say(b"the list has more than 65536 bytes\n");
+        }
+        Read::Whole(count) => screen_for(part(&bytes, 0, count), word),
+    }
+}
+
+fn main() {
+    let word = list_word();
+    if !is_asked(std::num::wrapping_add_usize(word, 1), os::arg_count()) {
+        say(b"usage: desk [--first] LIST TEXT or desk [--first] LIST --files FILE...\n");
         return;
     }
-    if count == 65536 {
-        say(b"the list has more than 65535 bytes\n");
-        return;
-    }
-    screen_for(&bytes[..count], word);
+    screen_by(word);
 }

@@ -1,27 +1,29 @@
 -- Laws of what a line says, test by test.
-use Prim.Native.Nat.{ℕ, suc, _+_, _-_, _≤_, _<_}
+use Prim.Native.Nat.{ℕ, suc, _+_, _-_, _≤_, _<_, max}
 use native.Mathlib.Omega.{arith}
 use mathlib.Core.Path.{_≡_, refl, sym, ap, _∙_}
 use native.Mathlib.Decide.{decLt}
 use mathlib.Core.Logic.{by-cases}
 use mathlib.Core.Bool.{Bool, true, false, cond}
 use mathlib.Core.List.{List, []}
-use borrow.Author.Tests.{eq-eqb, ne-eqb, le-leb, lt-leb, lt-ltb, le-ltb}
-use lib.Dec.{eqb, leb}
+use borrow.Author.Tests.{eq-eqb, ne-eqb, le-leb, lt-leb, lt-ltb, le-ltb, ltb-true}
+use lib.Dec.{eqb, leb, ltb}
 use lib.ListN.{length, getD, take, drop, length-drop, drop-of-length-le}
 use lib.Seq.{take-all, take-nil}
 use Rattle.text.specs.Refusal.{Outcome, ok, refused, pattern, toldPattern}
 use Rattle.text.specs.declared.refusal.Refusal.{Refusal}
 use Rattle.text.specs.declared.pattern.PatternIs.{PatternIs}
 use Rattle.text.specs.declared.pattern.PatternIs.the-variants.{Sound, Refused}
+use Rattle.text.proofs.Truth.{and-left, and-right}
 use Rattle.desk_list.specs.Kinds.{past}
 use Rattle.desk_list.specs.Number.{numberOf}
-use Rattle.desk_list.specs.Line.{endsAt, between, closedBy, sequenceOf, labelled, labelOf, entryOf, behind, placed, lineOf, Inside}
-use Rattle.desk_list.specs.declared.classes.Kind.the-variants.{Blank, Digit, Word, InLine}
+use Rattle.desk_list.specs.Line.{endsAt, between, closedBy, sequenceOf, labelled, labelOf, wordsOf, entryOf}
+use Rattle.desk_list.specs.Line.{returned, closeOf, behind, placed, lineOf, Inside, Next}
+use Rattle.desk_list.specs.declared.classes.Kind.the-variants.{Plain, Blank, Digit, Word, InLine}
 use Rattle.desk_list.specs.declared.decimal.Number.{Number}
 use Rattle.desk_list.specs.declared.decimal.Number.the-variants.{Is, Large}
 use Rattle.desk_list.specs.declared.reading.Fault.{Fault}
-use Rattle.desk_list.specs.declared.reading.Fault.the-variants.{NoLabel, LargeLabel, NoSequence, Sequence, More}
+use Rattle.desk_list.specs.declared.reading.Fault.the-variants.{Byte, NoLabel, LargeLabel, NoSequence, Sequence, More}
 use Rattle.desk_list.specs.declared.reading.Entry.{Entry}
 use Rattle.desk_list.specs.declared.reading.Line.{Line}
 
@@ -43,15 +45,51 @@ module _ (l : List ℕ) (at : ℕ) where
   behind-none h = rw (le-ltb at (length l) h) refl
 
 -- the next line begins after a place of this one
-pub behind-on : (s : List ℕ) {at stop next : ℕ} → next ≡ behind s stop → at < length s → at ≤ stop → at < next
+pub behind-on : (s : List ℕ) {at stop next : ℕ} → next ≡ behind s stop → at < length s → at ≤ stop → stop ≤ max at (length s)
+    → Next at (length s) next
 unfolding behind
-behind-on s {at} {stop} {next} e l h =
+behind-on s {at} {stop} {next} e l h m =
     by-cases (decLt stop (length s))
-    (λ (k : stop < length s). let z : next ≡ stop + 1 = e ∙ rw (lt-ltb stop (length s) k) refl in omega arith)
+    (λ (k : stop < length s). let z : next ≡ stop + 1 = e ∙ rw (lt-ltb stop (length s) k) refl in (omega arith, omega arith))
     (λ (k : stop < length s → ⊥).
     let far : length s ≤ stop = omega arith in
     let z : next ≡ stop = e ∙ rw (le-ltb stop (length s) far) refl in
-    omega arith)
+    (omega arith, omega arith))
+
+-- where the content of a line ends
+module _ (s : List ℕ) (at stop : ℕ) where
+  pub close-last : length s ≤ stop → stop ≡ closeOf s at stop
+  unfolding closeOf
+  close-last h = rw (le-ltb stop (length s) h) refl
+
+  module _ (l : stop < length s) where
+    pub close-empty : stop ≤ at → stop ≡ closeOf s at stop
+    unfolding closeOf
+    close-empty h = rw (lt-ltb stop (length s) l, le-ltb at stop h) refl
+
+    module _ (h : at < stop) where
+      pub close-return : getD s (stop - 1) 0 ≡ 13 → stop - 1 ≡ closeOf s at stop
+      unfolding closeOf
+      close-return e = rw (lt-ltb stop (length s) l, lt-ltb at stop h, eq-eqb (getD s (stop - 1) 0) 13 e) refl
+
+      pub close-plain : (getD s (stop - 1) 0 ≡ 13 → ⊥) → stop ≡ closeOf s at stop
+      unfolding closeOf
+      close-plain e = rw (lt-ltb stop (length s) l, lt-ltb at stop h, ne-eqb (getD s (stop - 1) 0) 13 e) refl
+
+  close-by : (b : Bool) → returned s at stop ≡ b → at ≤ stop → (at ≤ cond b (stop - 1) stop) × (cond b (stop - 1) stop ≤ stop)
+  close-by true e h = let z : at < stop = ltb-true at stop (and-left (ltb at stop) _ (and-right (ltb stop (length s)) _ e)) in
+      (omega arith, omega arith)
+  close-by false e h = (h, omega arith)
+
+  -- it ends in the line
+  pub close-in : at ≤ stop → (at ≤ closeOf s at stop) × (closeOf s at stop ≤ stop)
+  unfolding closeOf
+  close-in h = close-by (returned s at stop) refl h
+
+-- it ends in the list
+pub close-there : (s : List ℕ) {at stop end : ℕ} → end ≡ closeOf s at stop → at ≤ stop → stop ≤ max at (length s) → at < length s
+    → (at ≤ end) × (end ≤ length s)
+close-there s {at} {stop} {end} e l m h = let k = close-in s at stop l in (omega (arith, e, k .0), omega (arith, e, k .1, l, m, h))
 
 -- the places of a sequence
 pub inside-at : {n : ℕ} {x : Entry} {label start end : ℕ} → x ≡ Entry.Withheld label start end → Inside n x → (start ≤ end) × (end ≤ n)
@@ -84,33 +122,33 @@ module _ (l : List ℕ) {first : ℕ} (a : first ≡ past Blank l 0) {none : Boo
   begun : endsAt l (past Blank l 0) ≡ none
   begun = sym (f ∙ ap (endsAt l) a)
 
-  pub says-nothing : none ≡ true → Entry.Nothing ≡ entryOf l
-  unfolding entryOf
+  pub says-nothing : none ≡ true → Entry.Nothing ≡ wordsOf l
+  unfolding wordsOf
   says-nothing h = rw (begun, h) refl
 
   module _ (some : none ≡ false) {digits : ℕ} (b : digits ≡ past Digit l first) where
-    labels : entryOf l ≡ labelOf l first
-    unfolding entryOf
+    labels : wordsOf l ≡ labelOf l first
+    unfolding wordsOf
     labels = rw (begun, some) (ap (labelOf l) (sym a))
 
-    pub says-no-label : digits ≡ first → Entry.Wrong NoLabel ≡ entryOf l
+    pub says-no-label : digits ≡ first → Entry.Wrong NoLabel ≡ wordsOf l
     unfolding labelOf
     says-no-label h = let same : past Digit l first ≡ first = sym b ∙ h in sym (labels ∙ rw (eq-eqb (past Digit l first) first same) refl)
 
     module _ (more : digits ≡ first → ⊥) {r : Number} (g : r ≡ numberOf (take (digits - first) (drop first l))) where
-      numbered : entryOf l ≡ labelled l digits r
+      numbered : wordsOf l ≡ labelled l digits r
       unfolding labelOf
       numbered =
           let differ : past Digit l first ≡ first → ⊥ = λ h. more (b ∙ h) in
           let told : numberOf (between l first (past Digit l first)) ≡ r = sym (g ∙ ap (λ (n : ℕ). numberOf (between l first n)) b) in
           labels ∙ rw (ne-eqb (past Digit l first) first differ, told, b) refl
 
-      pub says-large : r ≡ Large → Entry.Wrong LargeLabel ≡ entryOf l
+      pub says-large : r ≡ Large → Entry.Wrong LargeLabel ≡ wordsOf l
       unfolding labelled
       says-large h = sym (numbered ∙ rw h refl)
 
       module _ {label : ℕ} (is : r ≡ Is label) {start : ℕ} (s : start ≡ past Blank l digits) where
-        pub says-joined : start ≡ digits → Entry.Wrong NoSequence ≡ entryOf l
+        pub says-joined : start ≡ digits → Entry.Wrong NoSequence ≡ wordsOf l
         unfolding labelled
         says-joined h =
             let same : past Blank l digits ≡ digits = sym s ∙ h in
@@ -123,14 +161,26 @@ module _ (l : List ℕ) {first : ℕ} (a : first ≡ past Blank l 0) {none : Boo
           ended : endsAt l (past Blank l digits) ≡ last
           ended = sym (k ∙ ap (endsAt l) s)
 
-          pub says-no-sequence : last ≡ true → Entry.Wrong NoSequence ≡ entryOf l
+          pub says-no-sequence : last ≡ true → Entry.Wrong NoSequence ≡ wordsOf l
           unfolding labelled
           says-no-sequence h = sym (numbered ∙ rw (is, ne-eqb (past Blank l digits) digits apart, ended, h) refl)
 
-          pub says-sequence : last ≡ false → {x : Entry} → x ≡ sequenceOf l label start → x ≡ entryOf l
+          pub says-sequence : last ≡ false → {x : Entry} → x ≡ sequenceOf l label start → x ≡ wordsOf l
           unfolding labelled
           says-sequence h {x} e =
               e ∙ ap (sequenceOf l label) s ∙ sym (numbered ∙ rw (is, ne-eqb (past Blank l digits) digits apart, ended, h) refl)
+
+-- what a line says: before anything else, the first byte that is not plain
+module _ (l : List ℕ) {plain : ℕ} (a : plain ≡ past Plain l 0) where
+  pub entry-byte : plain < length l → Entry.Wrong (Byte plain) ≡ entryOf l
+  unfolding entryOf
+  entry-byte h =
+      let k : past Plain l 0 < length l = omega (arith, h, a) in
+      rw (lt-ltb (past Plain l 0) (length l) k) (ap (λ (n : ℕ). Entry.Wrong (Byte n)) a)
+
+  pub entry-words : length l ≤ plain → {x : Entry} → x ≡ wordsOf l → x ≡ entryOf l
+  unfolding entryOf
+  entry-words h e = let k : length l ≤ past Plain l 0 = omega (arith, h, a) in e ∙ rw (le-ltb (past Plain l 0) (length l) k) refl
 
 -- a line of a list
 module _ (s : List ℕ) (at : ℕ) where
@@ -138,13 +188,15 @@ module _ (s : List ℕ) (at : ℕ) where
   unfolding lineOf
   line-none h = rw (le-leb (length s) at h) refl
 
-  pub line-is : at < length s → {stop next : ℕ} → stop ≡ past InLine s at → next ≡ behind s stop → {x y : Entry}
-      → x ≡ entryOf (take (stop - at) (drop at s)) → x ≡ y → placed at next y ≡ lineOf s at
+  pub line-is : at < length s → {stop next end : ℕ} → stop ≡ past InLine s at → next ≡ behind s stop → end ≡ closeOf s at stop
+      → {x y : Entry} → x ≡ entryOf (take (end - at) (drop at s)) → x ≡ y → placed at next y ≡ lineOf s at
   unfolding lineOf
-  line-is h {stop} {next} e n {x} {y} is same =
-      let there : next ≡ behind s (past InLine s at) = n ∙ ap (behind s) e in
-      let said : entryOf (between s at (past InLine s at)) ≡ y = sym (sym same ∙ is ∙ ap (λ (k : ℕ). entryOf (between s at k)) e) in
-      rw (lt-leb (length s) at h, said, there) refl
+  line-is h {stop} {next} {end} e n f {x} {y} is same =
+      let after : next ≡ behind s (past InLine s at) = n ∙ ap (behind s) e in
+      let there : end ≡ closeOf s at (past InLine s at) = f ∙ ap (closeOf s at) e in
+      let said : entryOf (between s at (closeOf s at (past InLine s at))) ≡ y =
+      sym (sym same ∙ is ∙ ap (λ (k : ℕ). entryOf (between s at k)) there) in
+      rw (lt-leb (length s) at h, said, after) refl
 
 -- a part of a list, as far as it is there
 module _ (s : List ℕ) (start end : ℕ) where

@@ -2,3 +2,5 @@
 pub mod Skips
 pub mod Values
 pub mod Entries
+pub mod Checks
+pub mod Theorems

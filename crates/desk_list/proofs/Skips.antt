@@ -7,30 +7,48 @@ use mathlib.Core.Bool.{Bool, true, false, not}
 use mathlib.Core.List.{List, []}
 use borrow.Author.Tests.{eq-eqb, ne-eqb, le-leb, lt-leb}
 use lib.Dec.{eqb, leb}
-use lib.ListN.{length, getD, drop, drop-of-length-le}
+use lib.ListN.{length, getD, drop, drop-of-length-le, length-drop}
 use Rattle.text.specs.Letter.{firstNot}
-use Rattle.text.proofs.Letters.{first-at}
+use Rattle.text.proofs.Letters.{first-at, first-le}
 use Rattle.desk_list.specs.Kinds.{of, past}
 use Rattle.desk_list.specs.declared.classes.Kind.{Kind}
-use Rattle.desk_list.specs.declared.classes.Kind.the-variants.{Blank, Digit, Word, InLine}
+use Rattle.desk_list.specs.declared.classes.Kind.the-variants.{Plain, Blank, Digit, Word, InLine}
 
 -- what the arms of the tests say of a byte
 abbrev pub Blanks : ℕ → Type 0
-Blanks c = (c ≡ 9) ⊎ ((c ≡ 13) ⊎ (c ≡ 32))
+Blanks c = (c ≡ 9) ⊎ (c ≡ 32)
 
 abbrev pub Parts : ℕ → Type 0
-Parts c = (c ≡ 9) ⊎ ((c ≡ 13) ⊎ ((c ≡ 32) ⊎ (c ≡ 35)))
+Parts c = (c ≡ 9) ⊎ ((c ≡ 32) ⊎ (c ≡ 35))
 
 module _ {k : Kind} (c : ℕ) where
+  pub is-tab : k ≡ Plain → c ≡ 9 → true ≡ of k c
+  unfolding of
+  is-tab e h = rw (e, h) refl
+
+  pub is-printable : k ≡ Plain → 32 ≤ c → c < 127 → true ≡ of k c
+  unfolding of
+  is-printable e l h =
+      let other : c ≡ 9 → ⊥ = λ x. (let z : ⊥ = omega arith in z) in
+      let most : c ≤ 126 = omega arith in
+      rw (e, ne-eqb c 9 other, le-leb 32 c l, le-leb c 126 most) refl
+
+  pub low-byte : k ≡ Plain → (c ≡ 9 → ⊥) → c < 32 → false ≡ of k c
+  unfolding of
+  low-byte e t l = rw (e, ne-eqb c 9 t, lt-leb 32 c l) refl
+
+  pub high-byte : k ≡ Plain → (c ≡ 9 → ⊥) → 32 ≤ c → 127 ≤ c → false ≡ of k c
+  unfolding of
+  high-byte e t l h = let above : 126 < c = omega arith in rw (e, ne-eqb c 9 t, le-leb 32 c l, lt-leb c 126 above) refl
+
   pub is-blank : k ≡ Blank → Blanks c → true ≡ of k c
   unfolding of
   is-blank e (inl h) = rw (e, h) refl
-  is-blank e (inr (inl h)) = rw (e, h) refl
-  is-blank e (inr (inr h)) = rw (e, h) refl
+  is-blank e (inr h) = rw (e, h) refl
 
   pub no-blank : k ≡ Blank → (Blanks c → ⊥) → false ≡ of k c
   unfolding of
-  no-blank e h = rw (e, ne-eqb c 9 (λ x. h (inl x)), ne-eqb c 13 (λ x. h (inr (inl x))), ne-eqb c 32 (λ x. h (inr (inr x)))) refl
+  no-blank e h = rw (e, ne-eqb c 9 (λ x. h (inl x)), ne-eqb c 32 (λ x. h (inr x))) refl
 
   pub is-digit : k ≡ Digit → 48 ≤ c → c < 58 → true ≡ of k c
   unfolding of
@@ -48,8 +66,7 @@ module _ {k : Kind} (c : ℕ) where
   unfolding of
   no-word e (inl h) = rw (e, h) refl
   no-word e (inr (inl h)) = rw (e, h) refl
-  no-word e (inr (inr (inl h))) = rw (e, h) refl
-  no-word e (inr (inr (inr h))) = rw (e, h) refl
+  no-word e (inr (inr h)) = rw (e, h) refl
 
   pub is-word : k ≡ Word → (Parts c → ⊥) → true ≡ of k c
   unfolding of
@@ -57,14 +74,18 @@ module _ {k : Kind} (c : ℕ) where
       rw (
         e,
         ne-eqb c 9 (λ x. h (inl x)),
-        ne-eqb c 13 (λ x. h (inr (inl x))),
-        ne-eqb c 32 (λ x. h (inr (inr (inl x)))),
-        ne-eqb c 35 (λ x. h (inr (inr (inr x)))),
+        ne-eqb c 32 (λ x. h (inr (inl x))),
+        ne-eqb c 35 (λ x. h (inr (inr x))),
       ) refl
 
   pub in-line : k ≡ InLine → not (eqb c 10) ≡ of k c
   unfolding of
   in-line e = rw e refl
+
+-- where bytes of a kind end, there and no further than the end
+pub past-in : (k : Kind) (s : List ℕ) (from : ℕ) → (from ≤ past k s from) × (past k s from ≤ max from (length s))
+unfolding past
+past-in k s from = (omega arith, omega (arith, first-le (of k) (drop from s), length-drop from s))
 
 -- the bytes from `start` up to i are of the kind
 pub record Skipping (k : Kind) (s : List ℕ) (start i : ℕ) : Type 0 where

@@ -6,14 +6,15 @@ use lib.Dec.{eqb, leb}
 use lib.ListN.{drop}
 use Rattle.text.specs.Letter.{firstNot}
 use Rattle.desk_list.specs.declared.classes.Kind.{Kind}
-use Rattle.desk_list.specs.declared.classes.Kind.the-variants.{Blank, Digit, Word, InLine}
+use Rattle.desk_list.specs.declared.classes.Kind.the-variants.{Plain, Blank, Digit, Word, InLine}
 
--- tab, carriage return or space
+-- tab or space
 abbrev pub blank : ℕ → Bool
-blank c = eqb c 9 || eqb c 13 || eqb c 32
+blank c = eqb c 9 || eqb c 32
 
 -- whether a byte is of a kind
 unfoldable pub of : Kind → ℕ → Bool
+of Plain c = eqb c 9 || (leb 32 c && leb c 126)
 of Blank c = blank c
 of Digit c = leb 48 c && leb c 57
 of Word c = not (blank c || eqb c 35)

@@ -1,4 +1,5 @@
--- The list of withheld sequences: kinds of bytes, decimal numbers, and what a line says.
+-- The list of withheld sequences: kinds of bytes, decimal numbers, what a line says, and what is said of all lines.
 pub mod Kinds
 pub mod Number
 pub mod Line
+pub mod Lines

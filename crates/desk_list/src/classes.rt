@@ -4,9 +4,10 @@ ghost use Prim.Native.Nat.{_≤_, max};
 ghost use lib.ListN.{length};
 ghost use Rattle.desk_list.specs.Kinds.{of, past};
 
-// Blanks part a label from its sequence: space, tab, and the carriage return of a line's end. A word is whatever is no blank and begins
-// no comment. A line is made of all but the line feed.
+// Blanks part a label from its sequence: space and tab. A word is whatever is no blank and begins no comment. Plain bytes are those that
+// a reader of the list sees: printable ASCII and tab. A line is made of all but the line feed.
 pub enum Kind {
+    Plain,
     Blank,
     Digit,
     Word,
@@ -18,8 +19,12 @@ fn is_kind(kind: Kind, byte: u8) -> bool
     ensures { λ r. ⌜ r ≡ of kind byte ⌝ }
 {
     match kind {
+        Kind::Plain => match byte {
+            9 | 32..=126 => true,
+            _ => false,
+        },
         Kind::Blank => match byte {
-            9 | 13 | 32 => true,
+            9 | 32 => true,
             _ => false,
         },
         Kind::Digit => match byte {
@@ -27,7 +32,7 @@ fn is_kind(kind: Kind, byte: u8) -> bool
             _ => false,
         },
         Kind::Word => match byte {
-            9 | 13 | 32 | 35 => false,
+            9 | 32 | 35 => false,
             _ => true,
         },
         Kind::InLine => byte != 10,

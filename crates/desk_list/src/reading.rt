@@ -9,10 +9,12 @@ use text::pattern::check;
 ghost use mathlib.Core.Path.{_≡_};
 ghost use Prim.Native.Nat.{_≤_};
 ghost use lib.ListN.{length};
-ghost use Rattle.desk_list.specs.Line.{between, endsAt, sequenceOf, entryOf, behind, lineOf, Inside, Onward};
+ghost use Rattle.desk_list.specs.Line.{between, endsAt, sequenceOf, wordsOf, entryOf, closeOf, behind, lineOf, Inside, Onward};
 
 // What is wrong with a line.
 pub enum Fault {
+    // A byte is neither printable ASCII nor a tab: its place in the line, from 0.
+    Byte(usize),
     // It does not begin with a number.
     NoLabel,
     // The number is over 64 bits.
@@ -36,7 +38,7 @@ pub enum Entry {
     Wrong(Fault),
 }
 
-// A line of a list, and where the next one begins; or the end of the list.
+// A line of a list, and where the next one begins, if this one is right or wrong; or the end of the list.
 pub enum Line {
     Nothing {
         next: usize,
@@ -47,7 +49,10 @@ pub enum Line {
         end: usize,
         next: usize,
     },
-    Wrong(Fault),
+    Wrong {
+        fault: Fault,
+        next: usize,
+    },
     End,
 }
 
@@ -77,9 +82,9 @@ fn sequence(line: &[u8], label: u64, start: usize) -> Entry
     Entry::Withheld { label, start, end }
 }
 
-// What a line says, without its end.
-fn content(line: &[u8]) -> Entry
-    ensures { λ r. ⌜ (r ≡ entryOf (now (line .entry))) × Inside (length (now (line .entry))) r ⌝ }
+// What a line of plain bytes says.
+fn words(line: &[u8]) -> Entry
+    ensures { λ r. ⌜ (r ≡ wordsOf (now (line .entry))) × Inside (length (now (line .entry))) r ⌝ }
 {
     let first = past(Kind::Blank, line, 0);
     if ends_at(line, first) {
@@ -102,6 +107,33 @@ fn content(line: &[u8]) -> Entry
     sequence(line, label, start)
 }
 
+// What a line says, without its end. A byte that is not plain is wrong wherever it stands, in a comment too: it may look like another.
+fn content(line: &[u8]) -> Entry
+    ensures { λ r. ⌜ (r ≡ entryOf (now (line .entry))) × Inside (length (now (line .entry))) r ⌝ }
+{
+    let plain = past(Kind::Plain, line, 0);
+    if plain < line.len() {
+        return Entry::Wrong(Fault::Byte(plain));
+    }
+    words(line)
+}
+
+// Where the content of a line ends that begins at `at` and stops at `stop`: before the carriage return of its end, if it has one.
+fn close(list: &[u8], at: usize, stop: usize) -> usize
+    ensures { λ r. ⌜ r ≡ closeOf (now (list .entry)) at stop ⌝ }
+{
+    if list.len() <= stop {
+        return stop;
+    }
+    if stop <= at {
+        return stop;
+    }
+    if list[stop - 1] == 13 {
+        return stop - 1;
+    }
+    stop
+}
+
 // Where the line after one that stops at `stop` begins: there is a line's end at most.
 fn behind(list: &[u8], stop: usize) -> usize
     ensures { λ r. ⌜ r ≡ behind (now (list .entry)) stop ⌝ }
@@ -122,7 +154,8 @@ pub fn line_at(list: &[u8], at: usize) -> Line
     }
     let stop = past(Kind::InLine, list, at);
     let next = behind(list, stop);
-    match content(&list[at..stop]) {
+    let end = close(list, at, stop);
+    match content(&list[at..end]) {
         Entry::Nothing => Line::Nothing { next },
         Entry::Withheld { label, start, end } => Line::Withheld {
             label,
@@ -130,7 +163,7 @@ pub fn line_at(list: &[u8], at: usize) -> Line
             end: at + end,
             next,
         },
-        Entry::Wrong(fault) => Line::Wrong(fault),
+        Entry::Wrong(fault) => Line::Wrong { fault, next },
     }
 }
 

@@ -1,5 +1,4 @@
 -- Laws of the definitions in specs/.
-pub mod SaidTheorems
 pub mod Saying
 pub mod NextMarked
 pub mod Standings

@@ -1,19 +1,17 @@
 -- Laws of the lines that the desk prints, by their cases.
 use Prim.Native.Nat.{ℕ, _-_, _≤_}
 use native.Mathlib.Omega.{arith}
-use mathlib.Core.Path.{_≡_, sym, ap}
-use mathlib.Core.Bool.{Bool, true, false, cond}
+use mathlib.Core.Path.{_≡_, sym}
 use mathlib.Core.List.{List, _++_}
 use borrow.Author.Tests.{eq-eqb, ne-eqb}
-use lib.Dec.{eqb}
 use lib.ListN.{length, length-take}
 use lib.Seq.{length-take-le}
 use Rattle.lines.specs.Decimal.{digits}
 use Rattle.lines.specs.Puts.{Put}
 use Rattle.lines.proofs.Putting.{put-length}
 use Rattle.desk_verdict.specs.Standing.{plus}
-use Rattle.desk_verdict.specs.Said.{endsWord, textWord, ofWord, clearWord, heldWord, segmentsWord, clearLine, heldLine, counted, named}
-use Rattle.desk_verdict.specs.Said.{hitLine, standingLine, lastLine, Fits}
+use Rattle.desk_verdict.specs.Said.{endsWord, textWord, ofWord, clearWord, heldWord, segmentsWord, counted, named}
+use Rattle.desk_verdict.specs.Said.{hitLine, standingLine, Fits}
 use Rattle.desk_verdict.specs.declared.standing.Standing.{Standing}
 
 -- what is put from the start on stands in front of the buffer
@@ -39,17 +37,3 @@ module _ {d out : List ℕ} {at next : ℕ} where
       → Put d at (standingLine label x) out next
   unfolding standingLine
   held-put label x e p = rw (ne-eqb (x .ends) 0 e) p
-
-  pub last-clear : {whole : Bool} {ends : ℕ} → whole ≡ true → ends ≡ 0 → Put d at clearLine out next
-      → Put d at (lastLine whole ends) out next
-  unfolding lastLine
-  last-clear {whole} {ends} w e p = rw (w, eq-eqb ends 0 e) p
-
-  pub last-part : {whole : Bool} (ends : ℕ) → whole ≡ false → Put d at heldLine out next → Put d at (lastLine whole ends) out next
-  unfolding lastLine
-  last-part ends w p = rw w p
-
-  pub last-held : {whole : Bool} {ends : ℕ} → whole ≡ true → (ends ≡ 0 → ⊥) → Put d at heldLine out next
-      → Put d at (lastLine whole ends) out next
-  unfolding lastLine
-  last-held {whole} {ends} w e p = rw (w, ne-eqb ends 0 e) p

@@ -1,5 +1,4 @@
 -- What the desk decides: where a sequence stands after stretches.
 pub mod Said
-pub mod Nights
 pub mod Standing
 pub mod First

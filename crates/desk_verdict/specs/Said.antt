@@ -1,11 +1,10 @@
 -- The lines that the desk prints, as bytes.
 use Prim.Native.Nat.{ℕ, _≤_}
 use mathlib.Core.Path.{_≡_}
-use mathlib.Core.Bool.{Bool, true, false, cond, _&&_}
+use mathlib.Core.Bool.{cond}
 use mathlib.Core.List.{List, [], _∷_, _++_}
 use lib.Dec.{eqb}
 use lib.ListN.{length, take}
-use Rattle.text.specs.Refusal.{Outcome, ok, refused}
 use Rattle.lines.specs.Decimal.{digits}
 use Rattle.desk_verdict.specs.Standing.{plus}
 use Rattle.desk_verdict.specs.declared.standing.Standing.{Standing}
@@ -48,18 +47,6 @@ atWord = 0x20 ∷ 0x61 ∷ 0x74 ∷ 0x20 ∷ []
 abbrev pub inWord : List ℕ
 inWord = 0x20 ∷ 0x69 ∷ 0x6E ∷ 0x20 ∷ []
 
--- `clear` and the line's end
-abbrev pub clearLine : List ℕ
-clearLine = 0x63 ∷ 0x6C ∷ 0x65 ∷ 0x61 ∷ 0x72 ∷ 0x0A ∷ []
-
--- `held` and the line's end
-abbrev pub heldLine : List ℕ
-heldLine = 0x68 ∷ 0x65 ∷ 0x6C ∷ 0x64 ∷ 0x0A ∷ []
-
--- `unread `
-abbrev pub unreadWord : List ℕ
-unreadWord = 0x75 ∷ 0x6E ∷ 0x72 ∷ 0x65 ∷ 0x61 ∷ 0x64 ∷ 0x20 ∷ []
-
 -- ` files` and the line's end
 abbrev pub filesWord : List ℕ
 filesWord = 0x20 ∷ 0x66 ∷ 0x69 ∷ 0x6C ∷ 0x65 ∷ 0x73 ∷ 0x0A ∷ []
@@ -94,14 +81,6 @@ standingLine label x =
 unfoldable pub refusedLine : ℕ → ℕ → List ℕ → List ℕ
 refusedLine n p name = counted refusedWord n ++ counted atWord p ++ named inWord name
 
--- the last line: `clear` if every file was read and accepted and the sequences end in no segment
-unfoldable pub lastLine : Bool → ℕ → List ℕ
-lastLine whole ends = cond (whole && eqb ends 0) clearLine heldLine
-
--- a file that could not be read
-unfoldable pub unreadLine : List ℕ → List ℕ
-unreadLine name = named unreadWord name
-
 -- how many of the files are done
 unfoldable pub doneLine : ℕ → ℕ → List ℕ
 doneLine done all = digits done ++ counted ofWord all ++ filesWord
@@ -113,8 +92,3 @@ faultWords line = counted lineWord line ++ listWord
 -- r bytes stand in front of the buffer; the second part says it as a caller needs it who cuts them off
 abbrev pub Fits : ℕ → List ℕ → Type 0
 Fits r out = (r ≤ length out) × (r ≡ length (take r out))
-
--- the last line of a night: of a text that is not whole it is never `clear`
-abbrev pub nightLine : Outcome ℕ → List ℕ
-nightLine (ok ends) = lastLine true ends
-nightLine (refused n p) = lastLine false 0

@@ -4,7 +4,6 @@ mod put;
 pub use put::put_done;
 pub use put::put_fault;
 pub use put::put_hit;
-pub use put::put_last;
+pub use put::put_named;
 pub use put::put_refused;
 pub use put::put_standing;
-pub use put::put_unread;

@@ -3,7 +3,7 @@ ghost use mathlib.Core.Path.{_≡_};
 ghost use Prim.Native.Nat.{_+_};
 ghost use Rattle.digest.specs.Structs.{total, offset};
 
-pub(crate) struct Offset {
+pub struct Offset {
     pub low: u64,
     pub high: u64,
 }

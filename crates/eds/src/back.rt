@@ -1,15 +1,16 @@
 // A stretch back to braces.
 use crate::messages::write_front;
+use desk_list::part;
 use eds_notation::Braced;
 use eds_notation::put_braces;
+use files::Read;
+use files::read_all;
 use text::refusal;
 
-// Prints the braces of the stretch on standard input on a line, or its refusal.
-pub fn print_braces() {
-    let mut bytes = [0u8; refusal::GREATEST_STRETCH + 1];
+// Prints the braces of a stretch on a line, or its refusal.
+fn print(stretch: &[u8]) {
     let mut out = [0u8; refusal::GREATEST_STRETCH];
-    let n = io::read_full(0, &mut bytes);
-    match put_braces(&bytes[..n], &mut out) {
+    match put_braces(stretch, &mut out) {
         Braced::Refused(wrong) => {
             let mut line = [0u8; 64];
             let end = lines::put_refusal(wrong, &mut line, 0);
@@ -17,7 +18,20 @@ pub fn print_braces() {
         }
         Braced::Bytes(end) => {
             write_front(&out, end);
-            io::write_all(1, b"\n");
+            files::write_all(libc::STDOUT_FILENO, b"\n");
         }
+    }
+}
+
+// Prints the braces of the stretch on standard input on a line, or its refusal; nothing where it could not be read. The buffer has one byte
+// more than a stretch, so that a longer file is refused by its length.
+pub fn print_braces() {
+    let mut bytes = [0u8; refusal::GREATEST_STRETCH + 1];
+    match read_all(libc::STDIN_FILENO, &mut bytes) {
+        Read::Failed => {
+            os::fail(b"standard input");
+        }
+        Read::Full => print(&bytes),
+        Read::Whole(n) => print(part(&bytes, 0, n)),
     }
 }

@@ -5,7 +5,7 @@ use lines::put_line;
 // Writes the first n of these bytes to standard output, where there are that many.
 pub fn write_front(bytes: &[u8], n: usize) {
     if n <= bytes.len() {
-        io::write_all(1, &bytes[0..n]);
+        files::write_all(libc::STDOUT_FILENO, &bytes[0..n]);
     }
 }
 

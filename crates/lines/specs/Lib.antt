@@ -3,5 +3,6 @@
 pub mod Input
 pub mod Decimal
 pub mod Puts
+pub mod Version
 pub mod Screening
 pub mod Answer

@@ -4,6 +4,7 @@ pub mod input;
 mod numbered;
 mod put;
 pub mod strands;
+mod version;
 
 pub use answer::MOST_BYTES;
 pub use answer::put_refusal;
@@ -13,3 +14,4 @@ pub use numbered::put_numbered;
 pub use put::put_bytes;
 pub use put::put_line;
 pub use put::put_number;
+pub use version::put_version;

@@ -1,12 +1,12 @@
 // One record, put into the window after the bases before it.
 use crate::records::HEADING;
 use crate::walk::BEFORE;
-use crate::walk::Came;
 use crate::walk::INSIDE;
 use crate::walk::NEXT;
 use crate::walk::Walk;
 use crate::walk::cut_window;
 use crate::walk::next_position;
+use crate::walk::with_fault;
 use crate::words::tell_line;
 use crate::words::tell_record;
 use desk_list::part;
@@ -47,21 +47,21 @@ fn judge_alone(number: u64, short: &[u8], line: &[u8], at: usize) -> usize {
     judge_in(number, short, line, at, &mut out)
 }
 
-// What is wrong with the record at hand.
-pub fn refuse(walk: Walk, reason: &[u8]) -> Came {
+// What is wrong with the record at hand, which is passed over.
+pub fn refuse(walk: Walk, reason: &[u8]) -> Walk {
     let records = walk.records;
     tell_line(records.number, reason);
-    Came::Stop
+    with_fault(walk)
 }
 
 // Aims at a record, which stands in short after the heading: its position is the next.
-pub fn aim_at(walk: Walk, short: &[u8]) -> Came {
+pub fn aim_at(walk: Walk, short: &[u8]) -> Walk {
     let records = walk.records;
     let line = part(short, HEADING, short.len());
     let at = position(field(line, 1));
     let segment = judge_alone(records.number, short, line, at);
     if segment == 0 {
-        return Came::Stop;
+        return with_fault(walk);
     }
     if at < next_position(walk) {
         return refuse(
@@ -73,26 +73,26 @@ pub fn aim_at(walk: Walk, short: &[u8]) -> Came {
     next.aim = BEFORE;
     next.until = at;
     next.segment = segment;
-    Came::To(next)
+    next
 }
 
 // Begins a record after the bases before it, if there is room for its segment; else the window is cut, and the next one has room.
-fn begin_record(walk: Walk, line: &[u8], window: &[u8]) -> Came {
+fn begin_record(walk: Walk, line: &[u8], window: &[u8], text: &mut [u8]) -> Walk {
     let held = walk.held;
     match held.record(walk.segment) {
-        Fit::Full => cut_window(walk, window),
+        Fit::Full => cut_window(walk, window, &mut *text),
         Fit::Fits(more) => {
             let mut next = walk;
             next.held = more;
             next.aim = INSIDE;
             next.until = std::num::wrapping_add_usize(walk.until, field(line, 3).len());
-            Came::To(next)
+            next
         }
     }
 }
 
 // Puts a record's line after those of the window, if its REF is what the reference has there: the last bases of the window.
-fn enter(walk: Walk, line: &[u8], window: &mut [u8]) -> Came {
+fn enter(walk: Walk, line: &[u8], window: &mut [u8]) -> Walk {
     let reference = field(line, 3);
     let from = std::num::wrapping_sub_usize(walk.count, reference.len());
     if !alike(reference, part(window, from, walk.count)) {
@@ -105,15 +105,15 @@ fn enter(walk: Walk, line: &[u8], window: &mut [u8]) -> Came {
     if next.lines == window.len() {
         return refuse(walk, b"POS has too many zeros in front");
     }
-    Came::To(next)
+    next
 }
 
 // Where the bases end that were aimed at: those before a record, or those of its REF. The record stands in short after the heading.
-pub fn arrive(walk: Walk, short: &[u8], window: &mut [u8]) -> Came {
+pub fn arrive(walk: Walk, short: &[u8], window: &mut [u8], text: &mut [u8]) -> Walk {
     let records = walk.records;
     let line = part(short, HEADING, records.behind);
     if walk.aim == BEFORE {
-        begin_record(walk, line, window)
+        begin_record(walk, line, window, &mut *text)
     } else {
         enter(walk, line, &mut *window)
     }

@@ -1,9 +1,11 @@
 // The bases of the chromosome, taken from the reference as they are wanted.
-use crate::source::Next;
+use crate::source::ENDED;
+use crate::source::FAILED;
 use crate::source::next_piece;
-use crate::walk::Came;
 use crate::walk::INSIDE;
+use crate::walk::OVER;
 use crate::walk::Walk;
+use crate::walk::stop;
 use crate::words::REFERENCE;
 use crate::words::tell;
 use crate::words::tell_byte;
@@ -24,7 +26,10 @@ pub struct Spot {
 // What is wrong with a file that does not begin as a reference does.
 fn tell_first(piece: &[u8]) {
     if prefix(&[0x1F], piece) {
-        tell(REFERENCE, b"it is compressed; unpack it first: gunzip -c");
+        tell(
+            REFERENCE,
+            b"it is compressed; unpack it into a file first, by gunzip",
+        );
     } else {
         tell(
             REFERENCE,
@@ -37,8 +42,29 @@ fn tell_missing() {
     tell(REFERENCE, b"no sequence in it has that name");
 }
 
+// The last base was taken.
+fn over(walk: Walk) -> Walk {
+    let mut next = walk;
+    next.state = OVER;
+    next
+}
+
+// The file has ended in the sequence: one that does not end with a line feed may have been cut.
+fn at_last_base(walk: Walk) -> Walk {
+    let records = walk.records;
+    let reference = walk.reference;
+    if reference.feed || records.unended {
+        return over(walk);
+    }
+    tell(
+        REFERENCE,
+        b"its last line does not end with a line feed: the file may have been cut (--unended takes it as it is)",
+    );
+    stop(walk)
+}
+
 // The file has ended: the sequence with it, if it was found.
-fn at_end(walk: Walk) -> Came {
+fn at_end(walk: Walk) -> Walk {
     let spot = walk.spot;
     let reading = spot.reading;
     match reading {
@@ -47,26 +73,33 @@ fn at_end(walk: Walk) -> Came {
         Reading::Passing => tell_missing(),
         Reading::Word(_) => tell_missing(),
         _ => {
-            return Came::Over(walk);
+            return at_last_base(walk);
         }
     }
-    Came::Stop
+    stop(walk)
 }
 
 // The next piece, after one that is used up.
-pub fn turn_page(walk: Walk, piece: &mut [u8]) -> Came {
-    let mut behind = walk.spot;
-    let place = behind.place;
-    behind.place = place.behind(part(piece, 0, walk.end), walk.end);
-    match next_piece(walk.fd, REFERENCE, &mut *piece) {
-        Next::Stop => Came::Stop,
-        Next::End => at_end(walk),
-        Next::Piece(end) => {
-            let mut next = walk;
-            next.spot = behind;
-            next.at = 0;
-            next.end = end;
-            Came::To(next)
+pub fn turn_page(walk: Walk, piece: &mut [u8]) -> Walk {
+    let before = walk.reference;
+    let spot = walk.spot;
+    let reading = spot.reading;
+    let place = spot.place;
+    let there = place.behind(part(piece, 0, before.end), before.end);
+    let reference = next_piece(before, &mut *piece);
+    let mut next = walk;
+    next.reference = reference;
+    let state = reference.state;
+    match state {
+        ENDED => at_end(next),
+        FAILED => stop(next),
+        _ => {
+            let begun = Spot {
+                reading,
+                place: there,
+            };
+            next.spot = begun;
+            next
         }
     }
 }
@@ -107,27 +140,38 @@ fn with_bases(walk: Walk, n: usize) -> Held {
 }
 
 // Takes n bases of the sequence of this name into the window, for which there is room, or as many of them as the piece has.
-pub fn take_bases(name: &[u8], walk: Walk, n: usize, piece: &[u8], window: &mut [u8]) -> Came {
+pub fn take_bases(name: &[u8], walk: Walk, n: usize, piece: &[u8], window: &mut [u8]) -> Walk {
     let spot = walk.spot;
     let before = spot.reading;
     let place = spot.place;
     let count = walk.count;
+    let mut reference = walk.reference;
     let most = std::num::wrapping_add_usize(count, n);
-    let held_piece = part(piece, 0, walk.end);
-    let got = take(name, before, held_piece, walk.at, &mut *window, count, most);
+    let held_piece = part(piece, 0, reference.end);
+    let got = take(
+        name,
+        before,
+        held_piece,
+        reference.at,
+        &mut *window,
+        count,
+        most,
+    );
     let reading = got.reading;
+    reference.at = got.at;
     let there = Spot { reading, place };
+    let held = with_bases(walk, std::num::wrapping_sub_usize(got.count, count));
     let mut next = walk;
     next.count = got.count;
-    next.held = with_bases(walk, std::num::wrapping_sub_usize(got.count, count));
-    next.at = got.at;
+    next.held = held;
+    next.reference = reference;
     next.spot = there;
     match reading {
-        Reading::Over => Came::Over(next),
+        Reading::Over => over(next),
         Reading::Wrong => {
             tell_wrong(spot, held_piece, got.at);
-            Came::Stop
+            stop(next)
         }
-        _ => Came::To(next),
+        _ => next,
     }
 }

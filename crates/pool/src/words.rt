@@ -6,7 +6,7 @@ use text::Refusal;
 use text::refusal;
 use vcf::records::record::field;
 
-// The words of the command line: the reference, the chromosome, the variant file and the name of the text.
+// The words of the command line: the reference, the chromosome, the variant file, the name of the text, and the option.
 pub const REFERENCE: usize = 1;
 
 pub const CHROMOSOME: usize = 2;
@@ -15,9 +15,11 @@ pub const VARIANTS: usize = 3;
 
 pub const TEXT: usize = 4;
 
+pub const UNENDED: usize = 5;
+
 // Words as they are.
 pub fn say(words: &[u8]) {
-    io::write_all(libc::STDERR_FILENO, words);
+    files::write_all(libc::STDERR_FILENO, words);
 }
 
 // Says a word of the command line.
@@ -64,6 +66,15 @@ pub fn tell_byte(line: u64, column: u64, reason: &[u8]) {
     say_number(b", line ", line);
     say_number(b", column ", column);
     say_reason(reason);
+}
+
+// That the variant file says of another number of bases than the reference has.
+pub fn tell_bases(said: u64, had: usize) {
+    say(b"pool: ");
+    say_word(VARIANTS);
+    say_number(b": its ##contig line says that the chromosome has ", said);
+    say_number(b" bases; the reference has ", had as u64);
+    say(b"\n");
 }
 
 // Whether a byte is among these.

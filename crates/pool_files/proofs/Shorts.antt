@@ -1,5 +1,5 @@
 -- Laws of a line in short: byte by byte, up to the end of the line.
-use Prim.Native.Nat.{ℕ, suc, _+_, _<_, _≤_}
+use Prim.Native.Nat.{ℕ, suc, _+_, _%_, _^_, _<_, _≤_}
 use native.Mathlib.Numerals.{add-one}
 use native.Mathlib.Omega.{arith}
 use mathlib.Core.Path.{_≡_, refl, sym, ap, ap₂, _∙_}
@@ -9,18 +9,18 @@ use borrow.Author.Tests.{eq-eqb, ne-eqb, ltb-true}
 use lib.Dec.{eqb, ltb}
 use lib.ListN.{length, drop, getD, drop-of-length-le}
 use lib.Seq.{drop-cons}
-use Rattle.pool_files.specs.Short.{Shortened, Outcome, keeps, actOf, acted, overByte, reading}
+use Rattle.pool_files.specs.Short.{Shortened, Outcome, keeps, actOf, putting, inField, tabbed, acted, overByte, reading}
 use Rattle.pool_files.specs.declared.short.Act.{Act}
-use Rattle.pool_files.specs.declared.short.Act.the-variants.{Skip, Keep, Name, Next, Comment}
+use Rattle.pool_files.specs.declared.short.Act.the-variants.{Skip, Keep, Name, Next, Count, Comment}
 use Rattle.pool_files.specs.declared.short.Line.{Line}
 use Rattle.pool_files.specs.declared.short.Come.the-variants.{On, End}
 
 -- the next field is at most the eighth
 next-by : (tab first mark kept : Bool) (k : ℕ) →
-    cond tab (cond (ltb k 7) Next Skip) (cond first (cond mark Comment Name) (cond kept Keep Skip)) ≡ Next → ltb k 7 ≡ true
+    cond tab (cond (ltb k 7) Next Count) (cond first (cond mark Comment Name) (cond kept Keep Skip)) ≡ Next → ltb k 7 ≡ true
 next-by true first mark kept k e = next-in (ltb k 7) e
   where
-    next-in : (t : Bool) → cond t Next Skip ≡ Next → t ≡ true
+    next-in : (t : Bool) → cond t Next Count ≡ Next → t ≡ true
     next-in true e = refl
     next-in false e = cc
 next-by false true true kept k e = cc
@@ -43,6 +43,14 @@ module _ (name : List ℕ) (l : Line) (b : ℕ) (d : List ℕ) (a : Act) (e : ac
 
   pub over-buffer : acted name l b d a .buffer ≡ overByte name l b d .buffer
   over-buffer = sym (ap (λ (s : Shortened). s .buffer) over-as)
+
+-- the next field, with the tab counted
+module _ (name : List ℕ) (l : Line) (b : ℕ) (d : List ℕ) (e : actOf (l .field) (l .matched) b ≡ Next) {n : ℕ} (w : n ≡ (l .tabs + 1) % 2 ^ 64) where
+  pub next-line : putting (inField (tabbed l n) (l .field + 1) (l .matched)) b d .line ≡ overByte name l b d .line
+  next-line = rw w (over-line name l b d Next e)
+
+  pub next-buffer : putting (inField (tabbed l n) (l .field + 1) (l .matched)) b d .buffer ≡ overByte name l b d .buffer
+  next-buffer = rw w (over-buffer name l b d Next e)
 
 -- from here the bytes that are left lead to what all of them lead to
 pub record Reads (name : List ℕ) (l₀ : Line) (piece : List ℕ) (from : ℕ) (d₀ : List ℕ) (l : Line) (at : ℕ) (d : List ℕ) : Type 0 where

@@ -1,28 +1,30 @@
--- A line of a variant file in short: POS, REF and ALT, and the tabs that end the first seven fields.
-use Prim.Native.Nat.{ℕ, suc, _+_}
+-- A line of a variant file in short: POS, REF and ALT, and the tabs that end the first seven fields; of a line that begins with # all but
+-- that # and tabs.
+use Prim.Native.Nat.{ℕ, suc, _+_, _%_, _^_}
 use mathlib.Core.Bool.{Bool, true, false, _&&_, _||_, not, cond}
 use mathlib.Core.List.{List, [], _∷_}
 use lib.Dec.{eqb, leb, ltb}
 use lib.ListN.{length, set}
 use Rattle.pool_files.specs.Words.{goOn}
 use Rattle.pool_files.specs.declared.short.Act.{Act}
-use Rattle.pool_files.specs.declared.short.Act.the-variants.{Skip, Keep, Name, Next, Comment}
+use Rattle.pool_files.specs.declared.short.Act.the-variants.{Skip, Keep, Name, Next, Count, Comment}
 use Rattle.pool_files.specs.declared.short.Line.{Line}
 use Rattle.pool_files.specs.declared.short.Come.{Come}
 use Rattle.pool_files.specs.declared.short.Come.the-variants.{On, End}
 
 -- a line that begins, to be put from a place on
 abbrev pub lineAt : ℕ → Line
-lineAt at = record { field = 0; matched = 0; behind = at; whole = true }
+lineAt at = record { field = 0; matched = 0; tabs = 0; behind = at; whole = true }
 
--- POS, REF and ALT
+-- POS, REF and ALT, and what stands after a #
 unfoldable pub keeps : ℕ → Bool
-keeps k = eqb k 1 || eqb k 3 || eqb k 4
+keeps k = eqb k 1 || eqb k 3 || eqb k 4 || eqb k 8
 
--- what a byte of field k does: CHROM is compared, unless a # comes first; POS, REF and ALT are kept, and so are tabs up to the eighth field
+-- what a byte of field k does: CHROM is compared, unless a # comes first; POS, REF and ALT are kept, and so are tabs up to the eighth
+-- field; later ones are counted
 unfoldable pub actOf : ℕ → ℕ → ℕ → Act
 actOf k matched b =
-    cond (eqb b 0x09) (cond (ltb k 7) Next Skip)
+    cond (eqb b 0x09) (cond (ltb k 7) Next Count)
     (cond (eqb k 0) (cond (eqb b 0x23 && eqb matched 0) Comment Name)
     (cond (keeps k) Keep Skip))
 
@@ -35,23 +37,32 @@ pub record Shortened : Type 0 where
 unfoldable pub putting : Line → ℕ → List ℕ → Shortened
 putting l b d =
     cond (leb (length d) (l .behind))
-    (record { line = record { field = l .field; matched = l .matched; behind = l .behind; whole = false }; buffer = d })
+    (record { line = record { field = l .field; matched = l .matched; tabs = l .tabs; behind = l .behind; whole = false }; buffer = d })
     (record {
-      line = record { field = l .field; matched = l .matched; behind = l .behind + 1; whole = l .whole };
+      line = record { field = l .field; matched = l .matched; tabs = l .tabs; behind = l .behind + 1; whole = l .whole };
       buffer = set d
           (l .behind) b;
     })
 
 -- in field k, with that many bytes of CHROM that are the name's first
 abbrev pub inField : Line → ℕ → ℕ → Line
-inField l k matched = record { field = k; matched = matched; behind = l .behind; whole = l .whole }
+inField l k matched = record { field = k; matched = matched; tabs = l .tabs; behind = l .behind; whole = l .whole }
+
+-- with n tabs so far
+abbrev pub tabbed : Line → ℕ → Line
+tabbed l n = record { field = l .field; matched = l .matched; tabs = n; behind = l .behind; whole = l .whole }
+
+-- with one tab more, as a word of 64 bits counts them
+abbrev pub counted : Line → Line
+counted l = tabbed l ((l .tabs + 1) % 2 ^ 64)
 
 -- by what a byte does
 abbrev pub acted : List ℕ → Line → ℕ → List ℕ → Act → Shortened
 acted name l b d Skip = record { line = l; buffer = d }
 acted name l b d Keep = putting l b d
 acted name l b d Name = record { line = inField l (l .field) (goOn name (l .matched) b); buffer = d }
-acted name l b d Next = putting (inField l (l .field + 1) (l .matched)) b d
+acted name l b d Next = putting (inField (counted l) (l .field + 1) (l .matched)) b d
+acted name l b d Count = record { line = counted l; buffer = d }
 acted name l b d Comment = record { line = inField l 8 (l .matched); buffer = d }
 
 -- after one byte more

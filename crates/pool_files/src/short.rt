@@ -1,7 +1,8 @@
 // A line of a variant file in short: what is asked of a record stands in its first eight fields, and of these only in POS, REF and ALT,
 // once CHROM is known to be the chromosome's name. So a line of any length, of many samples or long annotations, is kept as a tab, POS,
-// two tabs, REF, a tab, ALT and three tabs: a record of eight fields, with an empty CHROM, that states the same. The file is read in
-// pieces of any size, and a piece may end anywhere.
+// two tabs, REF, a tab, ALT and three tabs: a record of eight fields, with an empty CHROM, that states the same. Of a line that begins
+// with # all is kept but that # and tabs, as far as there is room. Every tab is counted. The file is read in pieces of any size, and a
+// piece may end anywhere.
 use crate::word::go_on;
 ghost use mathlib.Core.Path.{_≡_};
 ghost use mathlib.Core.Bool.{_&&_, not};
@@ -15,6 +16,8 @@ pub struct Line {
     pub field: usize,
     // How many bytes of CHROM are the name's first.
     pub matched: usize,
+    // How many tabs it has so far.
+    pub tabs: usize,
     // The place after what is put, and whether all had room.
     pub behind: usize,
     pub whole: bool,
@@ -26,10 +29,11 @@ pub enum Act {
     Keep,
     Name,
     Next,
+    Count,
     Comment,
 }
 
-// Whether the bytes of a field are kept: POS, REF and ALT.
+// Whether the bytes of a field are kept: POS, REF and ALT, and what stands after a #.
 fn keeps(field: usize) -> bool
     ensures { λ r. ⌜ r ≡ keeps field ⌝ }
 {
@@ -39,7 +43,10 @@ fn keeps(field: usize) -> bool
     if field == 3 {
         return true;
     }
-    field == 4
+    if field == 4 {
+        return true;
+    }
+    field == 8
 }
 
 // Whether a byte is a # that comes first.
@@ -52,7 +59,7 @@ fn begins_comment(matched: usize, byte: u8) -> bool
     false
 }
 
-// CHROM is compared, unless a # comes first; POS, REF and ALT are kept, and so are tabs up to the eighth field.
+// CHROM is compared, unless a # comes first; POS, REF and ALT are kept, and so are tabs up to the eighth field; later ones are counted.
 fn act_of(field: usize, matched: usize, byte: u8) -> Act
     ensures { λ r. ⌜ r ≡ actOf field matched byte ⌝ }
 {
@@ -60,7 +67,7 @@ fn act_of(field: usize, matched: usize, byte: u8) -> Act
         if field < 7 {
             return Act::Next;
         }
-        return Act::Skip;
+        return Act::Count;
     }
     if field == 0 {
         if begins_comment(matched, byte) {
@@ -82,6 +89,7 @@ impl Line {
         Line {
             field: 0,
             matched: 0,
+            tabs: 0,
             behind: place,
             whole: true,
         }
@@ -119,7 +127,12 @@ impl Line {
             }
             Act::Next => {
                 next.field = field + 1;
+                next.tabs = std::num::wrapping_add_usize(self.tabs, 1);
                 next.put(byte, &mut *short)
+            }
+            Act::Count => {
+                next.tabs = std::num::wrapping_add_usize(self.tabs, 1);
+                next
             }
             Act::Comment => {
                 next.field = 8;

@@ -5,8 +5,8 @@ use lines::put_bytes;
 use lines::put_number;
 use text::Refusal;
 ghost use Rattle.lines.specs.Puts.{Put};
-ghost use Rattle.desk_verdict.specs.Said.{counted, named, hitLine, standingLine, refusedLine, unreadLine};
-ghost use Rattle.desk_verdict.specs.Said.{lastLine, doneLine, faultWords, Fits};
+ghost use Rattle.desk_verdict.specs.Said.{counted, named, hitLine, standingLine, refusedLine};
+ghost use Rattle.desk_verdict.specs.Said.{doneLine, faultWords, Fits};
 
 // A word and a number.
 fn put_counted(word: &[u8], number: u64, out: &mut [u8], at: usize) -> usize
@@ -17,7 +17,7 @@ fn put_counted(word: &[u8], number: u64, out: &mut [u8], at: usize) -> usize
 }
 
 // A word, a file's name, and the line's end.
-fn put_named(word: &[u8], name: &[u8], out: &mut [u8], at: usize) -> usize
+pub fn put_named(word: &[u8], name: &[u8], out: &mut [u8], at: usize) -> usize
     ensures { λ r. ⌜ Put (now (out .entry)) at (named (now (word .entry)) (now (name .entry))) (now (out .exit)) r ⌝ }
 {
     let next = put_bytes(word, &mut *out, at);
@@ -61,14 +61,6 @@ pub fn put_refused(wrong: Refusal, name: &[u8], out: &mut [u8]) -> usize
     put_named(b" in ", name, &mut *out, two)
 }
 
-// A file that could not be read.
-pub fn put_unread(name: &[u8], out: &mut [u8]) -> usize
-    ensures { λ r. ⌜ Put (now (out .entry)) 0 (unreadLine (now (name .entry))) (now (out .exit)) r ⌝ }
-    ensures { λ r. ⌜ Fits r (now (out .exit)) ⌝ }
-{
-    put_named(b"unread ", name, &mut *out, 0)
-}
-
 // How many of the files are done.
 pub fn put_done(done: u64, all: u64, out: &mut [u8]) -> usize
     ensures { λ r. ⌜ Put (now (out .entry)) 0 (doneLine done all) (now (out .exit)) r ⌝ }
@@ -86,18 +78,4 @@ pub fn put_fault(line: u64, out: &mut [u8]) -> usize
 {
     let one = put_counted(b"line ", line, &mut *out, 0);
     put_bytes(b" of the list: ", &mut *out, one)
-}
-
-// The last line: whether the text may go out. It may if every file was read and accepted, and none of the sequences ends.
-pub fn put_last(whole: bool, ends: u64, out: &mut [u8]) -> usize
-    ensures { λ r. ⌜ Put (now (out .entry)) 0 (lastLine whole ends) (now (out .exit)) r ⌝ }
-    ensures { λ r. ⌜ Fits r (now (out .exit)) ⌝ }
-{
-    if !whole {
-        return put_bytes(b"held\n", &mut *out, 0);
-    }
-    if ends != 0 {
-        return put_bytes(b"held\n", &mut *out, 0);
-    }
-    put_bytes(b"clear\n", &mut *out, 0)
 }

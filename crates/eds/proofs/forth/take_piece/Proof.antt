@@ -1,5 +1,6 @@
 -- `eds::forth::take_piece` is safe and ends.
 -- The loop's invariant: the buffers are as long as they were. The measure is the number of turns left.
+use native.Mathlib.Omega.{arith}
 use mathlib.Core.Path.{_≡_, refl, _∙_}
 use lib.ListN.{length}
 use borrow.Author.Needs.{needs}
@@ -7,59 +8,34 @@ use Rattle.eds.proofs.forth.take_piece.Statement.{statement}
 use Rattle.eds.proofs.forth.take_piece.Tie as tie
 
 abbrev Inv-loop : tie.InvT-loop
-Inv-loop name piece letters₀ lengths₀ counts₀ held₀ from₀ turns₀ letters lengths counts held from turns =
+Inv-loop name piece letters₀ lengths₀ counts₀ lines₀ held₀ turns₀ letters lengths counts lines held turns =
     (length letters ≡ length letters₀) × (length lengths ≡ length lengths₀) × (length counts ≡ length counts₀)
+    × (length lines ≡ length lines₀)
 
 abbrev μ-loop : tie.MeasureT-loop
-μ-loop name piece letters₀ lengths₀ counts₀ held₀ from₀ turns₀ letters lengths counts held from turns = turns
+μ-loop name piece letters₀ lengths₀ counts₀ lines₀ held₀ turns₀ letters lengths counts lines held turns = turns
 
 loop-holds : tie.Need-loop-holds Inv-loop μ-loop
-loop-holds c = (refl, refl, refl)
+loop-holds c = (refl, refl, refl, refl)
 
 same-length : tie.Need-same-length Inv-loop μ-loop
-same-length c =
-    let p = c .before .before .before .before .before .before .before .before .before in
-    p .turn .kept .1 .1 .1 .1 .0 ∙ p .before .before .before .before .before .loop .inv .0
+same-length c = c .before .before .before .loop .inv .0
 
 same-length-2 : tie.Need-same-length-2 Inv-loop μ-loop
-same-length-2 c =
-    let p = c .before .before .before .before .before .before .before .before .before in
-    p .turn .kept .1 .1 .1 .1 .1 .0 ∙ p .before .before .before .before .before .loop .inv .1
+same-length-2 c = c .before .before .before .loop .inv .1
 
 same-length-3 : tie.Need-same-length-3 Inv-loop μ-loop
-same-length-3 c =
-    let p = c .before .before .before .before .before .before .before .before .before in
-    p .turn .kept .1 .1 .1 .1 .1 .1 .0 ∙ p .before .before .before .before .before .loop .inv .2
+same-length-3 c = c .before .before .before .loop .inv .2
 
 same-length-4 : tie.Need-same-length-4 Inv-loop μ-loop
-same-length-4 c =
-    let p = c .before .before .before .before .before .before .before .before in
-    p .turn .kept .1 .1 .1 .1 .0 ∙ p .before .before .before .before .before .loop .inv .0
-
-same-length-5 : tie.Need-same-length-5 Inv-loop μ-loop
-same-length-5 c =
-    let p = c .before .before .before .before .before .before .before .before in
-    p .turn .kept .1 .1 .1 .1 .1 .0 ∙ p .before .before .before .before .before .loop .inv .1
-
-same-length-6 : tie.Need-same-length-6 Inv-loop μ-loop
-same-length-6 c =
-    let p = c .before .before .before .before .before .before .before .before in
-    p .turn .kept .1 .1 .1 .1 .1 .1 .0 ∙ p .before .before .before .before .before .loop .inv .2
-
-same-length-7 : tie.Need-same-length-7 Inv-loop μ-loop
-same-length-7 c = c .before .loop .inv .0
-
-same-length-8 : tie.Need-same-length-8 Inv-loop μ-loop
-same-length-8 c = c .before .loop .inv .1
-
-same-length-9 : tie.Need-same-length-9 Inv-loop μ-loop
-same-length-9 c = c .before .loop .inv .2
+same-length-4 c = c .before .before .before .loop .inv .3
 
 loop-again : tie.Need-loop-again Inv-loop μ-loop
 loop-again c =
-    let p = c .before .before .before .before .before .before .before .before .before in
-    let i = p .before .before .before .before .before .loop .inv in
-    (p .turn .kept .1 .1 .1 .1 .0 ∙ i .0, p .turn .kept .1 .1 .1 .1 .1 .0 ∙ i .1, p .turn .kept .1 .1 .1 .1 .1 .1 .0 ∙ i .2)
+    let t = c .before .before .before .before .before .before .before .before in
+    let i = t .before .before .before .before .before .before .before .before .loop .inv in
+    let k = t .turn .kept .1 .1 .1 in
+    (k .0 ∙ i .0, k .1 .0 ∙ i .1, k .1 .1 .0 ∙ i .2, k .1 .1 .1 .0 ∙ i .3)
 
 pub take-piece-spec : {M : Type 1} → statement M
 take-piece-spec =
@@ -67,23 +43,20 @@ take-piece-spec =
     (tie.spec
     Inv-loop
     μ-loop
-    loop-holds
     (λ c κs. search needs)
-    (λ c. search needs)
+    (λ c κs. search needs)
+    loop-holds
     same-length
     same-length-2
     same-length-3
-    (λ c. search needs)
-    (λ c. search needs)
     same-length-4
-    same-length-5
-    same-length-6
     (λ c. search needs)
-    (λ c. search needs)
+    (λ c κs. search needs)
     (λ c. search needs)
     (λ c. search needs)
     loop-again
-    same-length-7
-    same-length-8
-    same-length-9
+    (λ c. c .before .loop .inv .0)
+    (λ c. c .before .loop .inv .1)
+    (λ c. c .before .loop .inv .2)
+    (λ c. c .before .loop .inv .3)
     (λ c. search needs))

@@ -2,9 +2,9 @@
 use native.Mathlib.Omega.{arith}
 use mathlib.Core.Path.{sym, ap, _∙_}
 use borrow.Author.Needs.{needs}
-use Rattle.pool_files.specs.Short.{inField}
-use Rattle.pool_files.specs.declared.short.Act.the-variants.{Skip, Keep, Name, Next, Comment}
-use Rattle.pool_files.proofs.Shorts.{next-small, over-line, over-buffer}
+use Rattle.pool_files.specs.Short.{inField, tabbed}
+use Rattle.pool_files.specs.declared.short.Act.the-variants.{Skip, Keep, Name, Next, Count, Comment}
+use Rattle.pool_files.proofs.Shorts.{next-small, over-line, over-buffer, next-line, next-buffer}
 use Rattle.pool_files.proofs.short.Line.over.Statement.{statement}
 use Rattle.pool_files.proofs.short.Line.over.Tie as tie
 
@@ -32,12 +32,21 @@ returns-3 c =
 returns-4 : tie.Need-returns-4
 returns-4 c =
     let p = c .before .before in
-    let e = sym (p .before .before .before .before .act-of .ensures) ∙ p .before .before .enum-told4 .given .1 in
-    (p .put2 .ensures .0 ∙ over-line _ _ _ _ Next e, p .put2 .ensures .1 ∙ over-buffer _ _ _ _ Next e)
+    let w = p .before .before in
+    let e = sym (w .before .before .before .act-of .ensures) ∙ w .before .enum-told4 .given .1 in
+    let n = w .wrapping-add-usize .ensures in
+    (p .put2 .ensures .0 ∙ next-line _ _ _ _ e n, p .put2 .ensures .1 ∙ next-buffer _ _ _ _ e n)
 
 returns-5 : tie.Need-returns-5
 returns-5 c =
-    let e = sym (c .before .before .act-of .ensures) ∙ c .enum-told5 .given .1 in
+    let a = c .before .before .before in
+    let e = sym (a .act-of .ensures) ∙ c .before .enum-told5 .given .1 in
+    let s = a .before .before .before .args .self in
+    (ap (tabbed s) (c .wrapping-add-usize2 .ensures) ∙ over-line _ _ _ _ Count e, over-buffer _ _ _ _ Count e)
+
+returns-6 : tie.Need-returns-6
+returns-6 c =
+    let e = sym (c .before .before .act-of .ensures) ∙ c .enum-told6 .given .1 in
     (over-line _ _ _ _ Comment e, over-buffer _ _ _ _ Comment e)
 
 pub over-spec : {M : Type 1} → statement M
@@ -53,6 +62,9 @@ over-spec =
     (λ c. search needs)
     add-next
     (λ c κs. search needs)
+    (λ c κs. search needs)
+    (λ c. search needs)
+    (λ c κs. search needs)
     (λ c. search needs)
     returns
     (λ c. search needs)
@@ -60,4 +72,5 @@ over-spec =
     returns-3
     (λ c. search needs)
     returns-4
-    returns-5)
+    returns-5
+    returns-6)

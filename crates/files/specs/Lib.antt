@@ -1,0 +1,2 @@
+-- What is known of bytes that were read.
+pub mod Reads

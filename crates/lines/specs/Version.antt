@@ -1,0 +1,7 @@
+-- Which version of the programs speaks.
+use Prim.Native.Nat.{ℕ}
+use mathlib.Core.List.{List, [], _∷_}
+
+-- `cerantuh 0.9.0`
+abbrev pub version : List ℕ
+version = 0x63 ∷ 0x65 ∷ 0x72 ∷ 0x61 ∷ 0x6E ∷ 0x74 ∷ 0x75 ∷ 0x68 ∷ 0x20 ∷ 0x30 ∷ 0x2E ∷ 0x39 ∷ 0x2E ∷ 0x30 ∷ []
