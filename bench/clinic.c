@@ -35,7 +35,7 @@ static void reference(struct random *random, const struct clinic *clinic, size_t
 }
 
 /* Nine of ten records are of one letter each; the others put in letters or take them away after the first. One of 25 has a second
-   alternate. Returns the position behind it. */
+   alternate. Returns the position after it. */
 static size_t record(struct random *random, struct clinic *clinic, size_t position, int genotypes)
 {
     char ref[LONGEST_ALLELE + 1], alt[LONGEST_ALLELE + 1], more[LONGEST_ALLELE + 3] = "";
@@ -146,7 +146,7 @@ void clinic_damage(struct random *random, struct clinic *clinic)
     case 5: damage_byte_of(random, clinic->name, clinic->name_len); break;
     case 6: damage_lines(random, clinic); break;
     case 7: damage_alternates(random, clinic); break;
-    case 8: add(clinic, "chr1\t%zu\t.\tA\tC\t.\t.\t", 2147483646 + random_below(random, 3)); break; /* no line feed behind it */
+    case 8: add(clinic, "chr1\t%zu\t.\tA\tC\t.\t.\t", 2147483646 + random_below(random, 3)); break; /* no line feed after it */
     default: damage_byte_of(random, clinic->file, clinic->len); break;
     }
 }

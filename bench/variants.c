@@ -18,7 +18,7 @@ struct record {
 };
 
 /* The text so far: what it needs, the number of its first repeated variant, how far it reaches in the window, and the lines from the
-   first to behind the last whose records are in the window. */
+   first to after the last whose records are in the window. */
 struct tally {
     size_t bytes, segments, variants, repeated, base;
     const uint8_t *start, *stop;

@@ -45,7 +45,7 @@ extern "C" {
 
 /* The refusals. The first that applies is given, in this order: 1, 2, 3, 4, 17 from the forms that take a state, then 5
    to 8 in the order of the bytes (of one variant 5, then 7, then 8), 9, 16, and 10 last. Where a first hit was found, none of 5 to 9 and
-   16 is given, whatever stands behind it. */
+   16 is given, whatever stands after it. */
 enum cerantuh_refusal {
     CERANTUH_ACCEPTED = 0,
     CERANTUH_PATTERN_EMPTY = 1,
@@ -114,7 +114,7 @@ uint64_t cerantuh_search_either(const uint8_t *pattern, size_t pattern_len, cons
    block    lent for the results, 32 bytes: result 0 is the segment count, 1 the size, 2 the number of segments marked 1, all of
             this stretch, and 3 the next state; bytes from 32 on stay
 
-   A refused call gives no state, and without one the stretches behind cannot be searched: such a text is not known to be clear. */
+   A refused call gives no state, and without one the stretches after it cannot be searched: such a text is not known to be clear. */
 uint64_t cerantuh_search_from(const uint8_t *pattern, size_t pattern_len, uint64_t state, const uint8_t *stretch,
                               size_t stretch_len, uint8_t *marks, size_t marks_len, uint8_t *block, size_t block_len);
 

@@ -1,4 +1,4 @@
-# What the toolchain makes of the crates, how to run it here, and packages. Sourced from the top folder.
+# How programs are built and run here, packages, and refusals in words. Sourced from the top folder.
 top_folder=$PWD
 
 # The toolchain's folder with its compiler, the loader that programs run with and, on Arm, an emulator.
@@ -11,9 +11,8 @@ is_new() {
     [ -f "$1" ] && [ -z "$(find crates crates.txt -type f -newer "$1")" ]
 }
 
-# What programs run with: a copy for this kind of machine, since a program that is built is to run without the toolchain too.
-# Programs are for x86-64, and Arm needs the emulator. Each file takes its place whole, since another call may be starting a program
-# at this moment, and the loader is the last: where it is, all are.
+# What programs run with: a copy for this kind of machine, since a program that is built runs without the toolchain too. Arm needs the
+# emulator. Each file takes its place whole, since another call may be starting a program, and the loader last: where it is, all are.
 runtime=target/run/$(uname -m)
 keep_runtime() {
     tools=$(toolchain) && mkdir -p "$runtime" || return 1
@@ -65,6 +64,7 @@ help_or_version() {
 }
 
 # Ends what rt has started, all of it, and then the script. rt starts provers that a Ctrl-C does not reach, so it has a group of its own.
+prover=''
 end_prover() {
     trap '' HUP INT TERM
     [ -z "$prover" ] || kill -- "-$prover" 2>/dev/null || kill "$prover" 2>/dev/null
@@ -74,32 +74,19 @@ end_prover() {
     exit 2
 }
 
-# Shows those lines of a log in which rt speaks, as they come, until it has ended.
-show_prover() {
-    part=''
-    while :; do
-        ended=1
-        kill -0 "$prover" 2>/dev/null && ended=0
-        while IFS= read -r line || { part=$part$line && false; }; do
-            case $part$line in 'rt: '*) printf '%s\n' "$part$line" >&2 ;; esac
-            part=''
-        done
-        [ $ended = 0 ] || break
-        sleep 1
-    done <"$1"
-}
-
-# Proves and builds a program by rt, whose whole output goes to a log.
+# Proves and builds a program by rt, whose whole output goes to a log; the lines in which rt speaks are shown as they come. The shell
+# waits, and waits alone: a signal ends a wait, and no command.
 check_program() {
     : >"$2"
-    prover=''
     trap end_prover HUP INT TERM
     # shellcheck disable=SC2046
     $(command -v setsid) rt check "$1" >"$2" 2>&1 </dev/null &
     prover=$!
-    show_prover "$2"
+    tail -n +1 -s 0.5 --pid="$prover" -f "$2" | sed -un '/^rt: /p' >&2 &
     wait "$prover"
     checked=$?
+    wait
+    prover=''
     trap 'end_child; exit 2' HUP INT TERM
     [ $checked = 0 ] && [ -x "target/bin/$1" ]
 }
@@ -127,8 +114,7 @@ put_back() {
     [ ! -d target/kept ] || { rm -rf target/bin && mv target/kept target/bin; }
 }
 
-# Proves and builds a program. What an earlier run has left half built is built again, from nothing if need be; where that fails too, what
-# was built before stays.
+# Proves and builds a program, from nothing where an earlier run left it half built; where that fails too, what was built before stays.
 build_program() {
     made=target/$1.done log=target/$1.log
     echo "The program $1 is being proved and built: some minutes on the first call, nothing on later ones." >&2
@@ -164,9 +150,27 @@ prove_program() {
     return $built
 }
 
-# Installs packages, where apt-get and the right to use it are there, and says so before.
+# Installs packages, where apt-get and the right to use it are there, and says so before. Parts of the gate that run side by side take
+# turns: apt-get fails where another one is at work.
 install_packages() {
-    [ "$(id -u)" = 0 ] && command -v apt-get >/dev/null || return 1
+    [ "$(id -u)" = 0 ] && command -v apt-get >/dev/null && command -v flock >/dev/null || return 1
     echo "installing by apt-get, since it is missing here: $*"
-    { apt-get -q update && DEBIAN_FRONTEND=noninteractive apt-get -q install -y "$@"; } >/dev/null 2>&1
+    (flock 7 && apt-get -q update && DEBIAN_FRONTEND=noninteractive apt-get -q install -y "$@") 7>/var/lock/cerantuh >/dev/null 2>&1
+}
+
+# refusal_means NUMBER PLACE: what a refusal of a search means, in words.
+refusal_means() {
+    case $1 in
+    1) echo 'the pattern is empty' ;;
+    2) echo 'the pattern has more than 64 bases' ;;
+    3) echo "the byte at place $2 of the pattern, counted from 0, is no base: it is not A, C, G or T" ;;
+    4) echo 'the stretch has more than 32,768 bytes' ;;
+    5) echo "the stretch ends inside the count or length at place $2, counted from 0, or before the letters that this length states" ;;
+    6) echo "the variant count at place $2 of the stretch, counted from 0, is 0" ;;
+    7) echo "the byte at place $2 of the stretch, counted from 0, is no letter: it is not A, C, G, T or N, in upper or lower case" ;;
+    8) echo "the variant whose length stands at place $2 of the stretch, counted from 0, is equal to an earlier one of its segment" ;;
+    9) echo "the stretch goes on after its last segment, from place $2 on, counted from 0" ;;
+    16) echo 'the stretch has more than 10,922 segments' ;;
+    *) echo 'docs/FORMAT.md has the table of refusals' ;;
+    esac
 }

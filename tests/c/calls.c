@@ -15,7 +15,7 @@ static const char *const form_names[FORMS] = {
     "cerantuh_search_either", "cerantuh_search_from", "cerantuh_search_from_opposite", "cerantuh_first", "cerantuh_first_opposite",
     "cerantuh_feed", "cerantuh_feed_opposite",
 };
-static const char *const placement_names[PLACEMENTS] = {"slices start behind a page", "slices end at a page"};
+static const char *const placement_names[PLACEMENTS] = {"slices start after a page", "slices end at a page"};
 
 /* The call under way, for the line that a fault prints. */
 static struct {

@@ -6,8 +6,8 @@
 #include <stdint.h>
 
 enum placement {
-    BEHIND_A_PAGE, /* the slice starts right behind the unreadable page before the room */
-    BEFORE_A_PAGE, /* the slice ends right at the unreadable page behind the room */
+    BEHIND_A_PAGE, /* the slice starts right after the unreadable page before the room */
+    BEFORE_A_PAGE, /* the slice ends right at the unreadable page after the room */
     PLACEMENTS
 };
 

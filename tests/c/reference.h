@@ -49,7 +49,7 @@ void reference_from(enum strand strand, const uint8_t *pattern, size_t m, uint64
                     size_t marks_len, size_t block_len, struct expected *out);
 
 /* The first hit: 1, 2, 3, 4, 17; then the first of the segments that read whole before the first fault in which an occurrence ends, and
-   the state 0; else that fault's refusal, or NO_HIT and the state behind a sound stretch; 10 last. */
+   the state 0; else that fault's refusal, or NO_HIT and the state after a sound stretch; 10 last. */
 #define NO_HIT 4294967295
 void reference_first(enum strand strand, const uint8_t *pattern, size_t m, uint64_t state, const uint8_t *stretch, size_t len,
                      size_t block_len, struct expected *out);

@@ -132,7 +132,7 @@ static void firsts(void)
     first(5, 3, "AT", 1, HELD, 6, 16);                         /* the segment itself does not read whole */
     first(6, 7, "GC", 1, "\2\0" "\1\2\0AC" "\0", 8, 16);
     first(7, 6, "GC", 1, "\2\0" "\2\2\0AX\0\0" "\1\1\0G", 13, 16);
-    first(7, 9, "AT", 1, "\1\0" "\2\2\0AT\1\0X", 10, 16); /* a fault in the segment of the hit, behind it */
+    first(7, 9, "AT", 1, "\1\0" "\2\2\0AT\1\0X", 10, 16); /* a fault in the segment of the hit, after it */
     first(8, 7, "GC", 1, "\1\0" "\2\2\0AC\2\0AC", 11, 16);
     first(8, 7, "AT", 1, "\1\0" "\2\2\0AT\2\0at", 11, 16);
     first(9, 13, "GC", 1, SOUND "\0", 14, 16);
@@ -141,7 +141,7 @@ static void firsts(void)
     first(10, 0, "AT", 1, HELD, 7, 15);                        /* of a hit too */
     first(10, 0, "AT", 1, HELD, 7, 0);
     first(0, 0, "GC", 1, SOUND, 13, 16);
-    first(0, 0, "AT", 1, HELD, 7, 16);                         /* the bytes end behind the hit: no matter */
+    first(0, 0, "AT", 1, HELD, 7, 16);                         /* the bytes end after the hit: no matter */
     first(0, 0, "AT", 1, HELD "\0", 8, 16);                    /* and what stands there */
     first(0, 0, "AT", 1, HELD "\1\1\0X", 11, 16);
     first(0, 0, "AT", 1, HELD "\2\0\0\0\0", 12, 16);

@@ -1,5 +1,5 @@
 /* Texts of many stretches. A text is cut between segments, and its stretches are searched one after another with the state handed on:
-   their marks, laid end to end, must be the marks of the whole text, and the last state the one behind it. */
+   their marks, laid end to end, must be the marks of the whole text, and the last state the one after it. */
 #include "braces.h"
 #include "groups.h"
 #include "tally.h"
@@ -49,7 +49,7 @@ static void try_cuts(const struct forms *forms, struct pattern pattern, uint64_t
         next = of_part.results[3];
         first = behind;
     }
-    tally_check(next == of_whole.results[3], "the last state is not the one behind the whole text");
+    tally_check(next == of_whole.results[3], "the last state is not the one after the whole text");
     tally_check(size == of_whole.results[1] && ends == of_whole.results[2], "the sums are not those of the whole text");
 }
 
@@ -62,7 +62,7 @@ static void try_hits(const struct forms *forms, struct pattern pattern, uint64_t
     search(forms->first, pattern, state, &whole, &of_whole);
     const uint8_t *mark = memchr(of_other.marks, 1, whole.segment_count);
     tally_check(of_whole.results[0] == (mark == NULL ? NO_HIT : (uint64_t)(mark - of_other.marks)), "the first hit is not the first mark");
-    tally_check(of_whole.results[1] == (mark == NULL ? of_other.results[3] : 0), "the state is not the one behind a clear text, or 0");
+    tally_check(of_whole.results[1] == (mark == NULL ? of_other.results[3] : 0), "the state is not the one after a clear text, or 0");
     for (size_t i = 0, first = 0; i <= count && hit == NO_HIT; i++) {
         size_t behind = i < count ? cuts[i] : whole.segment_count;
         made_part(&whole, first, behind, &part);
@@ -91,7 +91,7 @@ static void try_singles(const struct forms *forms, struct pattern pattern, uint6
         tally_check(of_part.marks[0] == of_other.results[1], "the feed ends otherwise");
         tally_check(of_part.marks[0] == of_whole.marks[j], "a lone segment has not the mark of the whole text");
     }
-    tally_check(next == of_whole.results[3], "the last state is not the one behind the whole text");
+    tally_check(next == of_whole.results[3], "the last state is not the one after the whole text");
 }
 
 /* From the fresh state: what the search of one stretch says. */

@@ -20,7 +20,7 @@ void try_first(const struct call *call);    /* the first hit, on each strand */
 void try_feed(const struct call *call);     /* by each feed */
 
 /* Feeds the segments of a text one by one, the first with the search's state, each other with the state that the one before gave.
-   Tells the state behind each of them and whether an occurrence ends there. */
+   Tells the state after each of them and whether an occurrence ends there. */
 struct fed {
     uint64_t state, ends;
 };

@@ -8,19 +8,19 @@ use lib.Dec.{leb, ltb}
 use lib.ListN.{length}
 use Rattle.text.specs.Letter.{base, every, firstNot}
 use Rattle.text.specs.Text.{Text}
-use Rattle.text.specs.Refusal.{Outcome, ok, refused, after, pattern, greatestPattern}
-use Rattle.text.specs.Card.{Card, dead, ran, cardOf}
+use Rattle.text.specs.Refusal.{Outcome, ok, refused, after, pattern, greatestPattern, SoundPattern}
+use Rattle.text.specs.Card.{Row, Card, dead, row, ran, cardOf}
 use Rattle.text.proofs.Outcomes.{after-met}
-use Rattle.text.proofs.Patterns.{SoundPattern, pattern-sound, pattern-after, sound-pattern}
+use Rattle.text.proofs.Patterns.{pattern-sound, pattern-after, sound-pattern}
+use Rattle.text.proofs.Rows.{rowsOf-from}
 use Rattle.text.proofs.TextCards.{row-text}
 use Rattle.layout.specs.Reading.{stretchOf}
 use Rattle.layout.proofs.Refusals.{stretch-low}
 use Rattle.card.specs.declared.rows.passes.Rows.{Rows}
-use Rattle.card.specs.Held.{Bases}
-use Rattle.card.specs.RowStep.{rowAt}
+use Rattle.card.specs.Held.{rowsIn}
 use Rattle.card.specs.Rows.{carding, rowed}
 use Rattle.card.proofs.Numbers.{Numbered, demand-numbered}
-use Rattle.card.proofs.OfStretches.{held, rowed-held}
+use Rattle.card.proofs.RowsHeld.{rows-out}
 
 module _ (P s : List ℕ) where
   -- a refusal has a number
@@ -65,19 +65,16 @@ module _ (P s : List ℕ) where
 
 -- the rows that are told of a text
 module _ (P s : List ℕ) (T : Text) (sound : SoundPattern P) (e : stretchOf s ≡ ok T) where
-  bases : Bases (length P)
-  bases = record { some = sound .some; short = sound .short }
-
   same : rowed (carding P s) ≡ rowed (ok (cardOf P T))
   same = ap rowed (carded-text P s (record { sound = sound; text = T; read = e }))
 
-  pub told-row : (q : ℕ) → q < length P → rowAt (rowed (carding P s) .exits) (rowed (carding P s) .firsts) q ≡ ran P (2 ^ q) T
-  told-row q l =
-      let small : q < greatestPattern = omega (arith, bases .short) in
-      ap (λ (r : Rows). rowAt (r .exits) (r .firsts) q) same
-      ∙ held P T bases q small
-      ∙ row-text P T (bases .some) (bases .short) q l
+  held : (q : ℕ) → let r : Rows = rowed (carding P s) in row (rowsIn (r .exits) (r .firsts)) q ≡ row (cardOf P T .rows) q
+  held q =
+      ap (λ (r : Rows). row (rowsIn (r .exits) (r .firsts)) q) same ∙ ap (λ (rows : List Row). row rows q) (rows-out (cardOf P T .rows))
 
-  pub told-idle : (q : ℕ) → length P ≤ q → q < greatestPattern
-      → rowAt (rowed (carding P s) .exits) (rowed (carding P s) .firsts) q ≡ dead
-  told-idle q far l = ap (λ (r : Rows). rowAt (r .exits) (r .firsts) q) same ∙ rowed-held P T bases .idle q far l
+  pub told-row : (q : ℕ) → q < length P → let r : Rows = rowed (carding P s) in row (rowsIn (r .exits) (r .firsts)) q ≡ ran P (2 ^ q) T
+  told-row q l = held q ∙ row-text P T (sound .some) (sound .short) q l
+
+  pub told-idle : (q : ℕ) → length P ≤ q → let r : Rows = rowed (carding P s) in row (rowsIn (r .exits) (r .firsts)) q ≡ dead
+  unfolding cardOf
+  told-idle q far = held q ∙ rowsOf-from (length P) (λ q. ran P (2 ^ q) T) q far

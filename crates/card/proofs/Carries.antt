@@ -13,6 +13,7 @@ use lib.Dec.{eqb, lit<}
 use lib.ListN.{length, getD, take}
 use lib.Pow.{pow-pos, pow-lt, pow-mono}
 use lib.Seq.{take-suc, take-length}
+use Rattle.text.proofs.Snoc.{_▸_}
 use Rattle.text.specs.Letter.{raised, meant}
 use Rattle.text.specs.Bits.{bit, low}
 use Rattle.text.specs.State.{next, endsAt}
@@ -20,7 +21,6 @@ use Rattle.text.proofs.Truth.{and-assoc, and-false}
 use Rattle.text.proofs.Bits.{bit-ext, bit-half, bit-above, bit-zero, bit-and, bit-shl, bit-shl-below, bit-mod, bit-mod-above}
 use Rattle.text.proofs.States.{low-ones}
 use Rattle.text.proofs.Likes.{meant-length, meant-at}
-use Rattle.text.proofs.Snoc.{_▸_}
 use Rattle.text.proofs.Steps.{next-open, next-lt}
 use Rattle.text.proofs.Scan.{empty-state, empty-ends, scan-state, scan-ends}
 use Rattle.card.specs.RowStep.{Within, meets, Alive, Moves}

@@ -13,12 +13,12 @@ use lib.Seq.{drop-cons, length-take-le}
 use Rattle.text.specs.Letter.{base, every}
 use Rattle.text.specs.Compare.{same}
 use Rattle.text.specs.Bits.{low}
-use Rattle.text.specs.Refusal.{ok, refused, pattern}
-use Rattle.text.specs.Card.{none, mostSegments, dead, padded, isRow, areRows, wellFormed}
+use Rattle.text.specs.Refusal.{ok, refused, pattern, SoundPattern}
+use Rattle.text.specs.Card.{Row, none, mostSegments, dead, padded, isRow, areRows, wellFormed}
 use Rattle.text.proofs.Truth.{and-true, and-false, and-assoc, not-true-false}
 use Rattle.text.proofs.Tests.{and-test, lt-test, le-test, same-test}
 use Rattle.text.proofs.Outcomes.{refused-ok}
-use Rattle.text.proofs.Patterns.{SoundPattern, sound-pattern}
+use Rattle.text.proofs.Patterns.{sound-pattern}
 use Rattle.text.proofs.Bits.{bit-first}
 use Rattle.text.proofs.States.{within-low}
 use Rattle.card.specs.declared.cards.Card.{Card as Held}
@@ -38,44 +38,44 @@ unfolding isRow
 row-idle m n q exit first l = rw (le-ltb q m l)
 
 -- `sound` is the test of the rows from b up to q, of those from b up to e
-pub record Tested (m n : ℕ) (es fs : List ℕ) (b e q : ℕ) (sound : Bool) : Type 0 where
-  pub test : IsTest m n es fs b q sound
+pub record Tested (m n : ℕ) (rows : List Row) (b e q : ℕ) (sound : Bool) : Type 0 where
+  pub test : IsTest m n rows b q sound
   pub past : b ≤ q
   pub inside : q ≤ e
 
-pub tested-none : (m n : ℕ) (es fs : List ℕ) (b e : ℕ) → b ≤ e → Tested m n es fs b e b true
-tested-none m n es fs b e l = record { test = refl; past = omega arith; inside = l }
+pub tested-none : (m n : ℕ) (rows : List Row) (b e : ℕ) → b ≤ e → Tested m n rows b e b true
+tested-none m n rows b e l = record { test = refl; past = omega arith; inside = l }
 
 module _ (m n : ℕ) (es fs : List ℕ) (full : Full es fs) where
-  this : (q : ℕ) → q < 64 → rowsFrom m n es fs q ≡ (isRow m n q (rowOf (getD es q 0) (getD fs q 0)) && rowsFrom m n es fs (q + 1))
+  this : (q : ℕ) → q < 64
+      → rowsFrom m n (rowsIn es fs) q ≡ (isRow m n q (rowOf (getD es q 0) (getD fs q 0)) && rowsFrom m n (rowsIn es fs) (q + 1))
   unfolding areRows
   this q l =
       let inside : q < length (rowsIn es fs) = omega (arith, rows-length full) in
       rw (add-one, drop-cons (rowsIn es fs) q dead inside, rows-row full q l)
 
-  pub tested-more : (b e q : ℕ) (sound right : Bool) → Tested m n es fs b e q sound → e ≤ 64 → q < e
+  pub tested-more : (b e q : ℕ) (sound right : Bool) → Tested m n (rowsIn es fs) b e q sound → e ≤ 64 → q < e
       → right ≡ isRow m n q (rowOf (getD es q 0) (getD fs q 0))
-      → Tested m n es fs b e (q + 1) (sound && right)
+      → Tested m n (rowsIn es fs) b e (q + 1) (sound && right)
   tested-more b e q sound right h short l r =
-      let next : rowsFrom m n es fs q ≡ (right && rowsFrom m n es fs (q + 1)) = rw r (this q (omega arith)) in
-      let rest = rowsFrom m n es fs (q + 1) in
+      let rest = rowsFrom m n (rowsIn es fs) (q + 1) in
+      let next : rowsFrom m n (rowsIn es fs) q ≡ (right && rest) = rw r (this q (omega arith)) in
       let test = h .test ∙ ap (λ (x : Bool). sound && x) next ∙ sym (and-assoc sound right rest) in
       record { test = test; past = omega arith; inside = omega arith }
 
   -- the rows below m and those from m up are all rows: after the last there is none
-  pub tested-both : (below behind : Bool) → IsTest m n es fs 0 m below → IsTest m n es fs m 64 behind
+  pub tested-both : (below behind : Bool) → IsTest m n (rowsIn es fs) 0 m below → IsTest m n (rowsIn es fs) m 64 behind
       → (below && behind) ≡ areRows m n 0 (rowsIn es fs)
   unfolding areRows
   tested-both below behind h k =
       let past : length (rowsIn es fs) ≤ 64 = omega (arith, rows-length full) in
-      let last : (behind && rowsFrom m n es fs 64) ≡ behind = rw (drop-of-length-le (rowsIn es fs) past) (and-true behind) in
+      let last : (behind && rowsFrom m n (rowsIn es fs) 64) ≡ behind = rw (drop-of-length-le (rowsIn es fs) past) (and-true behind) in
       sym (h ∙ ap (λ (x : Bool). below && x) (k ∙ last))
 
-pub tested-all : (m n : ℕ) (es fs : List ℕ) (b e q : ℕ) (sound : Bool) → Tested m n es fs b e q sound → e ≤ q
-    → IsTest m n es fs b e sound
-tested-all m n es fs b e q sound h l =
+pub tested-all : (m n : ℕ) (rows : List Row) (b e q : ℕ) (sound : Bool) → Tested m n rows b e q sound → e ≤ q → IsTest m n rows b e sound
+tested-all m n rows b e q sound h l =
     let end : q ≡ e = omega (arith, h .inside) in
-    subst (λ (x : ℕ). IsTest m n es fs b x sound) end (h .test)
+    subst (λ (x : ℕ). IsTest m n rows b x sound) end (h .test)
 
 module _ (bytes : List ℕ) (m : ℕ) (full : length bytes ≡ 64) (short : m ≤ 64) where
   pub head-long : m ≡ length (take m bytes)

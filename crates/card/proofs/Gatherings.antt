@@ -8,10 +8,9 @@ use mathlib.Core.List.{List, [], _∷_, _++_, append-assoc, append-nil}
 use lib.ListN.{length, length-append}
 use Rattle.text.specs.Text.{Text}
 use Rattle.text.specs.State.{isState, run, marksFrom}
-use Rattle.text.specs.Refusal.{Outcome, ok, after}
+use Rattle.text.specs.Refusal.{Outcome, ok, after, SoundPattern}
 use Rattle.text.specs.Card.{Card, mostSegments, ran, cardOf, firstEnd}
 use Rattle.text.specs.Strand.{onStrand}
-use Rattle.text.proofs.Patterns.{SoundPattern}
 use Rattle.text.proofs.Outcomes.{ok-inj, after-met}
 use Rattle.text.proofs.Strands.{strand-length, strand-sound}
 use Rattle.text.proofs.TextCards.{empty-text}

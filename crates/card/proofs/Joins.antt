@@ -6,7 +6,7 @@ use native.Mathlib.Omega.{arith}
 use mathlib.Core.Path.{_≡_, refl, sym, ap, _∙_}
 use mathlib.Core.Logic.{by-cases}
 use mathlib.Core.List.{List, [], _∷_, map}
-use lib.ListN.{length, getD, set, length-set, length-map}
+use lib.ListN.{length, getD, set, length-map}
 use lib.Pow.{pow-pos}
 use Rattle.text.specs.Refusal.{ok}
 use Rattle.text.specs.Card.{Row, Card, row, later, follow, onward, through, joined, join}
@@ -16,7 +16,7 @@ use Rattle.text.proofs.Cards.Joined.{Joinable, join-met}
 use Rattle.card.specs.declared.cards.Card.{Card as Held}
 use Rattle.card.specs.Held.{rowOf, rowsIn, exitsOf, firstsOf, Full}
 use Rattle.card.specs.Cards.{cardIn, cardOut}
-use Rattle.card.proofs.RowsHeld.{rows-set, exits-in, firsts-in, even, rows-length, rows-row}
+use Rattle.card.proofs.RowsHeld.{rows-set, exits-in, firsts-in, even, full-set, rows-length, rows-row}
 use Rattle.card.proofs.Follows.{follow-short}
 
 -- f applied to the rows from row k on
@@ -57,7 +57,7 @@ module _ (f : Row → Row) where
         let inside : q < length (rowsIn es fs) = omega (arith, rows-length (h .full)) in
         let here : rowOf exit first ≡ f (row (rowsIn es fs) q) = e ∙ ap f (sym (rows-row (h .full) q l)) in
         record {
-          full = record { states = length-set es q exit ∙ h .full .states; ends = length-set fs q first ∙ h .full .ends };
+          full = full-set (h .full) q exit first;
           inside = omega arith;
           rest = h .rest ∙ sym (rw (add-one, rows-set es fs q exit first (even (h .full)), here) (from-one f (rowsIn es fs) q inside));
         }

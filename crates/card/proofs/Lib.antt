@@ -10,7 +10,6 @@ pub mod RowWalks
 pub mod OfStretches
 pub mod Numbers
 pub mod Carded
-pub mod RowsTheorems
 pub mod Tests
 pub mod Held
 pub mod Gathered

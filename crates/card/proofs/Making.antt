@@ -3,11 +3,10 @@ use Prim.Native.Nat.{ℕ}
 use mathlib.Core.Path.{_≡_, sym, ap, ap₂, _∙_}
 use mathlib.Core.List.{List}
 use lib.ListN.{length, take, replicate}
-use Rattle.text.specs.Refusal.{Outcome, ok, refused}
+use Rattle.text.specs.Refusal.{Outcome, ok, refused, SoundPattern}
 use Rattle.text.specs.Strand.{onStrand, readOn}
 use Rattle.text.specs.Card.{Card, none, padded, cardOf, emptyCard}
 use Rattle.text.specs.declared.strand.Strand.{Strand}
-use Rattle.text.proofs.Patterns.{SoundPattern}
 use Rattle.text.proofs.Strands.{strand-length, read-padded}
 use Rattle.search.proofs.ReadOns.{read-is}
 use Rattle.card.specs.declared.rows.passes.Rows.{Rows}

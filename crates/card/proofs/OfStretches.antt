@@ -7,14 +7,14 @@ use mathlib.Core.Logic.{by-cases}
 use mathlib.Core.List.{List, [], _++_}
 use borrow.Author.Tests.{le-leb}
 use lib.Dec.{leb}
-use lib.ListN.{length, take, drop, set, replicate, length-set, length-take, length-map}
+use lib.ListN.{length, take, drop, set, replicate, length-set, length-take}
 use lib.Seq.{ext-getD, getD-set-same, getD-set-other, take-append-seam}
 use Rattle.text.specs.Text.{Text}
 use Rattle.text.specs.State.{fresh, run, marksFrom}
-use Rattle.text.specs.Refusal.{Outcome, ok, refused, demand, after, pattern, greatestPattern}
+use Rattle.text.specs.Refusal.{Outcome, ok, refused, demand, after, pattern, SoundPattern}
 use Rattle.text.specs.Card.{Row, Card, none, dead, row, firstEnd, ran, cardOf, emptyCard}
 use Rattle.text.proofs.Outcomes.{ok-inj, after-met, after-after, told-met, told-refused}
-use Rattle.text.proofs.Patterns.{SoundPattern, pattern-sound, pattern-after}
+use Rattle.text.proofs.Patterns.{pattern-sound, pattern-after}
 use Rattle.text.proofs.Marks.{marks-length}
 use Rattle.text.proofs.Rows.{length-rowsOf, rowsOf-from}
 use Rattle.text.proofs.TextCards.{row-text, empty-text}
@@ -22,82 +22,61 @@ use Rattle.layout.specs.Bytes.{over}
 use Rattle.layout.specs.Pieces.{mostInStretch}
 use Rattle.layout.specs.Reading.{stretchOf}
 use Rattle.layout.specs.Bytes.{leftBy}
+use Rattle.layout.proofs.Frames.{stretch-whole}
 use Rattle.layout.proofs.Stretches.{stretch-most}
 use Rattle.search.specs.Answers.{Seen, seenFrom, into, stretchInto, searching, seeking}
 use Rattle.search.proofs.Searches.{fresh-searching}
 use Rattle.card.specs.declared.rows.passes.Rows.{Rows}
-use Rattle.card.specs.Held.{Bases, Full, rowsIn, exitsOf, firstsOf, lones}
-use Rattle.card.specs.RowStep.{rowAt}
+use Rattle.card.specs.Held.{Bases, Full, rowOf, rowsIn, exitsOf, firstsOf, lones}
 use Rattle.card.specs.Rows.{carding, rowed, Rowed, RowsOf, RowZero, AreOver}
-use Rattle.card.proofs.RowsHeld.{rows-out, exits-in, firsts-in, even, rows-length, rows-row}
+use Rattle.card.proofs.RowsHeld.{rows-out, rows-set, exits-in, firsts-in, even, full-set, rows-length}
 use Rattle.card.proofs.Lones.{exits-lone, firsts-lone}
 
--- the rows of the card of a text, as they are held
-module _ (P : List ℕ) (t : Text) (b : Bases (length P)) where
-  full : Full (exitsOf (cardOf P t .rows)) (firstsOf (cardOf P t .rows))
-  unfolding cardOf
-  full =
-      record {
-        states = length-map (cardOf P t .rows) _ ∙ length-rowsOf (length P) (λ q. ran P (2 ^ q) t);
-        ends = length-map (cardOf P t .rows) _ ∙ length-rowsOf (length P) (λ q. ran P (2 ^ q) t);
-      }
-
-  pub held : (q : ℕ) → q < greatestPattern → rowAt (exitsOf (cardOf P t .rows)) (firstsOf (cardOf P t .rows)) q ≡ row (cardOf P t .rows) q
-  held q l = sym (rows-row full q l) ∙ ap (λ (rows : List Row). row rows q) (rows-out (cardOf P t .rows))
-
-  pub rowed-held : Rowed P t (exitsOf (cardOf P t .rows)) (firstsOf (cardOf P t .rows))
-  unfolding cardOf
-  rowed-held =
-      record {
-        full = full;
-        each = λ q pos l. held q (omega (arith, b .short)) ∙ row-text P t (b .some) (b .short) q l;
-        idle = λ q far l. held q l ∙ rowsOf-from (length P) (λ q. ran P (2 ^ q) t) q far;
-      }
+-- the rows of the card of a text
+rowed-text : (P : List ℕ) (t : Text) → Bases (length P) → Rowed P t (cardOf P t .rows)
+unfolding cardOf
+rowed-text P t b =
+    record { each = λ q pos l. row-text P t (b .some) (b .short) q l; idle = rowsOf-from (length P) (λ q. ran P (2 ^ q) t) }
 
 -- lone exits and no first ends are the rows of no segments
-pub rowed-none : (P : List ℕ) → Bases (length P) → (exits : List ℕ) → exits ≡ lones (length P) → Rowed P [] exits (replicate 64 none)
+pub rowed-none : (P : List ℕ) → Bases (length P) → (exits : List ℕ) → exits ≡ lones (length P)
+    → Rowed P [] (rowsIn exits (replicate 64 none))
 unfolding emptyCard
 rowed-none P b exits e =
-    let none-taken : Rowed P [] (exitsOf (emptyCard P .rows)) (firstsOf (emptyCard P .rows)) =
-    subst (λ (c : Card). Rowed P [] (exitsOf (c .rows)) (firstsOf (c .rows))) (sym (empty-text P)) (rowed-held P [] b) in
-    rw (e, ← exits-lone (length P), ← firsts-lone (length P)) none-taken
+    let none-taken : Rowed P [] (emptyCard P .rows) = subst (λ (c : Card). Rowed P [] (c .rows)) (sym (empty-text P)) (rowed-text P [] b) in
+    rw (e, ← exits-lone (length P), ← firsts-lone (length P), rows-out (emptyCard P .rows)) none-taken
 
 -- rows 1 to m - 1 with row 0 are the card's
-module _ (P : List ℕ) (t : Text) (exits firsts : List ℕ) (w : Rowed P t exits firsts) (b : Bases (length P))
-    (exit first : ℕ) (state : exit ≡ run P fresh t) (end : first ≡ firstEnd (marksFrom P fresh t)) where
-  filled : Full (set exits 0 exit) (set firsts 0 first)
-  filled = record { states = length-set exits 0 exit ∙ w .full .states; ends = length-set firsts 0 first ∙ w .full .ends }
+module _ (P : List ℕ) (t : Text) (exits firsts : List ℕ) (full : Full exits firsts) (w : Rowed P t (rowsIn exits firsts))
+    (b : Bases (length P)) (exit first : ℕ) (zeroth : rowOf exit first ≡ ran P fresh t) where
+  even-set : length (set exits 0 exit) ≡ length (set firsts 0 first)
+  even-set = even (full-set full 0 exit first)
 
-  zeroth : rowAt (set exits 0 exit) (set firsts 0 first) 0 ≡ ran P (2 ^ 0) t
-  unfolding ran
-  zeroth =
-      let here : 0 < length exits = omega (arith, w .full .states) in
-      let there : 0 < length firsts = omega (arith, w .full .ends) in
-      λ i. record { exit = (getD-set-same exits 0 exit 0 here ∙ state) i; first = (getD-set-same firsts 0 first 0 there ∙ end) i }
+  rows : List Row
+  rows = set (rowsIn exits firsts) 0 (rowOf exit first)
 
-  other : (q : ℕ) → 0 < q → rowAt (set exits 0 exit) (set firsts 0 first) q ≡ rowAt exits firsts q
-  other q pos =
-      let away : q ≡ 0 → ⊥ = λ z. omega arith in
-      λ i. record { exit = getD-set-other exits 0 q exit 0 away i; first = getD-set-other firsts 0 q first 0 away i }
-
-  each : (q : ℕ) → q < greatestPattern → rowAt (set exits 0 exit) (set firsts 0 first) q ≡ row (cardOf P t .rows) q
-  unfolding cardOf
-  each zero l = zeroth ∙ sym (row-text P t (b .some) (b .short) 0 (b .some))
-  each (suc q) l =
+  each : (q : ℕ) → row rows q ≡ row (cardOf P t .rows) q
+  unfolding cardOf rows
+  each zero =
+      let here : 0 < length (rowsIn exits firsts) = omega (arith, rows-length full) in
+      getD-set-same (rowsIn exits firsts) 0 (rowOf exit first) dead here
+      ∙ zeroth
+      ∙ sym (row-text P t (b .some) (b .short) 0 (b .some))
+  each (suc q) =
       let pos : 0 < suc q = omega arith in
-      other (suc q) pos
+      getD-set-other (rowsIn exits firsts) 0 (suc q) (rowOf exit first) dead (λ z. omega arith)
       ∙ by-cases (decLt (suc q) (length P))
       (λ (h : suc q < length P). w .each (suc q) pos h ∙ sym (row-text P t (b .some) (b .short) (suc q) h))
       (λ (h : ¬ (suc q < length P)).
       let far : length P ≤ suc q = omega arith in
-      w .idle (suc q) far l ∙ sym (rowsOf-from (length P) (λ q. ran P (2 ^ q) t) (suc q) far))
+      w .idle (suc q) far ∙ sym (rowsOf-from (length P) (λ q. ran P (2 ^ q) t) (suc q) far))
 
   rows-are : rowsIn (set exits 0 exit) (set firsts 0 first) ≡ cardOf P t .rows
-  unfolding cardOf
+  unfolding cardOf rows
   rows-are =
-      ext-getD dead (rowsIn (set exits 0 exit) (set firsts 0 first)) (cardOf P t .rows)
-      (rows-length filled ∙ sym (length-rowsOf (length P) (λ q. ran P (2 ^ q) t)))
-      (λ q l. let near : q < greatestPattern = omega (arith, rows-length filled) in rows-row filled q near ∙ each q near)
+      let long = length-set (rowsIn exits firsts) 0 (rowOf exit first) ∙ rows-length full in
+      rows-set exits firsts 0 exit first (even full)
+      ∙ ext-getD dead rows (cardOf P t .rows) (long ∙ sym (length-rowsOf (length P) (λ q. ran P (2 ^ q) t))) (λ q l. each q)
 
   pub rows-told : (segments : ℕ) → length t ≡ segments
       → record {
@@ -113,12 +92,12 @@ module _ (P : List ℕ) (t : Text) (exits firsts : List ℕ) (w : Rowed P t exit
       record {
         refusal = record { number = 0; place = 0 };
         segments = sym count i;
-        exits = (sym (exits-in (set exits 0 exit) (set firsts 0 first) (even filled)) ∙ ap exitsOf rows-are) i;
-        firsts = (sym (firsts-in (set exits 0 exit) (set firsts 0 first) (even filled)) ∙ ap firstsOf rows-are) i;
+        exits = (sym (exits-in (set exits 0 exit) (set firsts 0 first) even-set) ∙ ap exitsOf rows-are) i;
+        firsts = (sym (firsts-in (set exits 0 exit) (set firsts 0 first) even-set) ∙ ap firstsOf rows-are) i;
       }
 
-module _ (P s : List ℕ) (segments exit first : ℕ) (z : RowZero P s segments exit first)
-    (exits firsts : List ℕ) (w : RowsOf P s exits firsts) where
+module _ (P s : List ℕ) (segments exit first : ℕ) (z : RowZero P s segments (rowOf exit first))
+    (exits firsts : List ℕ) (full : Full exits firsts) (w : RowsOf P s (rowsIn exits firsts)) where
   pub all-over :
       AreOver P s
       (record {
@@ -129,8 +108,7 @@ module _ (P s : List ℕ) (segments exit first : ℕ) (z : RowZero P s segments 
       })
   all-over t h =
       let same : z .sound .text ≡ t = ok-inj (sym (z .sound .read) ∙ h) in
-      rows-told P t exits firsts (w t h) (z .bases) exit first
-      (z .state ∙ ap (run P fresh) same) (z .end ∙ ap (λ (u : Text). firstEnd (marksFrom P fresh u)) same)
+      rows-told P t exits firsts full (w t h) (z .bases) exit first (z .is ∙ ap (ran P fresh) same)
       segments (ap length (sym same) ∙ z .sound .count)
 
 -- what the search from the fresh state says of a stretch that it accepts, with `out` as the buffer for the marks
@@ -196,7 +174,7 @@ module _ (P s out : List ℕ) (room : length out ≡ mostInStretch) where
     pub of-told : (r : Rows) → AreOver P s r → r ≡ rowed (carding P s)
     of-told r h =
         let told : carding P s ≡ ok (cardOf P (a .text)) = carding-is ∙ rw (a .found) in
-        h (a .text) (a .read) ∙ ap rowed (sym told)
+        h (a .text) (stretch-whole s (a .text) (a .read) .1) ∙ ap rowed (sym told)
 
     -- the marks that are left in the buffer, and row 0
     module _ (left : List ℕ) (is : left ≡ leftBy (marksFrom P fresh) (seeking P fresh s (length out)) out) where
@@ -211,11 +189,11 @@ module _ (P s out : List ℕ) (room : length out ≡ mostInStretch) where
       pub of-room : segments ≤ length left
       of-room = omega (arith, length-take segments left, ap length marked ∙ marks-length P fresh (a .text) ∙ a .count)
 
-      pub of-zero : (first : ℕ) → first ≡ firstEnd (take segments left) → RowZero P s segments bits first
+      pub of-zero : (first : ℕ) → first ≡ firstEnd (take segments left) → RowZero P s segments (rowOf bits first)
+      unfolding ran
       of-zero first h =
           record {
             bases = record { some = a .pattern .some; short = a .pattern .short };
-            sound = record { text = a .text; read = a .read; count = a .count };
-            state = sym (a .state);
-            end = h ∙ ap firstEnd marked;
+            sound = record { text = a .text; read = stretch-whole s (a .text) (a .read) .1; count = a .count };
+            is = λ i. record { exit = sym (a .state) i; first = (h ∙ ap firstEnd marked) i };
           }

@@ -1,10 +1,10 @@
 -- The rows of a card over one segment, variant by variant.
-use Prim.Native.Nat.{ℕ, zero, suc, _+_, _-_, _%_, _≤_, _<_, min}
+use Prim.Native.Nat.{ℕ, zero, suc, _-_, _%_, _≤_, _<_}
 use native.Mathlib.Decide.{decLt}
 use native.Mathlib.Omega.{arith}
 use mathlib.Core.Path.{_≡_, sym, ap, ap₂, _∙_}
 use mathlib.Core.Logic.{by-cases}
-use mathlib.Core.Bool.{true, false, cond, _||_, true≢false}
+use mathlib.Core.Bool.{Bool, true, false, _||_, true≢false}
 use mathlib.Core.List.{List, [], _∷_, _++_}
 use borrow.Author.Tests.{lt-ltb, eqb-false}
 use lib.Bits.{bitOr}
@@ -15,7 +15,7 @@ use Rattle.text.specs.Letter.{meant}
 use Rattle.text.specs.Bits.{bit, fromBits}
 use Rattle.text.specs.State.{next, endsAt, ends}
 use Rattle.text.specs.Refusal.{ok}
-use Rattle.text.specs.Card.{Row, none}
+use Rattle.text.specs.Card.{Row, row}
 use Rattle.text.proofs.Bits.{bit-first, bit-above, bit-fromBits, fromBits-lt}
 use Rattle.text.proofs.Outcomes.{ok-inj}
 use Rattle.text.proofs.Steps.{next-open, next-lt}
@@ -24,7 +24,9 @@ use Rattle.layout.specs.Reading.{Taken, valueOf, segmentAt}
 use Rattle.layout.proofs.Heads.{Whole, whole-part, value-part}
 use Rattle.layout.specs.declared.cursor.Cursor.{Cursor}
 use Rattle.layout.proofs.Walking.{Walking, walk-done}
-use Rattle.card.specs.RowStep.{Within, meets, Alive, Covers, VariantOver, Settled, SegmentOver, rowAt, rowOver}
+use Rattle.card.specs.Held.{rowsIn, Full}
+use Rattle.card.specs.RowStep.{Within, meets, Alive, Covers, VariantOver, rowAfter, Settled, rowOver, SegmentOver}
+use Rattle.card.proofs.RowsHeld.{exits-row, rows-row}
 use Rattle.card.proofs.Meets.{meets-none, meets-or, within-lt, within-clear}
 
 -- a state that carries lengths alone has bit 0 clear
@@ -98,7 +100,8 @@ next-lengths P x live seen some w e r t =
 -- all variants are taken, and the rows settled
 module _ {P masks s : List ℕ} {at live : ℕ} {exits new : List ℕ} {finished : ℕ} {c : Cursor}
     (b : Bearing P s at live exits new finished c) (y : Alive P masks live) (covers : Covers (length P) live exits)
-    {k : ℕ} {firsts exits' firsts' : List ℕ} {live' : ℕ} (t : Settled (length P) finished k new exits firsts exits' firsts' live') where
+    {firsts : List ℕ} (full : Full exits firsts) {k live' : ℕ} {rows' : List Row}
+    (t : Settled (length P) finished k new (rowsIn exits firsts) rows' live') where
   within : Within live' (lengths (length P))
   within =
       t .least (lengths (length P))
@@ -106,29 +109,27 @@ module _ {P masks s : List ℕ} {at live : ℕ} {exits new : List ℕ} {finished
       rw (b .each q some l)
       (next-lengths P (getD exits q 0) live (b .seen) (y .bases .some) (covers .each q some l) (y .lengths .carried)))
 
-  row-over : (q : ℕ) → 0 < q → q < length P → rowAt exits' firsts' q ≡ rowOver P (b .seen) k (rowAt exits firsts q)
+  row-over : (q : ℕ) → 0 < q → q < length P → row rows' q ≡ rowOver P (b .seen) k (row (rowsIn exits firsts) q)
   row-over q some l =
-      t .each q some l
-      ∙ (λ i.
-      record {
-        exit = b .each q some l i;
-        first = min (getD firsts q 0) (cond (sym (b .end (getD exits q 0) (covers .each q some l)) i) k none);
-      })
+      let r = row (rowsIn exits firsts) q in
+      let exit : r .exit ≡ getD exits q 0 = ap (λ (r : Row). r .exit) (rows-row full q (omega (arith, y .bases .short))) in
+      let state : getD new q 0 ≡ next P (r .exit) (b .seen) = rw exit (b .each q some l) in
+      let inside : Within (r .exit) live = rw exit (covers .each q some l) in
+      t .each q some l ∙ ap₂ (λ (x : ℕ) (e : Bool). rowAfter k x e r) state (sym (b .end (r .exit) inside))
 
   module _ (none : c .left ≡ 0) where
     is : (x : Taken Segment ℕ) → segmentAt s at ≡ ok x → record { value = b .seen; next = c .at } ≡ x
     is x e = ok-inj (sym (walk-done (b .walk) none) ∙ e)
 
-    pub bearing-end : SegmentOver P s at k exits firsts exits' firsts' live' (c .at)
+    pub bearing-end : SegmentOver P s at k (rowsIn exits firsts) rows' live' (c .at)
     unfolding lengths
     bearing-end =
         record {
-          full = t .full;
           place = λ x e. ap (λ (z : Taken Segment ℕ). z .next) (is x e);
           each = λ x e q some l.
-              row-over q some l ∙ ap (λ (z : Taken Segment ℕ). rowOver P (z .value) k (rowAt exits firsts q)) (is x e);
+              row-over q some l ∙ ap (λ (z : Taken Segment ℕ). rowOver P (z .value) k (row (rowsIn exits firsts) q)) (is x e);
           kept = t .kept;
-          covers = record { each = λ q some l. rw (ap (λ (r : Row). r .exit) (t .each q some l)) (t .all q some l) };
+          covers = record { each = λ q some l. rw (exits-row rows' q, t .each q some l) (t .all q some l) };
           lengths =
               record {
                 small = within-lt live' (lengths (length P)) (length P) within (fromBits-lt (ltb 0) (length P));

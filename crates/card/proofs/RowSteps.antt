@@ -12,52 +12,53 @@ use lib.ListN.{length, getD, set, length-set}
 use lib.Seq.{getD-set-same, getD-set-other}
 use Rattle.text.specs.Bits.{bit}
 use Rattle.text.specs.State.{next}
-use Rattle.text.specs.Card.{none}
+use Rattle.text.specs.Card.{Row, none, dead, row}
 use Rattle.text.proofs.Truth.{or-cases, or-left, or-right}
 use Rattle.text.proofs.Bits.{bit-ext, bit-zero, bit-or, bit-and, bit-mod}
-use Rattle.card.specs.Held.{Full}
-use Rattle.card.specs.RowStep.{Within, meets, Moves, Covers, Spread, VariantOver, Settled}
+use Rattle.card.specs.Held.{rowOf, rowsIn, Full}
+use Rattle.card.specs.RowStep.{Within, meets, Moves, Covers, Spread, VariantOver, rowAfter, Settled}
+use Rattle.card.proofs.RowsHeld.{rows-set, even, full-set, rows-length, rows-row}
 
 -- the places from 1 up to q hold f, and the others what they held before
-pub record Filled (f : ℕ → ℕ) (old new : List ℕ) (q : ℕ) : Type 0 where
+pub record Filled {A : Type 0} (d : A) (f : ℕ → A) (old new : List A) (q : ℕ) : Type 0 where
   pub start : 0 < q
   pub full : length new ≡ 64
-  pub done : (p : ℕ) → 0 < p → p < q → getD new p 0 ≡ f p
-  pub kept : (p : ℕ) → (0 < p → p < q → ⊥) → getD new p 0 ≡ getD old p 0
+  pub done : (p : ℕ) → 0 < p → p < q → getD new p d ≡ f p
+  pub kept : (p : ℕ) → (0 < p → p < q → ⊥) → getD new p d ≡ getD old p d
 
-pub filled-none : (f : ℕ → ℕ) (old : List ℕ) → length old ≡ 64 → Filled f old old 1
-filled-none f old full =
+pub filled-none : {A : Type 0} (d : A) (f : ℕ → A) (old : List A) → length old ≡ 64 → Filled d f old old 1
+filled-none d f old full =
     record { start = omega arith; full = full; done = λ p some l. absurd (let z : ⊥ = omega arith in z); kept = λ p h. refl }
 
-module _ (f : ℕ → ℕ) (old new : List ℕ) (q : ℕ) (s : Filled f old new q) where
+module _ {A : Type 0} (d : A) (f : ℕ → A) (old new : List A) (q : ℕ) (s : Filled d f old new q) where
   -- the place that comes next
-  pub filled-next : getD new q 0 ≡ getD old q 0
+  pub filled-next : getD new q d ≡ getD old q d
   filled-next = s .kept q (λ some l. omega arith)
 
-  pub filled-more : (v : ℕ) → v ≡ f q → q < 64 → Filled f old (set new q v) (q + 1)
+  pub filled-more : (v : A) → v ≡ f q → q < 64 → Filled d f old (set new q v) (q + 1)
   filled-more v e small =
       record { start = omega arith; full = length-set new q v ∙ s .full; done = done; kept = kept }
     where
       inside : q < length new
       inside = omega (arith, s .full)
 
-      done : (p : ℕ) → 0 < p → p < q + 1 → getD (set new q v) p 0 ≡ f p
+      done : (p : ℕ) → 0 < p → p < q + 1 → getD (set new q v) p d ≡ f p
       done p some l =
           by-cases (ℕ-discrete p q)
-          (λ (h : p ≡ q). rw h (getD-set-same new q v 0 inside ∙ e))
-          (λ (h : ¬ (p ≡ q)). getD-set-other new q p v 0 h ∙ s .done p some (omega arith))
+          (λ (h : p ≡ q). rw h (getD-set-same new q v d inside ∙ e))
+          (λ (h : ¬ (p ≡ q)). getD-set-other new q p v d h ∙ s .done p some (omega arith))
 
-      kept : (p : ℕ) → (0 < p → p < q + 1 → ⊥) → getD (set new q v) p 0 ≡ getD old p 0
+      kept : (p : ℕ) → (0 < p → p < q + 1 → ⊥) → getD (set new q v) p d ≡ getD old p d
       kept p out =
-          getD-set-other new q p v 0 (λ h. out (omega (arith, s .start)) (omega arith))
+          getD-set-other new q p v d (λ h. out (omega (arith, s .start)) (omega arith))
           ∙ s .kept p (λ some l. out some (omega arith))
 
   -- the end of a loop over the rows up to m
   module _ (m : ℕ) (done : m ≤ q) (most : q ≤ max 1 m) where
-    pub filled-each : (p : ℕ) → 0 < p → p < m → getD new p 0 ≡ f p
+    pub filled-each : (p : ℕ) → 0 < p → p < m → getD new p d ≡ f p
     filled-each p some l = s .done p some (omega arith)
 
-    pub filled-kept : (p : ℕ) → m ≤ p → getD new p 0 ≡ getD old p 0
+    pub filled-kept : (p : ℕ) → m ≤ p → getD new p d ≡ getD old p d
     filled-kept p far = s .kept p (λ some l. omega arith)
 
 -- what a word lets pass of a shift, whether or not the shift was cut to a word
@@ -70,10 +71,10 @@ and-word a reached small =
 
 -- the rows before q have what n letters make of their states
 pub record Spreading (n reached : ℕ) (exits old new : List ℕ) (q : ℕ) : Type 0 where
-  pub filled : Filled (λ p. bitOr (getD old p 0) (bitAnd (getD exits p 0 * 2 ^ n) reached)) old new q
+  pub filled : Filled 0 (λ p. bitOr (getD old p 0) (bitAnd (getD exits p 0 * 2 ^ n) reached)) old new q
 
 pub spreading-none : (n reached : ℕ) (exits old : List ℕ) → length old ≡ 64 → Spreading n reached exits old old 1
-spreading-none n reached exits old full = record { filled = filled-none _ old full }
+spreading-none n reached exits old full = record { filled = filled-none 0 _ old full }
 
 module _ (n reached : ℕ) (exits old new : List ℕ) (q : ℕ) (s : Spreading n reached exits old new q) where
   pub spreading-more : reached < 2 ^ 64 → q < 64
@@ -81,8 +82,8 @@ module _ (n reached : ℕ) (exits old new : List ℕ) (q : ℕ) (s : Spreading n
   spreading-more word small =
       record {
         filled =
-            filled-more _ old new q (s .filled) _
-            (ap₂ bitOr (filled-next _ old new q (s .filled)) (and-word (getD exits q 0 * 2 ^ n) reached word)) small;
+            filled-more 0 _ old new q (s .filled) _
+            (ap₂ bitOr (filled-next 0 _ old new q (s .filled)) (and-word (getD exits q 0 * 2 ^ n) reached word)) small;
       }
 
   pub spreading-end : (m : ℕ) → m ≤ q → Spread m n reached exits old new
@@ -122,42 +123,44 @@ module _ (P : List ℕ) (live : ℕ) (v exits old : List ℕ) (reached finished 
       (λ (l : ¬ (length v < 64)). absurd (some (moves .short (omega arith))))
 
 -- the rows before q are settled, and `live` is the union of their next states
-pub record Settling (m finished k : ℕ) (next exits firsts exits' firsts' : List ℕ) (live q : ℕ) : Type 0 where
+pub record Settling (m finished k : ℕ) (next : List ℕ) (rows : List Row) (exits firsts : List ℕ) (live q : ℕ) : Type 0 where
   pub most : q ≤ max 1 m
-  pub states : Filled (λ p. getD next p 0) exits exits' q
-  pub ends : Filled (λ p. min (getD firsts p 0) (cond (meets (getD exits p 0) finished) k none)) firsts firsts' q
+  pub full : Full exits firsts
+  pub filled : Filled dead (λ p. rowAfter k (getD next p 0) (meets (row rows p .exit) finished) (row rows p)) rows (rowsIn exits firsts) q
   pub all : (p : ℕ) → 0 < p → p < q → Within (getD next p 0) live
   pub least : (y : ℕ) → ((p : ℕ) → 0 < p → p < q → Within (getD next p 0) y) → Within live y
 
 pub settling-none : (m finished k : ℕ) (next exits firsts : List ℕ) → Full exits firsts
-    → Settling m finished k next exits firsts exits firsts 0 1
+    → Settling m finished k next (rowsIn exits firsts) exits firsts 0 1
 settling-none m finished k next exits firsts full =
     record {
       most = omega arith;
-      states = filled-none _ exits (full .states);
-      ends = filled-none _ firsts (full .ends);
+      full = full;
+      filled = filled-none dead _ (rowsIn exits firsts) (rows-length full);
       all = λ p some l. absurd (let z : ⊥ = omega arith in z);
       least = λ y h r b. absurd (false≢true (sym (bit-zero r) ∙ b));
     }
 
-module _ (m finished k : ℕ) (next exits firsts exits' firsts' : List ℕ) (live q : ℕ)
-    (s : Settling m finished k next exits firsts exits' firsts' live q) where
+module _ (m finished k : ℕ) (next : List ℕ) (rows : List Row) (exits firsts : List ℕ) (live q : ℕ)
+    (s : Settling m finished k next rows exits firsts live q) where
   pub settling-more : q < m → q < 64 → (first : ℕ)
-      → first ≡ min (getD firsts' q 0) (cond (not (eqb (bitAnd (getD exits' q 0) finished) 0)) k none)
-      → Settling m finished k next exits firsts (set exits' q (getD next q 0)) (set firsts' q first) (bitOr live (getD next q 0)) (q + 1)
+      → first ≡ min (getD firsts q 0) (cond (not (eqb (bitAnd (getD exits q 0) finished) 0)) k none)
+      → Settling m finished k next rows (set exits q (getD next q 0)) (set firsts q first) (bitOr live (getD next q 0)) (q + 1)
   unfolding meets
   settling-more l small first e =
       record {
         most = omega arith;
-        states = filled-more _ exits exits' q (s .states) (getD next q 0) refl small;
-        ends = filled-more _ firsts firsts' q (s .ends) first (e ∙ here) small;
+        full = full-set (s .full) q (getD next q 0) first;
+        filled = rw (rows-set exits firsts q (getD next q 0) first (even (s .full))) (filled-more dead _ rows _ q (s .filled) _ here small);
         all = all;
         least = least;
       }
     where
-      here : min (getD firsts' q 0) (cond (meets (getD exits' q 0) finished) k none)
-          ≡ min (getD firsts q 0) (cond (meets (getD exits q 0) finished) k none)
-      here = rw (filled-next _ firsts firsts' q (s .ends), filled-next _ exits exits' q (s .states))
+      here : rowOf (getD next q 0) first ≡ rowAfter k (getD next q 0) (meets (row rows q .exit) finished) (row rows q)
+      here =
+          ap (rowOf (getD next q 0)) e
+          ∙ ap (λ (r : Row). rowAfter k (getD next q 0) (meets (r .exit) finished) r)
+          (sym (rows-row (s .full) q small) ∙ filled-next dead _ rows _ q (s .filled))
 
       all : (p : ℕ) → 0 < p → p < q + 1 → Within (getD next p 0) (bitOr live (getD next q 0))
       all p some h r b =
@@ -169,21 +172,14 @@ module _ (m finished k : ℕ) (next exits firsts exits' firsts' : List ℕ) (liv
       least y h r b =
           ⊎-elim
           (λ (t : bit live r ≡ true). s .least y (λ p some l. h p some (omega arith)) r t)
-          (λ (t : bit (getD next q 0) r ≡ true). h q (s .states .start) (omega arith) r t)
+          (λ (t : bit (getD next q 0) r ≡ true). h q (s .filled .start) (omega arith) r t)
           (or-cases (bit live r) (bit (getD next q 0) r) (sym (bit-or live (getD next q 0) r) ∙ b))
 
-  pub settling-end : m ≤ q → Settled m finished k next exits firsts exits' firsts' live
+  pub settling-end : m ≤ q → Settled m finished k next rows (rowsIn exits firsts) live
   settling-end done =
       record {
-        full = record { states = s .states .full; ends = s .ends .full };
-        each = λ p some l. λ i. record {
-          exit = filled-each _ exits exits' q (s .states) m done (s .most) p some l i;
-          first = filled-each _ firsts firsts' q (s .ends) m done (s .most) p some l i;
-        };
-        kept = λ p far. λ i. record {
-          exit = filled-kept _ exits exits' q (s .states) m done (s .most) p far i;
-          first = filled-kept _ firsts firsts' q (s .ends) m done (s .most) p far i;
-        };
+        each = filled-each dead _ rows _ q (s .filled) m done (s .most);
+        kept = filled-kept dead _ rows _ q (s .filled) m done (s .most);
         all = λ p some l. s .all p some (omega arith);
         least = λ y h. s .least y (λ p some l. h p some (omega arith));
       }

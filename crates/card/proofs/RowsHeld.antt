@@ -4,9 +4,9 @@ use native.Mathlib.Omega.{arith}
 use native.Mathlib.Nat.{le-of-suc-le-suc}
 use mathlib.Core.Path.{_≡_, refl, ap, _∙_}
 use mathlib.Core.List.{List, [], _∷_}
-use lib.ListN.{length, getD, set}
+use lib.ListN.{length, getD, set, length-set, List·getD-map}
 use Rattle.text.specs.Refusal.{greatestPattern}
-use Rattle.text.specs.Card.{Row, row}
+use Rattle.text.specs.Card.{Row, dead, row}
 use Rattle.card.specs.Held.{rowOf, rowsIn, exitsOf, firstsOf, Full}
 
 rows-long : (es fs : List ℕ) → length es ≡ length fs → length (rowsIn es fs) ≡ length es
@@ -22,6 +22,10 @@ row-in [] fs q k l = absurd (let z : ⊥ = omega arith in z)
 row-in (e ∷ es) [] q k l = absurd (let z : ⊥ = omega arith in z)
 row-in (e ∷ es) (f ∷ fs) zero k l = refl
 row-in (e ∷ es) (f ∷ fs) (suc q) k l = row-in es fs q (le-of-suc-le-suc k) (omega arith)
+
+-- a row's exit
+pub exits-row : (rows : List Row) (q : ℕ) → getD (exitsOf rows) q 0 ≡ row rows q .exit
+exits-row rows q = List·getD-map (λ (r : Row). r .exit) rows q dead
 
 -- a row is written as its two numbers
 pub rows-set : (es fs : List ℕ) (q e f : ℕ) → length es ≡ length fs
@@ -54,6 +58,9 @@ rows-out (r ∷ rows) = ap (λ (rest : List Row). r ∷ rest) (rows-out rows)
 module _ {es fs : List ℕ} (full : Full es fs) where
   pub even : length es ≡ length fs
   even = omega arith
+
+  pub full-set : (q e f : ℕ) → Full (set es q e) (set fs q f)
+  full-set q e f = record { states = length-set es q e ∙ full .states; ends = length-set fs q f ∙ full .ends }
 
   pub rows-length : length (rowsIn es fs) ≡ greatestPattern
   rows-length = rows-long es fs even ∙ full .states

@@ -5,14 +5,14 @@ use mathlib.Core.Bool.{false}
 use mathlib.Core.List.{List}
 use lib.Dec.{leb}
 use lib.ListN.{length}
-use Rattle.text.specs.Refusal.{ok, refused, after, pattern}
+use Rattle.text.specs.Refusal.{ok, refused, after, pattern, SoundPattern}
 use Rattle.text.specs.Card.{emptyCard, cardOf, empty}
 use Rattle.text.specs.Strand.{onStrand}
 use Rattle.text.specs.declared.strand.Strand.{Strand}
-use Rattle.text.proofs.Patterns.{SoundPattern, pattern-refused, sound-pattern}
+use Rattle.text.proofs.Patterns.{pattern-refused, sound-pattern}
 use Rattle.text.proofs.Strands.{strand-asked}
 use Rattle.layout.specs.Bytes.{greatestStretch}
-use Rattle.layout.specs.Pieces.{openAt}
+use Rattle.layout.specs.Pieces.{}
 use Rattle.layout.specs.Reading.{stretchOf}
 use Rattle.card.specs.Rows.{carding}
 use Rattle.card.proofs.Carded.{Carded}
@@ -45,7 +45,7 @@ module _ (P : List ℕ) (strand : Strand) where
 
     -- the length is asked first of a stretch
     pub carding-long : (s : List ℕ) → leb (length s) greatestStretch ≡ false → cardingOn P strand s ≡ refused 4 0
-    unfolding stretchOf openAt
+    unfolding stretchOf
     carding-long s long = carding-strand s ∙ sound-pattern P y _ ∙ rw long
 
   -- of a sound pattern and a sound stretch

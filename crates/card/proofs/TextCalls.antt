@@ -13,7 +13,7 @@ use lib.Seq.{take-length}
 use Rattle.text.specs.Text.{Text}
 use Rattle.text.specs.Occurrence.{EndsIn}
 use Rattle.text.specs.State.{isState, fresh, run, marksFrom}
-use Rattle.text.specs.Refusal.{Outcome, ok, refused, after, pattern}
+use Rattle.text.specs.Refusal.{Outcome, ok, refused, after, pattern, SoundPattern}
 use Rattle.text.specs.Strand.{onStrand}
 use Rattle.text.specs.Card.{Row, Card, mostSegments, row, firstEnd, ran, cardOf}
 use Rattle.text.proofs.Truth.{and-left, and-right}
@@ -21,7 +21,7 @@ use Rattle.text.proofs.Outcomes.{ok-inj}
 use Rattle.text.specs.declared.refusal.Refusal.{Refusal}
 use Rattle.text.specs.declared.strand.Strand.{Strand}
 use Rattle.text.proofs.Strands.{strand-length, strand-sound}
-use Rattle.text.proofs.Patterns.{SoundPattern, pattern-after}
+use Rattle.text.proofs.Patterns.{pattern-after}
 use Rattle.text.proofs.Marks.{marks-length, run-append, marks-append}
 use Rattle.text.proofs.TextCards.{IsFirst, row-text, fresh-first, join-text, ask-text}
 use Rattle.layout.specs.Bytes.{greatestStretch, wordBytes}

@@ -1,7 +1,8 @@
--- What this crate proves of its calls, theorem by theorem: read this file first. `emptying`, `making`, `joining` and `asking` are what the
--- contracts of `Card::empty` and `Card::of`, each on a strand, `Card::join` and `Card::ask` say of their answers; a refusal's number is never
--- 0, so 0 tells an acceptance. The proofs stand in the files that are named on the right.
-use Prim.Native.Nat.{ℕ, _+_, _<_, _≤_}
+-- What this crate proves of its calls, theorem by theorem: read this file first. `rowed (carding P s)` is what the contract of `over` says
+-- of its answer; `emptying`, `making`, `joining` and `asking` are what the contracts of `Card::empty` and `Card::of`, each on a strand,
+-- `Card::join` and `Card::ask` say of theirs. A refusal's number is never 0, so 0 tells an acceptance. The proofs stand in the files that
+-- are named on the right.
+use Prim.Native.Nat.{ℕ, _+_, _^_, _<_, _≤_}
 use native.Mathlib.Omega.{arith}
 use mathlib.Core.Path.{_≡_, ap}
 use mathlib.Core.Logic.{_↔_}
@@ -11,10 +12,9 @@ use lib.ListN.{length}
 use Rattle.text.specs.Text.{Text}
 use Rattle.text.specs.Occurrence.{EndsIn}
 use Rattle.text.specs.State.{isState, fresh, run, marksFrom}
-use Rattle.text.specs.Refusal.{ok, after, pattern}
+use Rattle.text.specs.Refusal.{ok, after, pattern, SoundPattern}
 use Rattle.text.specs.Strand.{onStrand}
-use Rattle.text.specs.Card.{Row, mostSegments, later, firstEnd, padded, ran, cardOf, emptyCard, wellFormed}
-use Rattle.text.proofs.Patterns.{SoundPattern}
+use Rattle.text.specs.Card.{Row, dead, row, mostSegments, later, firstEnd, padded, ran, cardOf, emptyCard, wellFormed}
 use Rattle.text.proofs.TextCards.{IsFirst}
 use Rattle.layout.specs.Encoding.{encodeSegment}
 use Rattle.layout.specs.Reading.{stretchOf}
@@ -22,8 +22,11 @@ use Rattle.layout.proofs.Stands.{Bytes}
 use Rattle.layout.specs.Pieces.{mostInStretch}
 use Rattle.search.specs.Chain.{segmentsText, stretchesText, Trail, seeks}
 use Rattle.text.specs.declared.strand.Strand.{Strand}
+use Rattle.card.specs.declared.rows.passes.Rows.{Rows}
 use Rattle.card.specs.declared.cards.Card.{Card as Held}
-use Rattle.card.specs.Held.{rowOf, Full}
+use Rattle.card.specs.Held.{rowOf, rowsIn, Full}
+use Rattle.card.specs.Rows.{carding, rowed}
+use Rattle.card.proofs.Carded
 use Rattle.card.proofs.Carded.{Carded}
 use Rattle.card.specs.Cards.{cardIn, cardOut}
 use Rattle.card.specs.Answers.{accepted, made}
@@ -36,6 +39,20 @@ use Rattle.card.proofs.Gatherings.{gathering}
 use Rattle.card.proofs.Groupings
 use Rattle.card.proofs.Groupings.{Together}
 use Rattle.card.proofs.Neutral
+
+-- `over` accepts exactly a sound pattern with a sound stretch
+pub over-accepts : (P s : List ℕ) → rowed (carding P s) .refusal .number ≡ 0 ↔ Carded P s
+over-accepts = Carded.told-accepts
+
+-- row q below m is then what running the text from a lone q gives, row 0 from nothing carried in
+pub over-row : (P s : List ℕ) (T : Text) → SoundPattern P → stretchOf s ≡ ok T
+    → (q : ℕ) → q < length P → let r : Rows = rowed (carding P s) in row (rowsIn (r .exits) (r .firsts)) q ≡ ran P (2 ^ q) T
+over-row = Carded.told-row
+
+-- and from m up nothing leaves, and nothing ends
+pub over-idle : (P s : List ℕ) (T : Text) → SoundPattern P → stretchOf s ≡ ok T
+    → (q : ℕ) → length P ≤ q → let r : Rows = rowed (carding P s) in row (rowsIn (r .exits) (r .firsts)) q ≡ dead
+over-idle = Carded.told-idle
 
 -- the card on a strand, whatever is given: 1, 2, 3 of the pattern as given, then the card of the pattern that the strand reads
 pub empty-strand : (P : List ℕ) (strand : Strand) → emptying P strand ≡ made (pattern P (ok (emptyCard (onStrand strand P))))

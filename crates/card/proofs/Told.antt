@@ -1,9 +1,8 @@
--- Answers that are told alike are the same answer, and what they say in numbers is what they tell.
+-- Answers that are told alike are the same answer.
 use mathlib.Core.Path.{_≡_, sym, ap, ap₂}
 use Rattle.text.specs.Card.{Row}
-use Rattle.text.specs.Refusal.{Outcome, answer}
 use Rattle.text.proofs.Outcomes.{refused-ok, refused-inj, ok-inj}
-use Rattle.card.specs.Answers.{toldAsked, answerAsked, zeroRow}
+use Rattle.card.specs.Answers.{toldAsked}
 use Rattle.card.specs.declared.answers.Asked.{Asked}
 
 pub asked-once : (a b : Asked) → toldAsked a ≡ toldAsked b → a ≡ b
@@ -15,8 +14,3 @@ asked-once (Asked.Refused r) (Asked.Told s f) e = absurd (refused-ok (r .number)
 asked-once (Asked.Refused r) (Asked.Refused s) e =
     let i = refused-inj e in
     ap Asked.Refused (λ k. record { number = i .0 k; place = i .1 k })
-
-pub asked-both : (r : Asked) {o : Outcome Row} → toldAsked r ≡ o → (toldAsked r ≡ o) × (answerAsked r ≡ answer zeroRow o)
-unfolding answerAsked
-asked-both (Asked.Told s f) e = (e, ap (answer zeroRow) e)
-asked-both (Asked.Refused r) e = (e, ap (answer zeroRow) e)

@@ -2,7 +2,7 @@
 use Prim.Native.Nat.{ℕ}
 use mathlib.Core.List.{List}
 use lib.ListN.{replicate}
-use Rattle.text.specs.Refusal.{Outcome, ok, refused, greatestPattern, pattern, Answer}
+use Rattle.text.specs.Refusal.{Outcome, ok, refused, greatestPattern, pattern, Answer, answer}
 use Rattle.text.specs.Card.{Row, Card, empty}
 use Rattle.text.specs.Strand.{onStrand}
 use Rattle.text.specs.declared.strand.Strand.{Strand}
@@ -42,6 +42,5 @@ toldAsked (Asked.Refused r) = refused (r .number) (r .place)
 abbrev pub zeroRow : Row
 zeroRow = record { exit = 0; first = 0 }
 
-unfoldable pub answerAsked : Asked → Answer Row
-answerAsked (Told state first) = record { number = 0; place = 0; value = record { exit = state .bits; first = first } }
-answerAsked (Asked.Refused r) = record { number = r .number; place = r .place; value = zeroRow }
+abbrev pub answerAsked : Asked → Answer Row
+answerAsked r = answer zeroRow (toldAsked r)

@@ -31,9 +31,9 @@ isPadded bytes m =
     ltb 0 m && leb m greatestPattern && same bytes (padded (take m bytes)) && every base (take m bytes)
 
 -- every row of a card of m bases and n segments, from row q on, is as document 01 says
-abbrev pub rowsFrom : ℕ → ℕ → List ℕ → List ℕ → ℕ → Bool
-rowsFrom m n exits firsts q = areRows m n q (drop q (rowsIn exits firsts))
+abbrev pub rowsFrom : ℕ → ℕ → List Row → ℕ → Bool
+rowsFrom m n rows q = areRows m n q (drop q rows)
 
 -- r is the test of the rows from b up to e: with that of the rows from e on, it is that of the rows from b on
-abbrev pub IsTest : ℕ → ℕ → List ℕ → List ℕ → ℕ → ℕ → Bool → Type 0
-IsTest m n exits firsts b e r = rowsFrom m n exits firsts b ≡ (r && rowsFrom m n exits firsts e)
+abbrev pub IsTest : ℕ → ℕ → List Row → ℕ → ℕ → Bool → Type 0
+IsTest m n rows b e r = rowsFrom m n rows b ≡ (r && rowsFrom m n rows e)

@@ -1,4 +1,4 @@
--- Rows as they are held: their exits and their first ends, in two arrays of 64.
+-- Rows as they are held: their exits and their first ends, in two arrays of 64. What is said of rows is said of a list of them.
 use Prim.Native.Nat.{ℕ, _^_, _<_, _≤_}
 use mathlib.Core.Path.{_≡_}
 use mathlib.Core.List.{List, [], _∷_, map}

@@ -11,10 +11,10 @@ use Rattle.text.specs.Text.{Segment}
 use Rattle.text.specs.Bits.{bit}
 use Rattle.text.specs.State.{next, endsAt, ends}
 use Rattle.text.specs.Refusal.{ok}
-use Rattle.text.specs.Card.{Row, none}
+use Rattle.text.specs.Card.{Row, none, row}
 use Rattle.layout.specs.Reading.{Taken, segmentAt}
 use Rattle.search.specs.Masks.{Masks}
-use Rattle.card.specs.Held.{Bases, Full, rowOf}
+use Rattle.card.specs.Held.{Bases, rowOf, exitsOf}
 
 -- x has no bit outside `live`
 abbrev pub Within : ℕ → ℕ → Type 0
@@ -46,15 +46,6 @@ pub record Moves (P : List ℕ) (live : ℕ) (v : List ℕ) (reached finished : 
 pub record Covers (m live : ℕ) (exits : List ℕ) : Type 0 where
   pub each : (q : ℕ) → 0 < q → q < m → Within (getD exits q 0) live
 
--- a segment can be read at `at`
-pub record Readable (s : List ℕ) (at : ℕ) : Type 0 where
-  pub read : Taken Segment ℕ
-  pub is : segmentAt s at ≡ ok read
-
--- the row at place q of two lists, of exits and of first ends
-abbrev pub rowAt : List ℕ → List ℕ → ℕ → Row
-rowAt exits firsts q = rowOf (getD exits q 0) (getD firsts q 0)
-
 -- every row's next state has what n letters make of its state, as far as `reached` lets it pass
 pub record Spread (m n reached : ℕ) (exits old new : List ℕ) : Type 0 where
   pub full : length new ≡ 64
@@ -67,27 +58,28 @@ pub record VariantOver (P : List ℕ) (live : ℕ) (v exits old new : List ℕ) 
   pub each : (q : ℕ) → 0 < q → q < length P → getD new q 0 ≡ bitOr (getD old q 0) (next P (getD exits q 0) (meant v ∷ []))
   pub end : (x : ℕ) → Within x live → endsAt P x (meant v) ≡ meets x finished
 
--- every row has its next state, and k as its first end where it had none and its state met `finished`; rows from m up stay, and `live`
--- is the union of the next states
-pub record Settled (m finished k : ℕ) (new exits firsts exits' firsts' : List ℕ) (live : ℕ) : Type 0 where
-  pub full : Full exits' firsts'
-  pub each : (q : ℕ) → 0 < q → q < m
-      → rowAt exits' firsts' q ≡ rowOf (getD new q 0) (min (getD firsts q 0) (cond (meets (getD exits q 0) finished) k none))
-  pub kept : (q : ℕ) → m ≤ q → rowAt exits' firsts' q ≡ rowAt exits firsts q
+-- a row after segment k: its next state, and k as its first end where it had none and an occurrence ends there
+abbrev pub rowAfter : ℕ → ℕ → Bool → Row → Row
+rowAfter k state ended r = rowOf state (min (r .first) (cond ended k none))
+
+-- segment k was passed: every row has its next state, and those whose state met `finished` ended; rows from m up stay, and `live` is the
+-- union of the next states
+pub record Settled (m finished k : ℕ) (new : List ℕ) (rows rows' : List Row) (live : ℕ) : Type 0 where
+  pub each : (q : ℕ) → 0 < q → q < m → row rows' q ≡ rowAfter k (getD new q 0) (meets (row rows q .exit) finished) (row rows q)
+  pub kept : (q : ℕ) → m ≤ q → row rows' q ≡ row rows q
   pub all : (q : ℕ) → 0 < q → q < m → Within (getD new q 0) live
   pub least : (y : ℕ) → ((q : ℕ) → 0 < q → q < m → Within (getD new q 0) y) → Within live y
 
 -- a row, and segment g with the number k after it
 abbrev pub rowOver : List ℕ → Segment → ℕ → Row → Row
-rowOver P g k r = rowOf (next P (r .exit) g) (min (r .first) (cond (ends P (r .exit) g) k none))
+rowOver P g k r = rowAfter k (next P (r .exit) g) (ends P (r .exit) g) r
 
--- the rows 1 to m - 1 have gone over the segment at `at`, with the number k, up to the place after it; rows from m up stay, and `live`
--- is the union of their states
-pub record SegmentOver (P s : List ℕ) (at k : ℕ) (exits firsts exits' firsts' : List ℕ) (live behind : ℕ) : Type 0 where
-  pub full : Full exits' firsts'
+-- the rows 1 to m - 1 have gone over the segment at `at`, with the number k, up to the place after it, and their states are within
+-- `live`; rows from m up stay
+pub record SegmentOver (P s : List ℕ) (at k : ℕ) (rows rows' : List Row) (live behind : ℕ) : Type 0 where
   pub place : (x : Taken Segment ℕ) → segmentAt s at ≡ ok x → behind ≡ x .next
   pub each : (x : Taken Segment ℕ) → segmentAt s at ≡ ok x
-      → (q : ℕ) → 0 < q → q < length P → rowAt exits' firsts' q ≡ rowOver P (x .value) k (rowAt exits firsts q)
-  pub kept : (q : ℕ) → length P ≤ q → rowAt exits' firsts' q ≡ rowAt exits firsts q
-  pub covers : Covers (length P) live exits'
+      → (q : ℕ) → 0 < q → q < length P → row rows' q ≡ rowOver P (x .value) k (row rows q)
+  pub kept : (q : ℕ) → length P ≤ q → row rows' q ≡ row rows q
+  pub covers : Covers (length P) live (exitsOf rows')
   pub lengths : Lengths (length P) live

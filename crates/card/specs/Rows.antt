@@ -4,13 +4,12 @@ use mathlib.Core.Path.{_≡_}
 use mathlib.Core.List.{List}
 use lib.ListN.{length, replicate}
 use Rattle.text.specs.Text.{Text}
-use Rattle.text.specs.State.{fresh, run, marksFrom}
+use Rattle.text.specs.State.{fresh}
 use Rattle.text.specs.Refusal.{Outcome, ok, refused, after, pattern, greatestPattern}
-use Rattle.text.specs.Card.{Card, dead, firstEnd, ran, cardOf}
-use Rattle.layout.specs.Reading.{stretchOf}
+use Rattle.text.specs.Card.{Row, Card, dead, row, ran, cardOf}
+use Rattle.layout.specs.Reading.{wholeStretch, stretchOf}
 use Rattle.card.specs.declared.rows.passes.Rows.{Rows}
-use Rattle.card.specs.Held.{exitsOf, firstsOf, Bases, Full}
-use Rattle.card.specs.RowStep.{rowAt}
+use Rattle.card.specs.Held.{exitsOf, firstsOf, Bases}
 
 -- the card of a stretch: 1, 2, 3, then those of the stretch
 unfoldable pub carding : List ℕ → List ℕ → Outcome Card
@@ -33,29 +32,27 @@ rowed (refused n p) =
       firsts = replicate greatestPattern 0;
     }
 
--- a stretch that is accepted, of n segments
+-- bytes that are accepted as a stretch of n segments, their length apart
 pub record Sound (s : List ℕ) (n : ℕ) : Type 0 where
   pub text : Text
-  pub read : stretchOf s ≡ ok text
+  pub read : wholeStretch s ≡ ok text
   pub count : length text ≡ n
 
--- two lists of 64 that hold the rows of the card of t; row 0 may be anything
-pub record Rowed (P : List ℕ) (t : Text) (exits firsts : List ℕ) : Type 0 where
-  pub full : Full exits firsts
-  pub each : (q : ℕ) → 0 < q → q < length P → rowAt exits firsts q ≡ ran P (2 ^ q) t
-  pub idle : (q : ℕ) → length P ≤ q → q < greatestPattern → rowAt exits firsts q ≡ dead
+-- the rows of the card of t, of which row 0 may be anything
+pub record Rowed (P : List ℕ) (t : Text) (rows : List Row) : Type 0 where
+  pub each : (q : ℕ) → 0 < q → q < length P → row rows q ≡ ran P (2 ^ q) t
+  pub idle : (q : ℕ) → length P ≤ q → row rows q ≡ dead
 
--- they hold the rows of the text of s
-abbrev pub RowsOf : List ℕ → List ℕ → List ℕ → List ℕ → Type 0
-RowsOf P s exits firsts = (t : Text) → stretchOf s ≡ ok t → Rowed P t exits firsts
+-- the same of the text of s
+abbrev pub RowsOf : List ℕ → List ℕ → List Row → Type 0
+RowsOf P s rows = (t : Text) → wholeStretch s ≡ ok t → Rowed P t rows
 
 -- what the search of a sound stretch from the fresh state tells of its card: the segment count and row 0
-pub record RowZero (P s : List ℕ) (segments exit first : ℕ) : Type 0 where
+pub record RowZero (P s : List ℕ) (segments : ℕ) (r : Row) : Type 0 where
   pub bases : Bases (length P)
   pub sound : Sound s segments
-  pub state : exit ≡ run P fresh (sound .text)
-  pub end : first ≡ firstEnd (marksFrom P fresh (sound .text))
+  pub is : r ≡ ran P fresh (sound .text)
 
 -- the rows of the card of the text of s
 abbrev pub AreOver : List ℕ → List ℕ → Rows → Type 0
-AreOver P s r = (t : Text) → stretchOf s ≡ ok t → r ≡ rowed (ok (cardOf P t))
+AreOver P s r = (t : Text) → wholeStretch s ≡ ok t → r ≡ rowed (ok (cardOf P t))

@@ -11,7 +11,8 @@ use crate::test::same_pattern;
 use crate::test::well_formed;
 use search::State;
 use text::Refusal;
-use text::pattern::PatternIs;
+use text::Verdict;
+use text::limits;
 use text::pattern::check;
 use text::refusal;
 use text::state::is_state;
@@ -21,10 +22,9 @@ ghost use mathlib.Core.Path.{_≡_};
 ghost use lib.Dec.{leb};
 ghost use lib.ListN.{length};
 ghost use Rattle.layout.specs.Bytes.{greatestStretch};
-ghost use Rattle.text.specs.Refusal.{answer};
 ghost use Rattle.text.specs.Card.{join, ask};
 ghost use Rattle.card.specs.Cards.{cardIn};
-ghost use Rattle.card.specs.Answers.{emptyOn, cardingOn, made, toldAsked, answerAsked, zeroRow};
+ghost use Rattle.card.specs.Answers.{emptyOn, cardingOn, made, toldAsked};
 
 // What comes of each carried length: row q says what comes of a lone q carried in, row 0 of nothing carried in.
 pub struct Card {
@@ -44,21 +44,21 @@ fn is_short(stretch: &[u8]) -> bool
 
 impl Card {
     // The most bases of a pattern.
-    pub const GREATEST_PATTERN: usize = refusal::GREATEST_PATTERN;
+    pub const GREATEST_PATTERN: usize = limits::GREATEST_PATTERN;
     // The most bytes of a stretch.
-    pub const GREATEST_STRETCH: usize = refusal::GREATEST_STRETCH;
+    pub const GREATEST_STRETCH: usize = limits::GREATEST_STRETCH;
     // The most segments of a card.
     pub const MOST_SEGMENTS: u32 = Card::NONE - 1;
     // The first end where none is.
-    pub const NONE: u32 = refusal::NO_SEGMENT as u32;
+    pub const NONE: u32 = limits::NO_SEGMENT as u32;
 
     // The card of no segments, of the pattern as the strand reads it: refusals 1, 2, 3 of the pattern as given.
     pub fn empty(pattern: &[u8], strand: Strand) -> Made
         ensures { λ r. ⌜ r ≡ made (emptyOn (now (pattern .entry)) strand) ⌝ }
     {
         match check(pattern) {
-            PatternIs::Refused(wrong) => refused(wrong.number, wrong.place),
-            PatternIs::Sound => {
+            Verdict::Refused(wrong) => refused(wrong.number, wrong.place),
+            Verdict::Sound => {
                 let m = pattern.len();
                 accepted(Card {
                     pattern: read_on(strand, pattern),
@@ -77,8 +77,8 @@ impl Card {
         ensures { λ r. ⌜ r ≡ made (cardingOn (now (pattern .entry)) strand (now (stretch .entry))) ⌝ }
     {
         match check(pattern) {
-            PatternIs::Refused(wrong) => refused(wrong.number, wrong.place),
-            PatternIs::Sound => {
+            Verdict::Refused(wrong) => refused(wrong.number, wrong.place),
+            Verdict::Sound => {
                 if !is_short(stretch) {
                     return refused(refusal::STRETCH_LONG, 0);
                 }
@@ -124,7 +124,6 @@ impl Card {
     // What comes of a state: refusals 11, 17.
     pub fn ask(self, state: State) -> Asked
         ensures { λ r. ⌜ toldAsked r ≡ ask (cardIn self) (state .bits) ⌝ }
-        ensures { λ r. ⌜ answerAsked r ≡ answer zeroRow (ask (cardIn self) (state .bits)) ⌝ }
     {
         if !well_formed(self) {
             return Asked::Refused(Refusal {

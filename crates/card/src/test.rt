@@ -1,7 +1,7 @@
 // The test of a card: whether it is as document 01 says, or malformed.
 use crate::cards::Card;
+use text::Verdict;
 use text::compare::same;
-use text::pattern::PatternIs;
 use text::pattern::check;
 use text::state::low;
 use text::strand::Strand;
@@ -22,8 +22,8 @@ fn is_padded(bytes: &[u8], m: usize) -> bool
 {
     let bases = &bytes[..m];
     match check(bases) {
-        PatternIs::Refused(_) => false,
-        PatternIs::Sound => {
+        Verdict::Refused(_) => false,
+        Verdict::Sound => {
             let again = read_on(Strand::Given, bases);
             same(bytes, &again)
         }
@@ -44,7 +44,7 @@ fn is_row(m: usize, all: u64, segments: u32, q: usize, exit: u64, first: u32) ->
 // Whether the rows below m are. No branch depends on a row, so that the compiler tests several at once.
 fn rows_below(m: usize, segments: u32, exits: &[u64], firsts: &[u32]) -> bool
     requires { ⌜ Full (now exits) (now firsts) × (m ≤ greatestPattern) ⌝ }
-    ensures { λ r. ⌜ IsTest m segments (now (exits .entry)) (now (firsts .entry)) 0 m r ⌝ }
+    ensures { λ r. ⌜ IsTest m segments (rowsIn (now (exits .entry)) (now (firsts .entry))) 0 m r ⌝ }
 {
     let all = low(m);
     let mut sound = true;
@@ -69,7 +69,7 @@ fn is_idle(exit: u64, first: u32) -> bool
 // Whether the rows from m up are, without a branch either.
 fn rows_behind(m: usize, exits: &[u64], firsts: &[u32]) -> bool
     requires { ⌜ Full (now exits) (now firsts) × (m ≤ greatestPattern) ⌝ }
-    ensures { λ r. ⌜ ((n : ℕ) → IsTest m n (now (exits .entry)) (now (firsts .entry)) m greatestPattern r) ⌝ }
+    ensures { λ r. ⌜ ((n : ℕ) → IsTest m n (rowsIn (now (exits .entry)) (now (firsts .entry))) m greatestPattern r) ⌝ }
 {
     let mut sound = true;
     let mut q = m;

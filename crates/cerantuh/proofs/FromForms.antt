@@ -7,7 +7,7 @@ use lib.ListN.{length}
 use Rattle.text.specs.Text.{Text}
 use Rattle.text.specs.State.{marksFrom}
 use Rattle.text.specs.Strand.{onStrand}
-use Rattle.text.specs.Refusal.{Outcome, ok, refused, after}
+use Rattle.text.specs.Refusal.{ok, after}
 use Rattle.text.specs.declared.strand.Strand.{Strand}
 use Rattle.text.specs.declared.refusal.Refusal.{Refusal}
 use Rattle.text.proofs.Outcomes.{told-met, told-refused}
@@ -19,7 +19,7 @@ use Rattle.search.specs.declared.state.State.{State}
 use Rattle.cerantuh.specs.Forms.{coded, lowFirst, seenBlock, seekingInto}
 use Rattle.cerantuh.proofs.Blocks.{four-put}
 use Rattle.cerantuh.proofs.Codes.{Small, seeking-coded, coded-fits, refused-small}
-use Rattle.cerantuh.proofs.Rooms.{told-code, Formed, formed, seek-room, seek-short, seek-left, room-short}
+use Rattle.cerantuh.proofs.Rooms.{told-code, Formed, formed, seek-room, seek-short, seek-left}
 
 -- what is told of a search from a state, and left in its block
 abbrev Told : Sought → ℕ → List ℕ → List ℕ → Type 0

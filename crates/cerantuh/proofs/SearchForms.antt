@@ -5,7 +5,7 @@ use mathlib.Core.Path.{_≡_, refl, sym, ap, _∙_}
 use mathlib.Core.List.{List}
 use lib.ListN.{length}
 use Rattle.text.specs.Text.{Text}
-use Rattle.text.specs.Refusal.{Outcome, ok, after}
+use Rattle.text.specs.Refusal.{ok, after}
 use Rattle.text.specs.declared.refusal.Refusal.{Refusal}
 use Rattle.layout.specs.Bytes.{over}
 use Rattle.layout.specs.Bytes.{leftBy}

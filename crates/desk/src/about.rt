@@ -4,12 +4,12 @@ use crate::tell::tell_standing;
 use desk_list::Line;
 use desk_list::MOST;
 use desk_list::line_at;
-use desk_list::part;
 use desk_night::Night;
 use lines::put_bytes;
 use lines::put_number;
 use lines::put_version;
 use manifest::put_digest;
+use text::part;
 
 // How far the standings have been told: the place in the list, and the number of the sequence there.
 struct Told {

@@ -2,11 +2,11 @@
 use crate::faults::tell_stretch;
 use crate::hits::tell_stretch_hits;
 use crate::tell::say;
-use desk_list::part;
 use desk_night::Night;
 use files::Read;
 use files::read_file;
-use text::refusal;
+use text::limits;
+use text::part;
 
 // The night after a stretch, and whether all that is to be said of it was written.
 pub struct Handed {
@@ -30,7 +30,7 @@ fn hand_bytes(night: Night, list: &[u8], text: &[u8], stretch: &[u8], path: &[u8
 
 // The file of this path, as the next stretch of the text. Of one that is too long the first bytes are handed in: they are refused.
 pub fn hand_in(night: Night, list: &[u8], text: &[u8], path: &[u8]) -> Handed {
-    let mut bytes = [0u8; refusal::GREATEST_STRETCH + 1];
+    let mut bytes = [0u8; limits::GREATEST_STRETCH + 1];
     match read_file(path, &mut bytes) {
         Read::Whole(n) => hand_bytes(night, list, text, part(&bytes, 0, n), path),
         Read::Full => {

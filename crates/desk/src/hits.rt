@@ -5,12 +5,12 @@ use crate::tell::tell_hits;
 use desk_list::Line;
 use desk_list::MOST;
 use desk_list::line_at;
-use desk_list::part;
 use desk_night::Night;
 use desk_verdict::Passed;
 use desk_verdict::Standing;
 use desk_verdict::pass;
-use text::refusal;
+use text::limits;
+use text::part;
 
 // How far the list has been gone through: the place, the number of the sequence there, and whether all is written.
 struct Step {
@@ -21,7 +21,7 @@ struct Step {
 
 // The segments of a stretch in which a sequence ends, from where it stood before. Whether they are written.
 fn tell_all(label: u64, pattern: &[u8], before: Standing, stretch: &[u8], name: &[u8]) -> bool {
-    let mut marks = [0u8; refusal::MOST_IN_STRETCH];
+    let mut marks = [0u8; limits::MOST_IN_STRETCH];
     match pass(pattern, before, stretch, &mut marks) {
         Passed::Refused(_) => true,
         Passed::To {

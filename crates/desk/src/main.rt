@@ -9,15 +9,16 @@ mod faults;
 mod handing;
 mod hits;
 mod named;
+mod stretches;
 mod tell;
 mod whole;
 
-use desk_list::part;
 use files::Read;
 use files::read_file;
 use named::screen_files;
 use tell::say;
 use text::compare::same;
+use text::part;
 use whole::screen_text;
 
 // The most bytes of a list.

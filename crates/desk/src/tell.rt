@@ -1,5 +1,4 @@
 // What is written: lines on standard output, those that decide on descriptor 3 too, and words and progress on standard error.
-use desk_list::part;
 use desk_night::Verdict;
 use desk_night::put_verdict;
 use desk_verdict::Standing;
@@ -10,6 +9,7 @@ use desk_verdict::said::put_named;
 use desk_verdict::said::put_refused;
 use desk_verdict::said::put_standing;
 use text::Refusal;
+use text::part;
 
 // Room for a line with a file's name, the longest of which has 4,096 bytes.
 const LINE: usize = 4352;

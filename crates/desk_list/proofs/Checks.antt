@@ -8,7 +8,8 @@ use mathlib.Core.Bool.{cond}
 use mathlib.Core.List.{List, []}
 use borrow.Author.Tests.{eq-eqb, ne-eqb, lt-ltb, le-ltb, lt-leb}
 use lib.ListN.{length}
-use Rattle.desk_list.specs.Line.{closeOf, between, entryOf, behind, placed, lineOf, Next, Onward}
+use Rattle.text.specs.Compare.{fromTo}
+use Rattle.desk_list.specs.Line.{closeOf, entryOf, behind, placed, lineOf, Next, Onward}
 use Rattle.desk_list.specs.Kinds.{past}
 use Rattle.desk_list.specs.Lines.{nextOf, thenLines, linesFrom, restOf, linesOf, sequencesIn, sequencesOf, wrongIn}
 use Rattle.desk_list.specs.Lines.{most, counted, checkedOf}
@@ -43,7 +44,7 @@ placed-next at next (Entry.Wrong fault) = refl
 module _ (s : List ℕ) where
   -- a line that begins in the list, by what it says
   pub line-there : (at : ℕ) → at < length s
-      → lineOf s at ≡ placed at (behind s (past InLine s at)) (entryOf (between s at (closeOf s at (past InLine s at))))
+      → lineOf s at ≡ placed at (behind s (past InLine s at)) (entryOf (fromTo s at (closeOf s at (past InLine s at))))
   unfolding lineOf
   line-there at l = rw (lt-leb (length s) at l) refl
 
@@ -53,7 +54,7 @@ module _ (s : List ℕ) where
       let p = past-in InLine s at in
       let stop : ℕ = past InLine s at in
       let is : nextOf (lineOf s at) ≡ behind s stop =
-      ap nextOf (line-there at l) ∙ placed-next at (behind s stop) (entryOf (between s at (closeOf s at stop))) in
+      ap nextOf (line-there at l) ∙ placed-next at (behind s stop) (entryOf (fromTo s at (closeOf s at stop))) in
       behind-on s is l (p .0) (p .1)
 
   none-from : (k at : ℕ) → length s ≤ at → [] ≡ linesFrom k s at

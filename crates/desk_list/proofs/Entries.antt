@@ -10,19 +10,19 @@ use borrow.Author.Tests.{eq-eqb, ne-eqb, le-leb, lt-leb, lt-ltb, le-ltb, ltb-tru
 use lib.Dec.{eqb, leb, ltb}
 use lib.ListN.{length, getD, take, drop, length-drop, drop-of-length-le}
 use lib.Seq.{take-all, take-nil}
-use Rattle.text.specs.Refusal.{Outcome, ok, refused, pattern, toldPattern}
+use Rattle.text.specs.Compare.{fromTo}
+use Rattle.text.specs.Refusal.{ok, pattern, toldVerdict}
 use Rattle.text.specs.declared.refusal.Refusal.{Refusal}
-use Rattle.text.specs.declared.pattern.PatternIs.{PatternIs}
-use Rattle.text.specs.declared.pattern.PatternIs.the-variants.{Sound, Refused}
+use Rattle.text.specs.declared.verdict.Verdict.{Verdict}
+use Rattle.text.specs.declared.verdict.Verdict.the-variants.{Sound, Refused}
 use Rattle.text.proofs.Truth.{and-left, and-right}
 use Rattle.desk_list.specs.Kinds.{past}
 use Rattle.desk_list.specs.Number.{numberOf}
-use Rattle.desk_list.specs.Line.{endsAt, between, closedBy, sequenceOf, labelled, labelOf, wordsOf, entryOf}
+use Rattle.desk_list.specs.Line.{endsAt, closedBy, sequenceOf, labelled, labelOf, wordsOf, entryOf}
 use Rattle.desk_list.specs.Line.{returned, closeOf, behind, placed, lineOf, Inside, Next}
 use Rattle.desk_list.specs.declared.classes.Kind.the-variants.{Plain, Blank, Digit, Word, InLine}
 use Rattle.desk_list.specs.declared.decimal.Number.{Number}
 use Rattle.desk_list.specs.declared.decimal.Number.the-variants.{Is, Large}
-use Rattle.desk_list.specs.declared.reading.Fault.{Fault}
 use Rattle.desk_list.specs.declared.reading.Fault.the-variants.{Byte, NoLabel, LargeLabel, NoSequence, Sequence, More}
 use Rattle.desk_list.specs.declared.reading.Entry.{Entry}
 use Rattle.desk_list.specs.declared.reading.Line.{Line}
@@ -97,9 +97,9 @@ inside-at e h = rw e at h
 
 -- a sequence and what stands after it
 module _ (l : List ℕ) (label start : ℕ) {end : ℕ} (e : end ≡ past Word l start) where
-  module _ (r : PatternIs) (told : toldPattern r ≡ pattern (take (end - start) (drop start l)) (ok (tt {0}))) where
-    asked : toldPattern r ≡ pattern (between l start (past Word l start)) (ok (tt {0}))
-    asked = told ∙ ap (λ (n : ℕ). pattern (between l start n) (ok (tt {0}))) e
+  module _ (r : Verdict) (told : toldVerdict r ≡ pattern (take (end - start) (drop start l)) (ok (tt {0}))) where
+    asked : toldVerdict r ≡ pattern (fromTo l start (past Word l start)) (ok (tt {0}))
+    asked = told ∙ ap (λ (n : ℕ). pattern (fromTo l start n) (ok (tt {0}))) e
 
     pub sequence-not : (w : Refusal) → r ≡ Refused w → Entry.Wrong (Sequence w) ≡ sequenceOf l label start
     unfolding sequenceOf closedBy
@@ -140,7 +140,7 @@ module _ (l : List ℕ) {first : ℕ} (a : first ≡ past Blank l 0) {none : Boo
       unfolding labelOf
       numbered =
           let differ : past Digit l first ≡ first → ⊥ = λ h. more (b ∙ h) in
-          let told : numberOf (between l first (past Digit l first)) ≡ r = sym (g ∙ ap (λ (n : ℕ). numberOf (between l first n)) b) in
+          let told : numberOf (fromTo l first (past Digit l first)) ≡ r = sym (g ∙ ap (λ (n : ℕ). numberOf (fromTo l first n)) b) in
           labels ∙ rw (ne-eqb (past Digit l first) first differ, told, b) refl
 
       pub says-large : r ≡ Large → Entry.Wrong LargeLabel ≡ wordsOf l
@@ -194,21 +194,6 @@ module _ (s : List ℕ) (at : ℕ) where
   line-is h {stop} {next} {end} e n f {x} {y} is same =
       let after : next ≡ behind s (past InLine s at) = n ∙ ap (behind s) e in
       let there : end ≡ closeOf s at (past InLine s at) = f ∙ ap (closeOf s at) e in
-      let said : entryOf (between s at (closeOf s at (past InLine s at))) ≡ y =
-      sym (sym same ∙ is ∙ ap (λ (k : ℕ). entryOf (between s at k)) there) in
+      let said : entryOf (fromTo s at (closeOf s at (past InLine s at))) ≡ y =
+      sym (sym same ∙ is ∙ ap (λ (k : ℕ). entryOf (fromTo s at k)) there) in
       rw (lt-leb (length s) at h, said, after) refl
-
--- a part of a list, as far as it is there
-module _ (s : List ℕ) (start end : ℕ) where
-  pub part-far : length s < start → [] ≡ between s start end
-  part-far l = let far : length s ≤ start = omega arith in sym (rw (drop-of-length-le s far) (take-nil (end - start)))
-
-  pub part-none : end < start → [] ≡ between s start end
-  part-none l = let none : end - start ≡ 0 = omega arith in sym (rw none refl)
-
-  pub part-front : length s < end → take (length s - start) (drop start s) ≡ between s start end
-  part-front l =
-      let left : length (drop start s) ≡ length s - start = length-drop start s in
-      let few : length (drop start s) ≤ length s - start = omega arith in
-      let enough : length (drop start s) ≤ end - start = omega arith in
-      take-all (length s - start) (drop start s) few ∙ sym (take-all (end - start) (drop start s) enough)

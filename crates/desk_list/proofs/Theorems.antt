@@ -11,10 +11,11 @@ use borrow.Author.Tests.{eqb-false, ltb-false}
 use lib.Dec.{eqb, ltb}
 use lib.ListN.{length, take, drop, length-take}
 use lib.Seq.{take-take, take-nil, drop-drop}
-use Rattle.text.specs.Refusal.{Outcome, ok, refused, pattern}
-use Rattle.text.proofs.Patterns.{SoundPattern, pattern-sound}
+use Rattle.text.specs.Compare.{fromTo}
+use Rattle.text.specs.Refusal.{Outcome, ok, refused, pattern, SoundPattern}
+use Rattle.text.proofs.Patterns.{pattern-sound}
 use Rattle.desk_list.specs.Kinds.{past}
-use Rattle.desk_list.specs.Line.{endsAt, between, closedBy, sequenceOf, labelled, labelOf, wordsOf, entryOf}
+use Rattle.desk_list.specs.Line.{endsAt, closedBy, sequenceOf, labelled, labelOf, wordsOf, entryOf}
 use Rattle.desk_list.specs.Line.{closeOf, behind, placed, lineOf}
 use Rattle.desk_list.specs.Lines.{nextOf, thenLines, linesFrom, restOf, linesOf, Sequence, sequencesIn, sequencesOf, wrongIn}
 use Rattle.desk_list.specs.Lines.{most, counted, checkedOf}
@@ -31,7 +32,7 @@ use Rattle.desk_list.proofs.Checks.{line-there}
 -- what a line says of a sequence: a sound pattern, that stands in the line
 abbrev Says : List ℕ → Entry → Type 0
 Says l Entry.Nothing = Unit {0}
-Says l (Entry.Withheld label start end) = SoundPattern (between l start end) × (end ≤ length l)
+Says l (Entry.Withheld label start end) = SoundPattern (fromTo l start end) × (end ≤ length l)
 Says l (Entry.Wrong fault) = Unit {0}
 
 -- what both branches say
@@ -40,18 +41,18 @@ either-says l true x y f g = f
 either-says l false x y f g = g
 
 module _ (l : List ℕ) where
-  closed-says : (label start end : ℕ) (o : Outcome (Unit {0})) → pattern (between l start end) (ok (tt {0})) ≡ o → end ≤ length l
+  closed-says : (label start end : ℕ) (o : Outcome (Unit {0})) → pattern (fromTo l start end) (ok (tt {0})) ≡ o → end ≤ length l
       → Says l (closedBy l label start end o)
   unfolding closedBy
   closed-says label start end (ok u) e m =
-      either-says l (endsAt l (past Blank l end)) _ _ (pattern-sound (between l start end) e, m) tt
+      either-says l (endsAt l (past Blank l end)) _ _ (pattern-sound (fromTo l start end) e, m) tt
   closed-says label start end (refused n p) e m = tt
 
   sequence-says : (label start : ℕ) → start ≤ length l → Says l (sequenceOf l label start)
   unfolding sequenceOf
   sequence-says label start h =
       let m : past Word l start ≤ length l = omega (arith, past-in Word l start .1, h) in
-      closed-says label start (past Word l start) (pattern (between l start (past Word l start)) (ok (tt {0}))) refl m
+      closed-says label start (past Word l start) (pattern (fromTo l start (past Word l start)) (ok (tt {0}))) refl m
 
   labelled-says : (digits : ℕ) (n : Number) → digits ≤ length l → Says l (labelled l digits n)
   unfolding labelled
@@ -79,9 +80,9 @@ drop-take (suc n) (suc w) (a ∷ l) =
     drop-take n w l ∙ ap (λ (k : ℕ). take k (drop n l)) (sym z)
 
 -- a part of a part
-between-between : (s : List ℕ) (at to start end : ℕ) → end ≤ length (between s at to)
-    → between (between s at to) start end ≡ between s (at + start) (at + end)
-between-between s at to start end h =
+fromTo-fromTo : (s : List ℕ) (at to start end : ℕ) → end ≤ length (fromTo s at to)
+    → fromTo (fromTo s at to) start end ≡ fromTo s (at + start) (at + end)
+fromTo-fromTo s at to start end h =
     let w : ℕ = to - at in
     let few : end ≤ w = omega (arith, h, simp length-take at h) in
     let less : end - start ≤ w - start = omega arith in
@@ -93,13 +94,13 @@ between-between s at to start end h =
 -- a sequence that a line of a list says is a sound pattern
 abbrev Holds : List ℕ → Line → Type 0
 Holds s (Line.Nothing next) = Unit {0}
-Holds s (Line.Withheld label start end next) = SoundPattern (between s start end)
+Holds s (Line.Withheld label start end next) = SoundPattern (fromTo s start end)
 Holds s (Line.Wrong fault next) = Unit {0}
 Holds s Line.End = Unit {0}
 
-placed-holds : (s : List ℕ) (at to next : ℕ) (e : Entry) → Says (between s at to) e → Holds s (placed at next e)
+placed-holds : (s : List ℕ) (at to next : ℕ) (e : Entry) → Says (fromTo s at to) e → Holds s (placed at next e)
 placed-holds s at to next Entry.Nothing h = tt
-placed-holds s at to next (Entry.Withheld label start end) h = rw (← between-between s at to start end (h .1)) (h .0)
+placed-holds s at to next (Entry.Withheld label start end) h = rw (← fromTo-fromTo s at to start end (h .1)) (h .0)
 placed-holds s at to next (Entry.Wrong fault) h = tt
 
 pub line-holds : (s : List ℕ) (at : ℕ) → Holds s (lineOf s at)
@@ -107,7 +108,7 @@ line-holds s at =
     by-cases (decLt at (length s))
     (λ (l : at < length s).
     let to : ℕ = closeOf s at (past InLine s at) in
-    rw (line-there s at l) (placed-holds s at to (behind s (past InLine s at)) (entryOf (between s at to)) (entry-says (between s at to))))
+    rw (line-there s at l) (placed-holds s at to (behind s (past InLine s at)) (entryOf (fromTo s at to)) (entry-says (fromTo s at to))))
     (λ (l : at < length s → ⊥). let far : length s ≤ at = omega arith in rw (← line-none s at far) tt)
 
 -- every sequence of a list is a sound pattern
@@ -118,7 +119,7 @@ unfolding sequencesIn
 holds-in s (Line.Nothing next) rest P h f m = f m
 holds-in s (Line.Withheld label start end next) rest P h f m =
     ⊎-elim
-    (λ (same : P ≡ record { label = label; bases = between s start end }). rw (ap (λ (q : Sequence). q .bases) same) h)
+    (λ (same : P ≡ record { label = label; bases = fromTo s start end }). rw (ap (λ (q : Sequence). q .bases) same) h)
     (λ (later : List·Memᴰ P (sequencesIn s rest)). f later)
     (List·Memᴰ·cases-cons m)
 holds-in s (Line.Wrong fault next) rest P h f m = f m

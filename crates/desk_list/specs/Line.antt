@@ -4,6 +4,7 @@ use mathlib.Core.Bool.{Bool, _||_, _&&_, cond}
 use mathlib.Core.List.{List}
 use lib.Dec.{eqb, leb, ltb}
 use lib.ListN.{length, take, drop, getD}
+use Rattle.text.specs.Compare.{fromTo}
 use Rattle.text.specs.Refusal.{Outcome, ok, refused, pattern}
 use Rattle.desk_list.specs.Kinds.{past}
 use Rattle.desk_list.specs.Number.{numberOf}
@@ -18,10 +19,6 @@ use Rattle.desk_list.specs.declared.reading.Line.{Line}
 unfoldable pub endsAt : List ℕ → ℕ → Bool
 endsAt l at = leb (length l) at || eqb (getD l at 0) 35
 
--- the bytes from one place up to another
-abbrev pub between : List ℕ → ℕ → ℕ → List ℕ
-between l from to = take (to - from) (drop from l)
-
 -- a sequence and what stands after it
 unfoldable pub closedBy : List ℕ → ℕ → ℕ → ℕ → Outcome (Unit {0}) → Entry
 closedBy l label start end (ok _) =
@@ -31,7 +28,7 @@ closedBy l label start end (refused n p) = Entry.Wrong (Sequence (record { numbe
 -- the sequence from `start` on, after its label
 unfoldable pub sequenceOf : List ℕ → ℕ → ℕ → Entry
 sequenceOf l label start =
-    closedBy l label start (past Word l start) (pattern (between l start (past Word l start)) (ok tt))
+    closedBy l label start (past Word l start) (pattern (fromTo l start (past Word l start)) (ok tt))
 
 -- what stands after the digits of a label
 unfoldable pub labelled : List ℕ → ℕ → Number → Entry
@@ -44,7 +41,7 @@ labelled l digits (Is label) =
 unfoldable pub labelOf : List ℕ → ℕ → Entry
 labelOf l first =
     cond (eqb (past Digit l first) first) (Entry.Wrong NoLabel)
-    (labelled l (past Digit l first) (numberOf (between l first (past Digit l first))))
+    (labelled l (past Digit l first) (numberOf (fromTo l first (past Digit l first))))
 
 -- what a line of plain bytes says
 unfoldable pub wordsOf : List ℕ → Entry
@@ -76,7 +73,7 @@ placed at next (Entry.Wrong fault) = Line.Wrong fault next
 unfoldable pub lineOf : List ℕ → ℕ → Line
 lineOf s at =
     let stop : ℕ = past InLine s at in
-    cond (leb (length s) at) Line.End (placed at (behind s stop) (entryOf (between s at (closeOf s at stop))))
+    cond (leb (length s) at) Line.End (placed at (behind s stop) (entryOf (fromTo s at (closeOf s at stop))))
 
 -- a sequence stands in a line of n bytes
 abbrev pub Inside : ℕ → Entry → Type 0

@@ -4,7 +4,8 @@ use mathlib.Core.Bool.{Bool, true, false, cond}
 use mathlib.Core.List.{List, [], _∷_}
 use lib.Dec.{eqb, ltb}
 use lib.ListN.{length}
-use Rattle.desk_list.specs.Line.{between, lineOf}
+use Rattle.text.specs.Compare.{fromTo}
+use Rattle.desk_list.specs.Line.{lineOf}
 use Rattle.desk_list.specs.declared.reading.Line.{Line}
 use Rattle.desk_list.specs.declared.checking.Checked.{Checked}
 
@@ -44,7 +45,7 @@ pub record Sequence : Type 0 where
 unfoldable pub sequencesIn : List ℕ → List Line → List Sequence
 sequencesIn s [] = []
 sequencesIn s (Line.Nothing next ∷ ls) = sequencesIn s ls
-sequencesIn s (Line.Withheld label start end next ∷ ls) = record { label = label; bases = between s start end } ∷ sequencesIn s ls
+sequencesIn s (Line.Withheld label start end next ∷ ls) = record { label = label; bases = fromTo s start end } ∷ sequencesIn s ls
 sequencesIn s (Line.Wrong fault next ∷ ls) = sequencesIn s ls
 sequencesIn s (Line.End ∷ ls) = sequencesIn s ls
 

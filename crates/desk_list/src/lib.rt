@@ -15,4 +15,3 @@ pub use decimal::told;
 pub use reading::Fault;
 pub use reading::Line;
 pub use reading::line_at;
-pub use reading::part;

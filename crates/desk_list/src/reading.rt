@@ -4,12 +4,12 @@ use crate::classes::past;
 use crate::decimal::Number;
 use crate::decimal::told;
 use text::Refusal;
-use text::pattern::PatternIs;
+use text::Verdict;
 use text::pattern::check;
 ghost use mathlib.Core.Path.{_≡_};
 ghost use Prim.Native.Nat.{_≤_};
 ghost use lib.ListN.{length};
-ghost use Rattle.desk_list.specs.Line.{between, endsAt, sequenceOf, wordsOf, entryOf, closeOf, behind, lineOf, Inside, Onward};
+ghost use Rattle.desk_list.specs.Line.{endsAt, sequenceOf, wordsOf, entryOf, closeOf, behind, lineOf, Inside, Onward};
 
 // What is wrong with a line.
 pub enum Fault {
@@ -72,7 +72,7 @@ fn sequence(line: &[u8], label: u64, start: usize) -> Entry
     ensures { λ r. ⌜ (r ≡ sequenceOf (now (line .entry)) label start) × Inside (length (now (line .entry))) r ⌝ }
 {
     let end = past(Kind::Word, line, start);
-    if let PatternIs::Refused(refused) = check(&line[start..end]) {
+    if let Verdict::Refused(refused) = check(&line[start..end]) {
         return Entry::Wrong(Fault::Sequence(refused));
     }
     let rest = past(Kind::Blank, line, end);
@@ -165,20 +165,4 @@ pub fn line_at(list: &[u8], at: usize) -> Line
         },
         Entry::Wrong(fault) => Line::Wrong { fault, next },
     }
-}
-
-// The bytes from one place of a list up to another, as far as they are there.
-pub fn part(list: &[u8], start: usize, end: usize) -> &[u8]
-    ensures { λ r. ⌜ now r ≡ between (now (list .entry)) start end ⌝ }
-{
-    if list.len() < start {
-        return &list[..0];
-    }
-    if end < start {
-        return &list[..0];
-    }
-    if list.len() < end {
-        return &list[start..];
-    }
-    &list[start..end]
 }

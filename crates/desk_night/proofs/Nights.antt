@@ -4,9 +4,6 @@ use mathlib.Core.Path.{_≡_, refl, sym, ap, _∙_}
 use mathlib.Core.Bool.{Bool, true, false, true≢false}
 use mathlib.Core.List.{List}
 use lib.ListN.{length, replicate}
-use Rattle.text.specs.declared.refusal.Refusal.{Refusal}
-use Rattle.layout.specs.Pieces.{openAt, toldOpened}
-use Rattle.layout.specs.declared.pieces.Opened.{Opened}
 use Rattle.lines.specs.Puts.{Put}
 use Rattle.digest.specs.Blake2b.{blake2b256}
 use Rattle.desk_verdict.specs.Standing.{plus, begun}
@@ -21,7 +18,7 @@ use Rattle.manifest.specs.declared.reading.Line.{Line}
 use Rattle.desk_night.specs.Trouble.{calm, earlier}
 use Rattle.desk_night.specs.Standings.{someEnd, allEnd}
 use Rattle.desk_night.specs.Sweep.{swept}
-use Rattle.desk_night.specs.Night.{countOf, listTrouble, counted, segmentsOf, begunWith, beginning, beginningFiles}
+use Rattle.desk_night.specs.Night.{countOf, listTrouble, segmentsOf, begunWith, beginning, beginningFiles}
 use Rattle.desk_night.specs.TextTrouble.{textTrouble}
 use Rattle.desk_night.specs.Night.{troubled, taken, named, overing, missing, isOver}
 use Rattle.desk_night.specs.Ending.{isStretch, isLeft, unvouched, found, ending, verdictLine}
@@ -29,18 +26,6 @@ use Rattle.desk_night.specs.declared.trouble.Trouble.{Trouble}
 use Rattle.desk_night.specs.declared.sweeping.Swept.{Swept}
 use Rattle.desk_night.specs.declared.night.Night.{Night}
 use Rattle.desk_night.specs.declared.ending.Verdict.{Verdict}
-
--- how many segments a stretch states
-module _ (s : List ℕ) {r : Opened} (told : toldOpened r ≡ openAt s) where
-  segments-by : {o : Opened} → r ≡ o → counted (toldOpened o) ≡ segmentsOf s
-  unfolding segmentsOf
-  segments-by e = ap counted (sym (ap toldOpened e) ∙ told)
-
-  pub segments-is : {n : ℕ} → r ≡ Opened.Segments n → n ≡ segmentsOf s
-  segments-is e = segments-by e
-
-  pub segments-not : {w : Refusal} → r ≡ Opened.Refused w → 0 ≡ segmentsOf s
-  segments-not e = segments-by e
 
 -- a night before its first stretch
 pub begun-made : (list : List ℕ) (vouched : Bool) (text : List ℕ) (first : Bool) (wrong : Trouble) {said : Checked} {x : Standing}

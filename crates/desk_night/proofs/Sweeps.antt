@@ -5,9 +5,10 @@ use mathlib.Core.Path.{_≡_, refl, sym, ap, _∙_}
 use mathlib.Core.Bool.{Bool}
 use mathlib.Core.List.{List, [], _∷_}
 use lib.ListN.{take, set}
+use Rattle.text.specs.Compare.{fromTo}
 use Rattle.text.specs.declared.refusal.Refusal.{Refusal}
 use Rattle.desk_verdict.specs.declared.standing.Standing.{Standing}
-use Rattle.desk_list.specs.Line.{between, lineOf}
+use Rattle.desk_list.specs.Line.{lineOf}
 use Rattle.desk_list.specs.Lines.{nextOf, thenLines, restOf, linesOf, Sequence, sequencesIn, sequencesOf, most}
 use Rattle.desk_list.specs.declared.reading.Fault.{Fault}
 use Rattle.desk_list.specs.declared.reading.Line.{Line}
@@ -69,14 +70,14 @@ module _ {first : Bool} {list s : List ℕ} where
       sweeping-wrong is = record { few = p .few; same = left is }
 
       pub sweeping-more : {label start end next : ℕ} → l ≡ Line.Withheld label start end next → k < most → {P : List ℕ}
-          → P ≡ between list start end → {y : Swept} → y ≡ turned first s P k x → Sweeping first list s x₀ y (k + 1) next
+          → P ≡ fromTo list start end → {y : Swept} → y ≡ turned first s P k x → Sweeping first list s x₀ y (k + 1) next
       unfolding sequencesIn sweeping
       sweeping-more {label} {start} {end} {next} is lt {P} part {y} to =
           let one : most - k ≡ suc (most - (k + 1)) = omega arith in
           let up : suc k ≡ k + 1 = omega arith in
           let Ps : List Sequence = sequencesIn list (restOf list next) in
-          let Q : Sequence = record { label = label; bases = between list start end } in
-          let here : y ≡ turned first s (between list start end) k x = to ∙ ap (λ (b : List ℕ). turned first s b k x) part in
+          let Q : Sequence = record { label = label; bases = fromTo list start end } in
+          let here : y ≡ turned first s (fromTo list start end) k x = to ∙ ap (λ (b : List ℕ). turned first s b k x) part in
           record {
             few = omega arith;
             same =

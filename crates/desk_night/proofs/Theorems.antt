@@ -12,7 +12,7 @@ use lib.Seq.{take-all}
 use Rattle.text.specs.Text.{Text, total}
 use Rattle.text.specs.Refusal.{ok, after}
 use Rattle.text.proofs.Outcomes.{ok-inj, after-met}
-use Rattle.layout.specs.Pieces.{openAt}
+use Rattle.layout.specs.Bytes.{wordAt}
 use Rattle.layout.specs.Reading.{stretchOf}
 use Rattle.digest.specs.Blake2b.{blake2b256}
 use Rattle.search.specs.Chain.{stretchesText}
@@ -30,7 +30,7 @@ use Rattle.manifest.specs.declared.checking.Checked as Said
 use Rattle.manifest.proofs.Theorems.{Whole, checked-sound}
 use Rattle.desk_night.specs.Trouble.{calm}
 use Rattle.desk_night.specs.Standings.{standingAt}
-use Rattle.desk_night.specs.Night.{countOf, listTrouble, counted, segmentsOf, begunWith, beginning, beginningFiles}
+use Rattle.desk_night.specs.Night.{countOf, listTrouble, segmentsOf, begunWith, beginning, beginningFiles}
 use Rattle.desk_night.specs.TextTrouble.{textTrouble}
 use Rattle.desk_night.specs.Ending.{isLeft, ending}
 use Rattle.desk_night.specs.Events.{Event, handed, unread, nightAfter, Vouched}
@@ -380,7 +380,7 @@ segments-text [] T e = ap length (ok-inj e)
 segments-text (s ∷ ss) T e =
     let (t, here, more) = after-met (stretchOf s) (λ t. after (stretchesText ss) λ U. ok (t ++ U)) T e in
     let (U, rest, same) = after-met (stretchesText ss) (λ U. ok (t ++ U)) T more in
-    let own : counted (openAt s) ≡ length t = ap counted (reads-whole s t here .opens) in
+    let own : wordAt s 0 ≡ length t = reads-whole s t here .states in
     let others : total segmentsOf ss ≡ length U = segments-text ss U rest in
     let sum : length t + length U ≡ length T = sym (length-append t U) ∙ ap length (ok-inj same) in
     omega (arith, own, others, sum)

@@ -4,8 +4,7 @@ use mathlib.Core.Bool.{Bool, true, false, not, cond, _&&_}
 use mathlib.Core.List.{List}
 use lib.ListN.{length, replicate}
 use Prim.Native.Nat.{min}
-use Rattle.text.specs.Refusal.{Outcome, ok, refused}
-use Rattle.layout.specs.Pieces.{openAt}
+use Rattle.layout.specs.Bytes.{wordAt}
 use Rattle.digest.specs.Blake2b.{blake2b256}
 use Rattle.desk_verdict.specs.Standing.{plus, begun}
 use Rattle.desk_list.specs.Lines.{most, checkedOf}
@@ -34,13 +33,9 @@ listTrouble Checked.Wrong = Trouble.List
 listTrouble Checked.Empty = Trouble.Empty
 listTrouble Checked.Many = Trouble.Many
 
--- how many segments a stretch states that opens so; one that is refused has none
-abbrev pub counted : Outcome ℕ → ℕ
-counted (ok n) = n
-counted (refused n p) = 0
-
+-- how many segments a stretch states
 unfoldable pub segmentsOf : List ℕ → ℕ
-segmentsOf s = counted (openAt s)
+segmentsOf s = wordAt s 0
 
 -- a night before its first stretch
 unfoldable pub begunWith : List ℕ → Bool → List ℕ → Bool → Trouble → Night

@@ -5,7 +5,7 @@ use desk_verdict::Stopped;
 use desk_verdict::pass;
 use desk_verdict::pass_first;
 use text::Refusal;
-use text::refusal;
+use text::limits;
 ghost use mathlib.Core.Path.{_≡_};
 ghost use Rattle.desk_night.specs.Sweep.{halted, passed, moved, toldMoved};
 
@@ -33,7 +33,7 @@ fn to_first(pattern: &[u8], standing: Standing, stretch: &[u8]) -> Moved
 fn to_all(pattern: &[u8], standing: Standing, stretch: &[u8]) -> Moved
     ensures { λ r. ⌜ toldMoved r ≡ passed (now (pattern .entry)) standing (now (stretch .entry)) ⌝ }
 {
-    let mut marks = [0u8; refusal::MOST_IN_STRETCH];
+    let mut marks = [0u8; limits::MOST_IN_STRETCH];
     match pass(pattern, standing, stretch, &mut marks) {
         Passed::To {
             segments: _,

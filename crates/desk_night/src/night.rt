@@ -9,8 +9,7 @@ use desk_list::MOST;
 use desk_verdict::Standing;
 use desk_verdict::plus;
 use digest::digest;
-use layout::pieces::Opened;
-use layout::pieces::open;
+use layout::walk::stated;
 use manifest::Line;
 use manifest::next_stretch;
 use manifest::vouches;
@@ -73,16 +72,6 @@ fn text_trouble(said: manifest::Checked) -> Trouble
     }
 }
 
-// How many segments a stretch states; one that cannot be read has none.
-fn segments_of(stretch: &[u8]) -> usize
-    ensures { λ r. ⌜ r ≡ segmentsOf (now (stretch .entry)) ⌝ }
-{
-    match open(stretch) {
-        Opened::Segments(count) => count,
-        Opened::Refused(_) => 0,
-    }
-}
-
 // A night before its first stretch.
 fn begun_with(list: &[u8], vouched: bool, text: [u8; 32], first: bool, wrong: Trouble) -> Night
     ensures { λ r. ⌜ r ≡ begunWith (now (list .entry)) vouched text first wrong ⌝ }
@@ -139,7 +128,7 @@ fn taken(night: Night, list: &[u8], at: usize, stretch: &[u8]) -> Night
     let standings = swept.standings;
     let trouble = swept.trouble;
     let stretches = plus(night.stretches, 1);
-    let segments = plus(night.segments, segments_of(stretch) as u64);
+    let segments = plus(night.segments, stated(stretch) as u64);
     let bytes = plus(night.bytes, stretch.len() as u64);
     let digested = night.list;
     let text = night.text;

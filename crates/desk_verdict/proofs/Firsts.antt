@@ -10,27 +10,25 @@ use mathlib.Core.List.{List·Memᴰ, List·Memᴰ·not-nil}
 use borrow.Author.Tests.{eq-eqb, ne-eqb, lt-ltb, ltb-true, le-leb}
 use lib.Dec.{eqb, ltb, leb}
 use lib.ListN.{length, getD}
-use Rattle.text.specs.Text.{Segment, Text}
+use Rattle.text.specs.Text.{Text}
 use Rattle.text.specs.State.{isState, next, ends, run, marksFrom}
 use Rattle.text.specs.Card.{none, later, firstEnd}
 use Rattle.text.specs.Strand.{opposite, onStrand}
-use Rattle.text.specs.Refusal.{Outcome, ok, refused, after}
+use Rattle.text.specs.Refusal.{Outcome, ok, refused, after, SoundPattern}
 use Rattle.text.specs.declared.refusal.Refusal.{Refusal}
 use Rattle.text.specs.declared.strand.Strand.{Strand}
 use Rattle.text.specs.declared.strand.Strand.the-variants.{Given, Opposite}
-use Rattle.text.proofs.Outcomes.{ok-inj, refused-ok, after-met}
-use Rattle.text.proofs.Patterns.{SoundPattern}
+use Rattle.text.proofs.Outcomes.{ok-inj, refused-ok, demand-met, after-met}
 use Rattle.text.proofs.Ends.{firstEnd-le, firstEnd-end, firstEnd-mark}
-use Rattle.text.proofs.Marks.{marks-length}
-use Rattle.layout.specs.Bytes.{greatestStretch}
-use Rattle.layout.specs.Pieces.{openAt, closedAt, mostInStretch, toldOpened}
-use Rattle.layout.specs.declared.pieces.Opened.{Opened}
-use Rattle.layout.specs.Reading.{segmentAt, many, stretchOf}
+use Rattle.layout.specs.Bytes.{greatestStretch, wordAt}
+use Rattle.layout.specs.Pieces.{openAt, closedAt, mostInStretch}
+use Rattle.layout.specs.Reading.{segmentAt, many, segmentsOf, wholeStretch, stretchOf}
+use Rattle.layout.proofs.Frames.{open-stated}
 use Rattle.layout.proofs.Walks.{many-length}
 use Rattle.layout.proofs.Stretches.{stretch-most}
 use Rattle.search.specs.Answers.{entering, into, stretchInto}
 use Rattle.search.specs.Either.{united, eitherFrom, seekingBoth}
-use Rattle.search.specs.declared.state.State.{State}
+use Rattle.search.specs.declared.both.words.Pair.{Pair}
 use Rattle.search.specs.First.{Hit, endsIn, clear, whole, wholeOf, firstIn, hitting, firsting}
 use Rattle.search.proofs.Entries.{Entered, entered, entering-after, entering-sound, entering-over}
 use Rattle.search.proofs.Eithers.{from-length, both-sound}
@@ -45,23 +43,23 @@ use Rattle.desk_verdict.specs.declared.first.Heard.{Heard}
 use Rattle.desk_verdict.specs.declared.standing.Standing.{Standing}
 use Rattle.desk_verdict.proofs.Standings.{both-sought}
 
--- a sound stretch: all of it reads whole, and its count is what it opens with
+-- a sound stretch: all of it reads whole, and it states its count
 pub record Reads (s : List ℕ) (t : Text) : Type 0 where
-  pub opens : openAt s ≡ ok (length t)
+  pub states : wordAt s 0 ≡ length t
   pub all : wholeOf s ≡ t
 
 pub reads-whole : (s : List ℕ) (t : Text) → stretchOf s ≡ ok t → Reads s t
-unfolding stretchOf wholeOf whole
+unfolding stretchOf wholeStretch segmentsOf wholeOf whole
 reads-whole s t e =
-    let (n, opens, more) =
-    after-met (openAt s) (λ n. after (many (λ _. segmentAt s) n [] 2) λ x. after (closedAt s (x .next) n) λ _. ok (x .value)) t e in
+    let (_, sound) = demand-met (leb (length s) greatestStretch) 4 0 (wholeStretch s) t e in
+    let (n, opens, more) = after-met (openAt s) (λ n. segmentsOf s n 2) t sound in
     let (x, read, rest) = after-met (many (λ _. segmentAt s) n [] 2) (λ x. after (closedAt s (x .next) n) λ _. ok (x .value)) t more in
     let (_, _, same) = after-met (closedAt s (x .next) n) (λ _. ok (x .value)) t rest in
     let is : x .value ≡ t = ok-inj same in
     let count : n ≡ length t = omega (arith, many-length (λ _. segmentAt s) n [] 2 x read, ap length is) in
     let none-more : n + 0 ≡ n = omega arith in
     let walked = rw none-more at (whole-walk (λ _. segmentAt s) n 0 [] 2 x read) in
-    record { opens = opens ∙ ap ok count; all = rw opens (walked ∙ is) }
+    record { states = open-stated s n opens ∙ count; all = rw opens (walked ∙ is) }
 
 -- the marks of both strands: the earlier of their first ends
 pub united-first : (P Q : List ℕ) (st re : ℕ) (T : Text)
@@ -221,17 +219,17 @@ goes-inj e = cc
 -- a mark for each segment
 both-long : (P : List ℕ) (x : Standing) (t : Text) → length (bothMarks P x t) ≡ length t
 unfolding bothMarks
-both-long P x t = from-length P (x .given .bits) (x .opposite .bits) t
+both-long P x t = from-length P (x .state .given) (x .state .opposite) t
 
 -- where a sequence stands, from the sums of its segments
 pub ended-is : (x : Standing) (k read all : ℕ) → read ≡ plus k 1 → all ≡ plus (x .segments) read
-    → record { given = x .given; opposite = x .opposite; segments = all; ends = 1 } ≡ ended x k
+    → record { state = x .state; segments = all; ends = 1 } ≡ ended x k
 ended-is x k read all up count =
-    ap (λ (n : ℕ). record { given = x .given; opposite = x .opposite; segments = n; ends = 1 }) (count ∙ ap (plus (x .segments)) up)
+    ap (λ (n : ℕ). record { state = x .state; segments = n; ends = 1 }) (count ∙ ap (plus (x .segments)) up)
 
-pub gone-is : (x : Standing) (a b : State) (n all : ℕ) → all ≡ plus (x .segments) n
-    → record { given = a; opposite = b; segments = all; ends = 0 } ≡ gone x (a .bits) (b .bits) n
-gone-is x a b n all count = ap (λ (m : ℕ). record { given = a; opposite = b; segments = m; ends = 0 }) count
+pub gone-is : (x : Standing) (y : Pair) (n all : ℕ) → all ≡ plus (x .segments) n
+    → record { state = y; segments = all; ends = 0 } ≡ gone x (y .given) (y .opposite) n
+gone-is x y n all count = ap (λ (m : ℕ). record { state = y; segments = m; ends = 0 }) count
 
 module _ (P : List ℕ) (x : Standing) (s : List ℕ) where
   -- a sequence that has ended stays where it stands
@@ -240,14 +238,14 @@ module _ (P : List ℕ) (x : Standing) (s : List ℕ) where
   halting-stays e = rw (ne-eqb (x .ends) 0 e) refl
 
   module _ (e : x .ends ≡ 0) where
-    pub halting-on : halting P x s ≡ after (onBoth P x s) (halted x s)
+    pub halting-on : halting P x s ≡ after (onBoth P x s) (λ h. ok (halted x s h))
     unfolding halting
     halting-on = rw (eq-eqb (x .ends) 0 e) refl
 
-    halting-by : (h : Outcome Either) → h ≡ onBoth P x s → after h (halted x s) ≡ halting P x s
-    halting-by h told = ap (λ (o : Outcome Either). after o (halted x s)) told ∙ sym halting-on
+    halting-by : (h : Outcome Either) → h ≡ onBoth P x s → after h (λ e. ok (halted x s e)) ≡ halting P x s
+    halting-by h told = ap (λ (o : Outcome Either). after o (λ e. ok (halted x s e))) told ∙ sym halting-on
 
-    -- from what both strands say, and what the stretch opens with
+    -- from what both strands say, and what the stretch states
     module _ (r : Heard) (told : toldHeard r ≡ onBoth P x s) where
       pub halting-not : (w : Refusal) → r ≡ Heard.Refused w → refused (w .number) (w .place) ≡ halting P x s
       halting-not w is = halting-by (refused (w .number) (w .place)) (sym (ap toldHeard is) ∙ told)
@@ -255,57 +253,45 @@ module _ (P : List ℕ) (x : Standing) (s : List ℕ) where
       pub halting-ends : (k : ℕ) (y : Standing) → r ≡ Heard.Ends k → y ≡ ended x k → ok (at k y) ≡ halting P x s
       halting-ends k y is there = ap (λ (z : Standing). ok (at k z)) there ∙ halting-by (ok (endsOn k)) (sym (ap toldHeard is) ∙ told)
 
-      module _ (a b : State) (is : r ≡ Heard.Nowhere a b) (v : Opened) (opens : toldOpened v ≡ openAt s) where
-        halting-nowhere : after (toldOpened v) (λ n. ok (goes (gone x (a .bits) (b .bits) n))) ≡ halting P x s
-        halting-nowhere =
-            ap (λ (o : Outcome ℕ). after o (λ n. ok (goes (gone x (a .bits) (b .bits) n)))) opens
-            ∙ halting-by (ok (nowhere (a .bits) (b .bits))) (sym (ap toldHeard is) ∙ told)
-
-        pub halting-closed : (w : Refusal) → v ≡ Opened.Refused w → refused (w .number) (w .place) ≡ halting P x s
-        halting-closed w c =
-            ap (λ (u : Opened). after (toldOpened u) (λ n. ok (goes (gone x (a .bits) (b .bits) n)))) (sym c) ∙ halting-nowhere
-
-        pub halting-goes : (n : ℕ) (y : Standing) → v ≡ Opened.Segments n → y ≡ gone x (a .bits) (b .bits) n → ok (goes y) ≡ halting P x s
-        halting-goes n y c there =
-            ap (λ (z : Standing). ok (goes z)) there
-            ∙ ap (λ (u : Opened). after (toldOpened u) (λ n. ok (goes (gone x (a .bits) (b .bits) n)))) (sym c)
-            ∙ halting-nowhere
+      pub halting-goes : (y : Pair) (n : ℕ) (z : Standing) → r ≡ Heard.Nowhere y → n ≡ wordAt s 0 → z ≡ gone x (y .given) (y .opposite) n
+          → ok (goes z) ≡ halting P x s
+      halting-goes y n z is count there =
+          ap (λ (u : Standing). ok (goes u)) (there ∙ ap (gone x (y .given) (y .opposite)) count)
+          ∙ halting-by (ok (nowhere (y .given) (y .opposite))) (sym (ap toldHeard is) ∙ told)
 
   -- where both strands say that nothing ends
-  module _ (a b : ℕ) (own : firsting P Given (x .given .bits) s ≡ ok (clear a))
-      (turned : firsting P Opposite (x .opposite .bits) s ≡ ok (clear b)) where
-    pub nothing-ends : (y : Standing) → x .ends ≡ 0 → after (openAt s) (λ n. ok (goes (gone x a b n))) ≡ ok (goes y)
+  module _ (a b : ℕ) (own : firsting P Given (x .state .given) s ≡ ok (clear a))
+      (turned : firsting P Opposite (x .state .opposite) s ≡ ok (clear b)) where
+    pub nothing-ends : (y : Standing) → x .ends ≡ 0 → goes (gone x a b (wordAt s 0)) ≡ goes y
         → (t : Text) × (passing P x s mostInStretch ≡ ok t) × (y ≡ stood P x t) × (y .ends ≡ 0)
     unfolding passing seekingBoth into stood bothMarks eitherFrom plus firstIn
     nothing-ends y e rest =
-        let (t, sound, state) = said-clear P Given (x .given .bits) s a own in
-        let (u, again, back) = said-clear P Opposite (x .opposite .bits) s b turned in
+        let (t, sound, state) = said-clear P Given (x .state .given) s a own in
+        let (u, again, back) = said-clear P Opposite (x .state .opposite) s b turned in
         let same : u ≡ t = ok-inj (sym again ∙ sound) in
         let r = reads-whole s t sound in
         let room : leb (length t) mostInStretch ≡ true = le-leb (length t) mostInStretch (stretch-most s t sound) in
-        let x1 = said-entered P Given (x .given .bits) s (clear a) own .0 in
-        let x2 = said-entered P Opposite (x .opposite .bits) s (clear b) turned .0 in
-        let opens = both-sound P (x .given .bits) (x .opposite .bits) s x1 (x2 .state) (stretchInto s mostInStretch) in
-        let n1 : firstEnd (marksFrom P (x .given .bits) t) ≡ none =
-        ap (λ (T : Text). firstEnd (marksFrom P (x .given .bits) T)) (sym (r .all))
-        ∙ sym (said-end P Given (x .given .bits) s x1) ∙ ap endOf own in
-        let n2 : firstEnd (marksFrom (opposite P) (x .opposite .bits) t) ≡ none =
-        ap (λ (T : Text). firstEnd (marksFrom (opposite P) (x .opposite .bits) T)) (sym (r .all))
-        ∙ sym (said-end P Opposite (x .opposite .bits) s x2) ∙ ap endOf turned in
+        let x1 = said-entered P Given (x .state .given) s (clear a) own .0 in
+        let x2 = said-entered P Opposite (x .state .opposite) s (clear b) turned .0 in
+        let opens = both-sound P (x .state .given) (x .state .opposite) s x1 (x2 .state) (stretchInto s mostInStretch) in
+        let n1 : firstEnd (marksFrom P (x .state .given) t) ≡ none =
+        ap (λ (T : Text). firstEnd (marksFrom P (x .state .given) T)) (sym (r .all))
+        ∙ sym (said-end P Given (x .state .given) s x1) ∙ ap endOf own in
+        let n2 : firstEnd (marksFrom (opposite P) (x .state .opposite) t) ≡ none =
+        ap (λ (T : Text). firstEnd (marksFrom (opposite P) (x .state .opposite) T)) (sym (r .all))
+        ∙ sym (said-end P Opposite (x .state .opposite) s x2) ∙ ap endOf turned in
         let few : length (bothMarks P x t) < none = omega (arith, both-long P x t, stretch-most s t sound) in
         let zero-ends : length (markedFrom 0 (bothMarks P x t)) ≡ 0 =
-        none-count 0 (bothMarks P x t) few (united-first P (opposite P) (x .given .bits) (x .opposite .bits) t ∙ ap₂ min n1 n2) in
+        none-count 0 (bothMarks P x t) few (united-first P (opposite P) (x .state .given) (x .state .opposite) t ∙ ap₂ min n1 n2) in
         let counted : 0 ≡ plus (x .ends) (length (markedFrom 0 (bothMarks P x t))) = omega (arith, e, zero-ends) in
-        let count = ap (λ (o : Outcome ℕ). after o (λ n. ok (goes (gone x a b n)))) (r .opens) in
-        let is : gone x a b (length t) ≡ y = goes-inj (ok-inj (sym count ∙ rest)) in
-        let other : run (opposite P) (x .opposite .bits) t ≡ b = ap (run (opposite P) (x .opposite .bits)) (sym same) ∙ back in (
+        let is : gone x a b (length t) ≡ y = sym (ap (gone x a b) (r .states)) ∙ goes-inj rest in
+        let other : run (opposite P) (x .state .opposite) t ≡ b = ap (run (opposite P) (x .state .opposite)) (sym same) ∙ back in (
           t,
           rw (opens, sound, room) refl,
           sym is
               ∙ (λ i.
               record {
-                given = record { bits = sym state i };
-                opposite = record { bits = sym other i };
+                state = record { given = sym state i; opposite = sym other i };
                 segments = plus (x .segments) (length t);
                 ends = counted i;
               }),
@@ -317,14 +303,14 @@ module _ (P : List ℕ) (x : Standing) (s : List ℕ) where
       → (t : Text) × (passing P x s mostInStretch ≡ ok t) × (y ≡ stood P x t) × (y .ends ≡ 0)
   unfolding onBoth
   goes-stood e y met =
-      let (h, heard, rest) = after-met (onBoth P x s) (halted x s) (goes y) (sym (halting-on e) ∙ met) in
-      go h heard rest
+      let (h, heard, rest) = after-met (onBoth P x s) (λ h. ok (halted x s h)) (goes y) (sym (halting-on e) ∙ met) in
+      go h heard (ok-inj rest)
     where
-      go : (h : Either) → onBoth P x s ≡ ok h → halted x s h ≡ ok (goes y)
+      go : (h : Either) → onBoth P x s ≡ ok h → halted x s h ≡ goes y
           → (t : Text) × (passing P x s mostInStretch ≡ ok t) × (y ≡ stood P x t) × (y .ends ≡ 0)
       go (endsOn k) heard rest = absurd (let z : _≡_ {A = ℕ} 0 1 = cc in omega arith)
       go (nowhere a b) heard rest =
-          let (own, turned) = earlier-nowhere (firsting P Given (x .given .bits) s) (firsting P Opposite (x .opposite .bits) s) a b heard in
+          let (own, turned) = earlier-nowhere (firsting P Given (x .state .given) s) (firsting P Opposite (x .state .opposite) s) a b heard in
           nothing-ends a b own turned y e rest
 
   -- where the plain search finds nothing, nothing ends
@@ -332,69 +318,67 @@ module _ (P : List ℕ) (x : Standing) (s : List ℕ) where
       → halting P x s ≡ ok (goes (stood P x t))
   unfolding passing stood plus bothMarks eitherFrom onBoth firstIn
   stood-goes t met e zero-ends =
-      let (x1, x2, sound, _) = both-sought P (x .given .bits) (x .opposite .bits) s mostInStretch t met in
+      let (x1, x2, sound, _) = both-sought P (x .state .given) (x .state .opposite) s mostInStretch t met in
       let r = reads-whole s t sound in
       let count : length (markedFrom 0 (bothMarks P x t)) ≡ 0 = omega (arith, zero-ends) in
-      let both : min (firstEnd (marksFrom P (x .given .bits) t)) (firstEnd (marksFrom (opposite P) (x .opposite .bits) t)) ≡ none =
-      sym (united-first P (opposite P) (x .given .bits) (x .opposite .bits) t) ∙ count-none (bothMarks P x t) count in
-      let n1 : firstEnd (marksFrom P (x .given .bits) t) ≡ none = omega (arith, both, firstEnd-le (marksFrom P (x .given .bits) t)) in
-      let n2 : firstEnd (marksFrom (opposite P) (x .opposite .bits) t) ≡ none =
-      omega (arith, both, firstEnd-le (marksFrom (opposite P) (x .opposite .bits) t)) in
+      let both : min (firstEnd (marksFrom P (x .state .given) t)) (firstEnd (marksFrom (opposite P) (x .state .opposite) t)) ≡ none =
+      sym (united-first P (opposite P) (x .state .given) (x .state .opposite) t) ∙ count-none (bothMarks P x t) count in
+      let n1 : firstEnd (marksFrom P (x .state .given) t) ≡ none = omega (arith, both, firstEnd-le (marksFrom P (x .state .given) t)) in
+      let n2 : firstEnd (marksFrom (opposite P) (x .state .opposite) t) ≡ none =
+      omega (arith, both, firstEnd-le (marksFrom (opposite P) (x .state .opposite) t)) in
       let c1 =
-      clear-said P Given (x .given .bits) s t x1 sound (ap (λ (T : Text). firstEnd (marksFrom P (x .given .bits) T)) (r .all) ∙ n1) in
+      clear-said P Given (x .state .given) s t x1 sound (ap (λ (T : Text). firstEnd (marksFrom P (x .state .given) T)) (r .all) ∙ n1) in
       let c2 =
-      clear-said P Opposite (x .opposite .bits) s t x2 sound
-      (ap (λ (T : Text). firstEnd (marksFrom (opposite P) (x .opposite .bits) T)) (r .all) ∙ n2) in
-      let a : ℕ = run P (x .given .bits) t in
-      let b : ℕ = run (opposite P) (x .opposite .bits) t in
+      clear-said P Opposite (x .state .opposite) s t x2 sound
+      (ap (λ (T : Text). firstEnd (marksFrom (opposite P) (x .state .opposite) T)) (r .all) ∙ n2) in
+      let a : ℕ = run P (x .state .given) t in
+      let b : ℕ = run (opposite P) (x .state .opposite) t in
       let heard : onBoth P x s ≡ ok (nowhere a b) = ap₂ earlier c1 c2 in
       let counted : 0 ≡ plus (x .ends) (length (markedFrom 0 (bothMarks P x t))) = sym zero-ends in
-      halting-on e ∙ ap (λ (o : Outcome Either). after o (halted x s)) heard
-      ∙ ap (λ (o : Outcome ℕ). after o (λ n. ok (goes (gone x a b n)))) (r .opens)
+      halting-on e ∙ ap (λ (o : Outcome Either). after o (λ h. ok (halted x s h))) heard
+      ∙ ap (λ (n : ℕ). ok (goes (gone x a b n))) (r .states)
       ∙ (λ i.
       let segments : ℕ = plus (x .segments) (length t) in
-      ok (goes (record { given = record { bits = a }; opposite = record { bits = b }; segments = segments; ends = counted i })))
+      ok (goes (record { state = record { given = a; opposite = b }; segments = segments; ends = counted i })))
 
   -- an end: both strands say that it is there
   pub at-heard : x .ends ≡ 0 → (k : ℕ) (y : Standing) → halting P x s ≡ ok (at k y) → (onBoth P x s ≡ ok (endsOn k)) × (y ≡ ended x k)
   at-heard e k y met =
-      let (h, heard, rest) = after-met (onBoth P x s) (halted x s) (at k y) (sym (halting-on e) ∙ met) in
-      go h heard rest
+      let (h, heard, rest) = after-met (onBoth P x s) (λ h. ok (halted x s h)) (at k y) (sym (halting-on e) ∙ met) in
+      go h heard (ok-inj rest)
     where
       not-at : {z : Standing} → goes z ≡ at k y → ⊥
       not-at e = let z : _≡_ {A = ℕ} 0 1 = cc in (let u : ⊥ = omega arith in u)
 
-      go : (h : Either) → onBoth P x s ≡ ok h → halted x s h ≡ ok (at k y) → (onBoth P x s ≡ ok (endsOn k)) × (y ≡ ended x k)
+      go : (h : Either) → onBoth P x s ≡ ok h → halted x s h ≡ at k y → (onBoth P x s ≡ ok (endsOn k)) × (y ≡ ended x k)
       go (endsOn j) heard rest =
           let same : j ≡ k = cc in
           let there : ended x j ≡ y = cc in
           (heard ∙ ap (λ (i : ℕ). ok (endsOn i)) same, sym there ∙ ap (ended x) same)
-      go (nowhere a b) heard rest =
-          let (n, _, is) = after-met (openAt s) (λ n. ok (goes (gone x a b n))) (at k y) rest in
-          absurd (not-at (ok-inj is))
+      go (nowhere a b) heard rest = absurd (not-at rest)
 
   -- and it is the first of what reads whole
-  pub at-first : SoundPattern P → isState (length P) (x .given .bits) ≡ true → isState (length P) (x .opposite .bits) ≡ true
+  pub at-first : SoundPattern P → isState (length P) (x .state .given) ≡ true → isState (length P) (x .state .opposite) ≡ true
       → (k : ℕ) → onBoth P x s ≡ ok (endsOn k) → (k ≡ firstEnd (bothMarks P x (wholeOf s))) × (k < none)
   unfolding onBoth bothMarks eitherFrom firstIn firsting
   at-first sound i j k heard =
       by-cases (decLt greatestStretch (length s))
       (λ (long : greatestStretch < length s).
-      let own = entering-over P (x .given .bits) s sound long (hitting P (x .given .bits) s) in
-      let turned = entering-over P (x .opposite .bits) s sound long (hitting (opposite P) (x .opposite .bits) s) in
+      let own = entering-over P (x .state .given) s sound long (hitting P (x .state .given) s) in
+      let turned = entering-over P (x .state .opposite) s sound long (hitting (opposite P) (x .state .opposite) s) in
       absurd (refused-ok 4 0 (endsOn k) (sym (ap₂ earlier own turned) ∙ heard)))
       (λ (short : ¬ (greatestStretch < length s)).
       let fits : length s ≤ greatestStretch = omega arith in
-      let e1 = said-end P Given (x .given .bits) s (record { sound = sound; short = fits; state = i }) in
-      let e2 = said-end P Opposite (x .opposite .bits) s (record { sound = sound; short = fits; state = j }) in
-      let l1 : endOf (firsting P Given (x .given .bits) s) ≤ none =
-      omega (arith, e1, firstEnd-le (marksFrom P (x .given .bits) (wholeOf s))) in
-      let l2 : endOf (firsting P Opposite (x .opposite .bits) s) ≤ none =
-      omega (arith, e2, firstEnd-le (marksFrom (opposite P) (x .opposite .bits) (wholeOf s))) in (
-        earlier-ends (firsting P Given (x .given .bits) s) (firsting P Opposite (x .opposite .bits) s) k l1 l2 heard ∙ ap₂ min e1 e2
-            ∙ sym (united-first P (opposite P) (x .given .bits) (x .opposite .bits) (wholeOf s)),
-        earlier-small (firsting P Given (x .given .bits) s) (firsting P Opposite (x .opposite .bits) s) k
-            (said-small P Given (x .given .bits) s) (said-small P Opposite (x .opposite .bits) s) heard,
+      let e1 = said-end P Given (x .state .given) s (record { sound = sound; short = fits; state = i }) in
+      let e2 = said-end P Opposite (x .state .opposite) s (record { sound = sound; short = fits; state = j }) in
+      let l1 : endOf (firsting P Given (x .state .given) s) ≤ none =
+      omega (arith, e1, firstEnd-le (marksFrom P (x .state .given) (wholeOf s))) in
+      let l2 : endOf (firsting P Opposite (x .state .opposite) s) ≤ none =
+      omega (arith, e2, firstEnd-le (marksFrom (opposite P) (x .state .opposite) (wholeOf s))) in (
+        earlier-ends (firsting P Given (x .state .given) s) (firsting P Opposite (x .state .opposite) s) k l1 l2 heard ∙ ap₂ min e1 e2
+            ∙ sym (united-first P (opposite P) (x .state .given) (x .state .opposite) (wholeOf s)),
+        earlier-small (firsting P Given (x .state .given) s) (firsting P Opposite (x .state .opposite) s) k
+            (said-small P Given (x .state .given) s) (said-small P Opposite (x .state .opposite) s) heard,
       ))
 
 ends-before : (P : List ℕ) (x : Standing) (t : Text) → stood P x t .ends ≡ 0 → x .ends ≡ 0

@@ -7,7 +7,7 @@ use mathlib.Core.List.{List, [], _∷_}
 use borrow.Author.Tests.{leb-true}
 use lib.Dec.{leb}
 use lib.ListN.{length}
-use Rattle.text.specs.Text.{Segment, Text, total}
+use Rattle.text.specs.Text.{Text, total}
 use Rattle.text.specs.State.{next, ends, run, marksFrom}
 use Rattle.text.specs.Strand.{opposite}
 use Rattle.text.specs.Refusal.{Outcome, ok, refused, demand, after}
@@ -49,7 +49,7 @@ unfolding passing
 passed-room P x s room {r} {n} {y} told e =
     let (t, met, is) = told-met (passing P x s room) (behind P x) (record { segments = n; standing = y }) (sym told ∙ ap toldPassed e) in
     let count : length t ≡ n = ap (λ (b : Behind). b .segments) is in
-    omega (arith, both-sought P (x .given .bits) (x .opposite .bits) s room t met .3, count)
+    omega (arith, both-sought P (x .state .given) (x .state .opposite) s room t met .3, count)
 
 -- the sum of marks that are 0 or 1 is the number of those that are 1
 counted-one : (b : Bool) (j : ℕ) (l : List ℕ) → total (λ x. x) l ≡ length (markedFrom (suc j) l)
@@ -79,15 +79,15 @@ module _ (P : List ℕ) (x : Standing) (s : List ℕ) (room : ℕ) where
 
   -- what the search answers
   abbrev sought : Outcome Text
-  sought = seekingBoth P (x .given .bits) (x .opposite .bits) s room
+  sought = seekingBoth P (x .state .given) (x .state .opposite) s room
 
   module _ (d left : List ℕ) (r : SoughtBoth)
-      (told : toldBoth r ≡ after sought (λ t. ok (seenBoth P (x .given .bits) (x .opposite .bits) t)))
-      (wrote : left ≡ leftBy (eitherFrom P (x .given .bits) (x .opposite .bits)) sought d) where
+      (told : toldBoth r ≡ after sought (λ t. ok (seenBoth P (x .state .given) (x .state .opposite) t)))
+      (wrote : left ≡ leftBy (eitherFrom P (x .state .given) (x .state .opposite)) sought d) where
     pub passes-not : (w : Refusal) → r ≡ Refused w → Passes (refused (w .number) (w .place)) d left
     unfolding passing bothMarks
     passes-not w e =
-        let none = told-refused sought (seenBoth P (x .given .bits) (x .opposite .bits)) (w .number) (w .place)
+        let none = told-refused sought (seenBoth P (x .state .given) (x .state .opposite)) (w .number) (w .place)
         (sym told ∙ ap toldBoth e) in
         (rw none refl, wrote)
 
@@ -96,12 +96,12 @@ module _ (P : List ℕ) (x : Standing) (s : List ℕ) (room : ℕ) where
         (ok (record {
           segments = n;
           standing =
-              record { given = record { bits = y .given }; opposite = record { bits = y .opposite }; segments = all; ends = more };
+              record { state = y; segments = all; ends = more };
         })) d left
     unfolding passing stood bothMarks eitherFrom seenBoth
     passes-to n z m y e all more a b =
-        let st : ℕ = x .given .bits in
-        let re : ℕ = x .opposite .bits in
+        let st : ℕ = x .state .given in
+        let re : ℕ = x .state .opposite in
         let f = told-met (seekingBoth P st re s room) (seenBoth P st re) _ (sym told ∙ ap toldBoth e) in
         let t : Text = f .0 in
         let marks : List ℕ = united (marksFrom P st t) (marksFrom (opposite P) re t) in
@@ -115,15 +115,14 @@ module _ (P : List ℕ) (x : Standing) (s : List ℕ) (room : ℕ) where
         let is : record {
           segments = n;
           standing =
-              record { given = record { bits = y .given }; opposite = record { bits = y .opposite }; segments = all; ends = more };
+              record { state = y; segments = all; ends = more };
         } ≡ behind P x t =
         λ i.
         record {
           segments = sym count i;
           standing =
               record {
-                given = record { bits = own i };
-                opposite = record { bits = turned i };
+                state = record { given = own i; opposite = turned i };
                 segments = (a ∙ many) i;
                 ends = (b ∙ sum) i;
               };

@@ -18,9 +18,8 @@ use Rattle.text.specs.Bits.{bit}
 use Rattle.text.specs.State.{isState, fresh, next, run, marksFrom, marks}
 use Rattle.text.specs.Card.{none, firstEnd}
 use Rattle.text.specs.Strand.{opposite}
-use Rattle.text.specs.Refusal.{ok, after}
+use Rattle.text.specs.Refusal.{ok, after, SoundPattern}
 use Rattle.text.proofs.Outcomes.{ok-inj, after-met}
-use Rattle.text.proofs.Patterns.{SoundPattern}
 use Rattle.text.proofs.Truth.{and-left, and-both}
 use Rattle.text.proofs.Steps.{next-open, next-lt}
 use Rattle.text.proofs.Strands.{opposite-length}
@@ -54,8 +53,8 @@ most = 0xffffffffffffffff
 
 -- x is where P stands after the text T: the states of both strands, the number of segments, and the number of those in which P ends
 pub record At (P : List ℕ) (T : Text) (x : Standing) : Type 0 where
-  pub own : x .given .bits ≡ run P fresh T
-  pub turned : x .opposite .bits ≡ run (opposite P) fresh T
+  pub own : x .state .given ≡ run P fresh T
+  pub turned : x .state .opposite ≡ run (opposite P) fresh T
   pub segments : x .segments ≡ min (length T) most
   pub ends : x .ends ≡ min (length (markedFrom 0 (eitherMarks P T))) most
 
@@ -97,7 +96,7 @@ module _ (P : List ℕ) (T t : Text) where
 -- an accepted stretch is one that means a text
 passing-means : (P : List ℕ) (x : Standing) (s : List ℕ) (room : ℕ) (t : Text) → passing P x s room ≡ ok t → stretchOf s ≡ ok t
 unfolding passing
-passing-means P x s room t e = both-sought P (x .given .bits) (x .opposite .bits) s room t e .2
+passing-means P x s room t e = both-sought P (x .state .given) (x .state .opposite) s room t e .2
 
 -- stretches of any number, taken one after another: all of them are accepted, and P stands where it stands after their text
 pub record Stood (P : List ℕ) (T : Text) (ss : List (List ℕ)) (y : Standing) : Type 0 where
@@ -139,20 +138,20 @@ stands-clear P ss y sound e none =
 -- a file after others: with T the text of those before, t its own and U that of those after, segment j of it is reported exactly when an
 -- occurrence ends, on either strand, in segment `length T + j` of the whole text
 module _ (P : List ℕ) (T t U : Text) (x : Standing) (a : At P T x) where
-  both-append : bothMarks P x (t ++ U) ≡ bothMarks P x t ++ united (marksFrom P (run P (x .given .bits) t) U)
-      (marksFrom (opposite P) (run (opposite P) (x .opposite .bits) t) U)
+  both-append : bothMarks P x (t ++ U) ≡ bothMarks P x t ++ united (marksFrom P (run P (x .state .given) t) U)
+      (marksFrom (opposite P) (run (opposite P) (x .state .opposite) t) U)
   unfolding bothMarks eitherFrom
   both-append =
-      let same : length (marksFrom P (x .given .bits) t) ≡ length (marksFrom (opposite P) (x .opposite .bits) t) =
-      marks-length P (x .given .bits) t ∙ sym (marks-length (opposite P) (x .opposite .bits) t) in
-      ap₂ united (marks-append P (x .given .bits) t U) (marks-append (opposite P) (x .opposite .bits) t U) ∙ united-append _ _ _ _ same
+      let same : length (marksFrom P (x .state .given) t) ≡ length (marksFrom (opposite P) (x .state .opposite) t) =
+      marks-length P (x .state .given) t ∙ sym (marks-length (opposite P) (x .state .opposite) t) in
+      ap₂ united (marks-append P (x .state .given) t U) (marks-append (opposite P) (x .state .opposite) t U) ∙ united-append _ _ _ _ same
 
   both-length : length (bothMarks P x t) ≡ length t
   unfolding bothMarks eitherFrom
   both-length =
-      let same : length (marksFrom P (x .given .bits) t) ≡ length (marksFrom (opposite P) (x .opposite .bits) t) =
-      marks-length P (x .given .bits) t ∙ sym (marks-length (opposite P) (x .opposite .bits) t) in
-      united-length _ _ same ∙ marks-length P (x .given .bits) t
+      let same : length (marksFrom P (x .state .given) t) ≡ length (marksFrom (opposite P) (x .state .opposite) t) =
+      marks-length P (x .state .given) t ∙ sym (marks-length (opposite P) (x .state .opposite) t) in
+      united-length _ _ same ∙ marks-length P (x .state .given) t
 
   mark-there : (j : ℕ) → j < length t → getD (eitherMarks P (T ++ (t ++ U))) (length T + j) 0 ≡ getD (bothMarks P x t) j 0
   mark-there j l =
@@ -215,10 +214,10 @@ first-of : (P : List ℕ) (T : Text) (x : Standing) (s : List ℕ) (k : ℕ) (y 
     → halting P x s ≡ ok (at k y) → FirstOf P T (wholeOf s) k x y
 first-of P T x s k y sound a e met =
     let heard = at-heard P x s e k y met in
-    let own : isState (length P) (x .given .bits) ≡ true =
+    let own : isState (length P) (x .state .given) ≡ true =
     ap (isState (length P)) (a .own) ∙ run-state P fresh T (sound .some) (fresh-state P (sound .some)) in
     let some : 0 < length (opposite P) = rw (opposite-length P) (sound .some) in
-    let turned : isState (length P) (x .opposite .bits) ≡ true =
+    let turned : isState (length P) (x .state .opposite) ≡ true =
     ap (isState (length P)) (a .turned) ∙ ap (λ (m : ℕ). isState m (run (opposite P) fresh T)) (sym (opposite-length P))
     ∙ run-state (opposite P) fresh T some (fresh-state (opposite P) some) in
     let t : Text = wholeOf s in

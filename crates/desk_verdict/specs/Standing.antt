@@ -26,18 +26,17 @@ nextMarked marks from = from + firstNot (λ x. not (eqb x 1)) (drop from marks)
 
 -- a stretch that is searched on both strands, each from where it stands: the refusals of the search
 unfoldable pub passing : List ℕ → Standing → List ℕ → ℕ → Outcome Text
-passing P x s room = seekingBoth P (x .given .bits) (x .opposite .bits) s room
+passing P x s room = seekingBoth P (x .state .given) (x .state .opposite) s room
 
 -- the segments of a text in which an occurrence ends on either strand
 unfoldable pub bothMarks : List ℕ → Standing → Text → List ℕ
-bothMarks P x t = eitherFrom P (x .given .bits) (x .opposite .bits) t
+bothMarks P x t = eitherFrom P (x .state .given) (x .state .opposite) t
 
 -- where the sequence stands after a text
 unfoldable pub stood : List ℕ → Standing → Text → Standing
 stood P x t =
     record {
-      given = record { bits = run P (x .given .bits) t };
-      opposite = record { bits = run (opposite P) (x .opposite .bits) t };
+      state = record { given = run P (x .state .given) t; opposite = run (opposite P) (x .state .opposite) t };
       segments = plus (x .segments) (length t);
       ends = plus (x .ends) (length (markedFrom 0 (bothMarks P x t)));
     }
@@ -56,7 +55,7 @@ toldPassed (Refused r) = refused (r .number) (r .place)
 
 -- nothing is searched yet
 abbrev pub begun : Standing
-begun = record { given = record { bits = 1 }; opposite = record { bits = 1 }; segments = 0; ends = 0 }
+begun = record { state = record { given = 1; opposite = 1 }; segments = 0; ends = 0 }
 
 -- where the sequence stands after stretches, one after another; the first that is refused refuses all
 unfoldable pub stands : List ℕ → Standing → List (List ℕ) → Outcome Standing

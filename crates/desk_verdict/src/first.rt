@@ -2,11 +2,12 @@
 // searched no further.
 use crate::standing::Standing;
 use crate::sum::plus;
-use layout::pieces::Opened;
-use layout::pieces::open;
+use layout::walk::stated;
 use search::First;
+use search::Pair;
 use search::State;
 use text::Refusal;
+use text::numbers::least;
 use text::strand::Strand;
 ghost use mathlib.Core.Path.{_≡_};
 ghost use Prim.Native.Nat.{min};
@@ -16,7 +17,7 @@ ghost use Rattle.desk_verdict.specs.First.{earlier, toldHeard, onBoth, e
 // The first segment of a stretch in which the sequence ends on either strand; or the states after it.
 enum Heard {
     Ends(usize),
-    Nowhere { given: State, opposite: State },
+    Nowhere(Pair),
     Refused(Refusal),
 }
 
@@ -25,13 +26,6 @@ pub enum Stopped {
     Ends { segment: usize, standing: Standing },
     Goes(Standing),
     Refused(Refusal),
-}
-
-// The smaller of two segments.
-fn least(a: usize, b: usize) -> usize
-    ensures { λ r. ⌜ r ≡ min a b ⌝ }
-{
-    if a < b { a } else { b }
 }
 
 // What two strands say of one stretch: the earlier end, whatever fault is after it; a refusal where neither ends.
@@ -46,7 +40,10 @@ fn earlier(own: First, other: First) -> Heard
         },
         First::None(given) => match other {
             First::Ends(turned) => Heard::Ends(turned),
-            First::None(opposite) => Heard::Nowhere { given, opposite },
+            First::None(opposite) => Heard::Nowhere(Pair {
+                given: given.bits,
+                opposite: opposite.bits,
+            }),
             First::Refused(wrong) => Heard::Refused(wrong),
         },
         First::Refused(wrong) => match other {
@@ -61,8 +58,11 @@ fn earlier(own: First, other: First) -> Heard
 fn on_both(pattern: &[u8], standing: Standing, stretch: &[u8]) -> Heard
     ensures { λ r. ⌜ toldHeard r ≡ onBoth (now (pattern .entry)) standing (now (stretch .entry)) ⌝ }
 {
-    let given = standing.given;
-    let opposite = standing.opposite;
+    let state = standing.state;
+    let given = State { bits: state.given };
+    let opposite = State {
+        bits: state.opposite,
+    };
     let own = given.first(pattern, Strand::Given, stretch);
     let other = opposite.first(pattern, Strand::Opposite, stretch);
     earlier(own, other)
@@ -74,24 +74,21 @@ fn ended(standing: Standing, segment: usize) -> Standing
 {
     let read = plus(segment as u64, 1);
     let segments = plus(standing.segments, read);
-    let given = standing.given;
-    let opposite = standing.opposite;
+    let state = standing.state;
     Standing {
-        given,
-        opposite,
+        state,
         segments,
         ends: 1,
     }
 }
 
 // Where a sequence stands after a stretch of that many segments in which it does not end, from the states there.
-fn gone(standing: Standing, given: State, opposite: State, count: usize) -> Standing
-    ensures { λ r. ⌜ r ≡ gone standing (given .bits) (opposite .bits) count ⌝ }
+fn gone(standing: Standing, state: Pair, count: usize) -> Standing
+    ensures { λ r. ⌜ r ≡ gone standing (state .given) (state .opposite) count ⌝ }
 {
     let segments = plus(standing.segments, count as u64);
     Standing {
-        given,
-        opposite,
+        state,
         segments,
         ends: 0,
     }
@@ -114,9 +111,6 @@ pub fn pass_first(pattern: &[u8], standing: Standing, stretch: &[u8]) -> Stopped
                 standing: reached,
             }
         }
-        Heard::Nowhere { given, opposite } => match open(stretch) {
-            Opened::Refused(wrong) => Stopped::Refused(wrong),
-            Opened::Segments(count) => Stopped::Goes(gone(standing, given, opposite, count)),
-        },
+        Heard::Nowhere(state) => Stopped::Goes(gone(standing, state, stated(stretch))),
     }
 }

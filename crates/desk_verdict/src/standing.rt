@@ -2,7 +2,6 @@
 use crate::sum::plus;
 use search::Pair;
 use search::SoughtBoth;
-use search::State;
 use text::Refusal;
 ghost use mathlib.Core.Path.{_≡_};
 ghost use lib.ListN.{length};
@@ -10,11 +9,9 @@ ghost use Rattle.text.specs.Refusal.{ok, after};
 ghost use Rattle.layout.specs.Bytes.{leftBy};
 ghost use Rattle.desk_verdict.specs.Standing.{begun, passing, behind, bothMarks, toldPassed};
 
-// What the strand as given and the opposite one carry, the number of segments, and the number of those in which the sequence ends on
-// either strand.
+// What is carried on either strand, the number of segments, and the number of those in which the sequence ends on either.
 pub struct Standing {
-    pub given: State,
-    pub opposite: State,
+    pub state: Pair,
     pub segments: u64,
     pub ends: u64,
 }
@@ -25,8 +22,7 @@ impl Standing {
         ensures { λ r. ⌜ r ≡ begun ⌝ }
     {
         Standing {
-            given: State { bits: 1 },
-            opposite: State { bits: 1 },
+            state: Pair::FRESH,
             segments: 0,
             ends: 0,
         }
@@ -47,13 +43,8 @@ pub fn pass(pattern: &[u8], standing: Standing, stretch: &[u8], marks: &mut [u8]
     ensures { λ r. ⌜ now (marks .exit) ≡ leftBy (bothMarks (now (pattern .entry)) standing)
         (passing (now (pattern .entry)) standing (now (stretch .entry)) (length (now (marks .entry)))) (now (marks .entry)) ⌝ }
 {
-    let own = standing.given;
-    let turned = standing.opposite;
-    let states = Pair {
-        given: own.bits,
-        opposite: turned.bits,
-    };
-    match states.through(pattern, stretch, &mut *marks) {
+    let before = standing.state;
+    match before.through(pattern, stretch, &mut *marks) {
         SoughtBoth::Refused(refused) => Passed::Refused(refused),
         SoughtBoth::Marked {
             segments,
@@ -61,17 +52,12 @@ pub fn pass(pattern: &[u8], standing: Standing, stretch: &[u8], marks: &mut [u8]
             ends,
             state,
         } => {
-            let given = State { bits: state.given };
-            let opposite = State {
-                bits: state.opposite,
-            };
             let all = plus(standing.segments, segments as u64);
             let marked = plus(standing.ends, ends as u64);
             Passed::To {
                 segments,
                 standing: Standing {
-                    given,
-                    opposite,
+                    state,
                     segments: all,
                     ends: marked,
                 },

@@ -2,7 +2,6 @@
 // them are written, so is the manifest, which is the text.
 use crate::messages::say;
 use crate::messages::say_wrong;
-use desk_list::part;
 use digest::Hashing;
 use eds_notation::Filled;
 use eds_notation::Place;
@@ -17,13 +16,14 @@ use files::fill;
 use lines::put_bytes;
 use manifest::put_digest;
 use stretch::Written;
-use text::refusal;
+use text::limits;
+use text::part;
 use text_files::Built;
 use text_files::write_manifest;
 use text_files::write_stretch;
 
 // The most variants of a stretch, each of which has a length of two bytes.
-const MOST_VARIANTS: usize = refusal::GREATEST_STRETCH / 2;
+const MOST_VARIANTS: usize = limits::GREATEST_STRETCH / 2;
 
 // The word of the command line that names the text, as its manifest says it.
 const SOURCE: usize = 2;
@@ -61,7 +61,7 @@ fn write_next(
     counts: &[u8],
     lines: &mut [u8],
 ) -> Text {
-    let mut out = [0u8; refusal::GREATEST_STRETCH];
+    let mut out = [0u8; limits::GREATEST_STRETCH];
     match write_closed(text.tape, letters, lengths, counts, &mut out) {
         Written::Refused(wrong) => {
             say(b"refused ", wrong.number);
@@ -312,9 +312,9 @@ fn take_all(
 
 // Writes the text on standard input to files of this name.
 pub fn convert(name: &[u8]) {
-    let mut letters = [0u8; refusal::GREATEST_STRETCH];
+    let mut letters = [0u8; limits::GREATEST_STRETCH];
     let mut lengths = [0u16; MOST_VARIANTS];
-    let mut counts = [0u8; refusal::MOST_IN_STRETCH];
+    let mut counts = [0u8; limits::MOST_IN_STRETCH];
     let mut lines = manifest::room();
     take_all(name, &mut letters, &mut lengths, &mut counts, &mut lines);
 }

@@ -1,5 +1,5 @@
 -- Laws of the buffers while they are filled: what each act comes to.
-use Prim.Native.Nat.{ℕ, suc, _+_, _-_, _*_, _<_, _≤_}
+use Prim.Native.Nat.{ℕ, suc, _+_, _-_, _<_, _≤_}
 use native.Mathlib.Numerals.{add-one}
 use native.Mathlib.Omega.{arith}
 use native.Mathlib.Decide.{decLt}
@@ -12,6 +12,7 @@ use lib.ListN.{length, take, drop, getD, set, length-take, length-drop, drop-of-
 use lib.Seq.{drop-cons}
 use borrow.Author.Tests.{eq-eqb, ne-eqb, le-leb, lt-leb, le-ltb, lt-ltb, leb-true, ltb-true}
 use Rattle.text.proofs.Truth.{and-left, and-right, and-false, not-true-false}
+use Rattle.layout.specs.Sizes.{textBytes}
 use Rattle.layout.specs.Bytes.{greatestStretch, part}
 use Rattle.eds_notation.specs.Notation.{actOf}
 use Rattle.eds_notation.specs.Filling.{tapeOf, Buffers, buffers, stands, repeated, sound, fits, noRoom, leads}
@@ -32,7 +33,7 @@ pub record Fitting (t : Tape) (more another : ℕ) : Type 0 where
   pub letters : t .begun .letters ≤ t .letters
   pub lengths : t .begun .variants ≤ t .lengths
   pub variants : t .begun .variants ≤ 254
-  pub bytes : 2 + (t .counts + 1) + 2 * (t .lengths + 1 + another) + t .letters + more ≤ greatestStretch
+  pub bytes : textBytes (t .letters + more) (t .lengths + 1 + another) (t .counts + 1) ≤ greatestStretch
 
 module _ (t : Tape) (more another : ℕ) where
   pub fits-is : fits t more another ≡ true → Fitting t more another
@@ -43,7 +44,7 @@ module _ (t : Tape) (more another : ℕ) where
       let b : Bool = leb (o .letters) (t .letters) in
       let c : Bool = leb (o .variants) (t .lengths) in
       let d : Bool = leb (o .variants) 254 in
-      let n : ℕ = 2 + (t .counts + 1) + 2 * (t .lengths + 1 + another) + t .letters + more in
+      let n : ℕ = textBytes (t .letters + more) (t .lengths + 1 + another) (t .counts + 1) in
       let four : (a && b && c && d) ≡ true = and-left (a && b && c && d) (leb n greatestStretch) e in
       let three : (a && b && c) ≡ true = and-left (a && b && c) d four in
       let two : (a && b) ≡ true = and-left (a && b) c three in
@@ -60,11 +61,12 @@ module _ (t : Tape) (more another : ℕ) where
 
   pub fits-last :
       t .begun .spelt ≤ t .begun .letters → t .begun .letters ≤ t .letters → t .begun .variants ≤ t .lengths → t .begun .variants ≤ 254 →
-      (m a : ℕ) → m ≡ more → a ≡ another →
-      leb (2 + (t .counts + 1) + 2 * (t .lengths + 1 + a) + t .letters + m) greatestStretch ≡ fits t more another
+      (m a n : ℕ) → m ≡ more → a ≡ another → n ≡ textBytes (t .letters + m) (t .lengths + 1 + a) (t .counts + 1) →
+      leb n greatestStretch ≡ fits t more another
   unfolding fits sound
-  fits-last p q r s m a e f =
+  fits-last p q r s m a n e f g =
       rw (
+        g,
         e,
         f,
         le-leb (t .begun .spelt) (t .begun .letters) p,
@@ -75,8 +77,8 @@ module _ (t : Tape) (more another : ℕ) where
 
 pub fitting-fits : {t : Tape} {more another : ℕ} → Fitting t more another → fits t more another ≡ true
 fitting-fits {t} {more} {another} f =
-    sym (fits-last t more another (f .spelt) (f .letters) (f .lengths) (f .variants) more another refl refl)
-    ∙ le-leb (2 + (t .counts + 1) + 2 * (t .lengths + 1 + another) + t .letters + more) greatestStretch (f .bytes)
+    sym (fits-last t more another (f .spelt) (f .letters) (f .lengths) (f .variants) more another _ refl refl refl)
+    ∙ le-leb (textBytes (t .letters + more) (t .lengths + 1 + another) (t .counts + 1)) greatestStretch (f .bytes)
 
 -- there is no room
 pub none-closed : (t : Tape) → t .counts ≡ 0 → Step.Wrong 8 ≡ noRoom t

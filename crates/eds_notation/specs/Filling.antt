@@ -1,5 +1,5 @@
 -- The buffers of a write while they are filled: what an act comes to, and what the buffers have then.
-use Prim.Native.Nat.{ℕ, _+_, _-_, _*_}
+use Prim.Native.Nat.{ℕ, _+_, _-_}
 use mathlib.Core.Bool.{Bool, false, _&&_, cond}
 use mathlib.Core.List.{List, [], _∷_}
 use lib.Dec.{eqb, leb, ltb}
@@ -7,6 +7,7 @@ use lib.ListN.{length, drop, set}
 use Rattle.text.specs.Bits.{anyOf}
 use Rattle.text.specs.Compare.{alike}
 use Rattle.layout.specs.Bytes.{greatestStretch, part}
+use Rattle.layout.specs.Sizes.{textBytes}
 use Rattle.writer.specs.Cuts.{cut}
 use Rattle.eds_notation.specs.Notation.{nothing, actOf}
 use Rattle.eds_notation.specs.declared.notation.Begun.{Begun}
@@ -60,7 +61,7 @@ sound t =
 -- all that is held, with `more` letters and `another` variants more and the open segment closed, has room in a stretch
 unfoldable pub fits : Tape → ℕ → ℕ → Bool
 fits t more another =
-    sound t && leb (2 + (t .counts + 1) + 2 * (t .lengths + 1 + another) + t .letters + more) greatestStretch
+    sound t && leb (textBytes (t .letters + more) (t .lengths + 1 + another) (t .counts + 1)) greatestStretch
 
 -- there is no room: full where a segment is closed, so that a cut gives room; else the open segment is too long
 unfoldable pub noRoom : Tape → Step

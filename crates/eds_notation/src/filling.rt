@@ -5,7 +5,8 @@ use crate::notation::Begun;
 use crate::repetition::stands;
 use crate::wrong;
 use layout::number::wide;
-use text::refusal;
+use layout::text_bytes;
+use text::limits;
 ghost use mathlib.Core.Path.{_≡_};
 ghost use lib.ListN.{length, drop, set};
 ghost use Rattle.eds_notation.specs.Notation.{ended};
@@ -67,13 +68,13 @@ fn fits(tape: Tape, more: u8, another: u8) -> bool
     let lengths = tape.lengths;
     let counts = tape.counts;
     let begun = tape.begun;
-    if refusal::GREATEST_STRETCH < letters {
+    if limits::GREATEST_STRETCH < letters {
         return false;
     }
-    if refusal::GREATEST_STRETCH < lengths {
+    if limits::GREATEST_STRETCH < lengths {
         return false;
     }
-    if refusal::GREATEST_STRETCH < counts {
+    if limits::GREATEST_STRETCH < counts {
         return false;
     }
     if begun.letters < begun.spelt {
@@ -88,8 +89,9 @@ fn fits(tape: Tape, more: u8, another: u8) -> bool
     if 254 < begun.variants {
         return false;
     }
-    2 + (counts + 1) + 2 * (lengths + 1 + wide(another)) + letters + wide(more)
-        <= refusal::GREATEST_STRETCH
+    let spelt = letters + wide(more);
+    let variants = lengths + 1 + wide(another);
+    text_bytes(spelt, variants, counts + 1) <= limits::GREATEST_STRETCH
 }
 
 // One letter more.

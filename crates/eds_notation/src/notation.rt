@@ -1,7 +1,7 @@
 // The notation, byte by byte: what stands open before a byte, and what the byte does.
 use crate::wrong;
 use text::letter::is_letter;
-use text::refusal;
+use text::limits;
 ghost use mathlib.Core.Path.{_≡_};
 ghost use Rattle.eds_notation.specs.Notation.{white, inside, nothing, brace, lettered, opened, comma, closed, actOf, ended};
 
@@ -88,10 +88,10 @@ impl Begun {
     {
         let letters = self.letters;
         let spelt = self.spelt;
-        if refusal::GREATEST_STRETCH <= letters {
+        if limits::GREATEST_STRETCH <= letters {
             return Act::Wrong(wrong::LONG);
         }
-        if refusal::GREATEST_STRETCH <= spelt {
+        if limits::GREATEST_STRETCH <= spelt {
             return Act::Wrong(wrong::LONG);
         }
         let before = self.mode;

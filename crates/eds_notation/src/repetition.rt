@@ -1,5 +1,6 @@
 // Whether the variant that ends stands in its segment already. `write` asks this too; asked here, the place in the text is known.
 use text::from_end::alike_from_end;
+use text::numbers::least;
 ghost use mathlib.Core.Path.{_≡_};
 ghost use Prim.Native.Nat.{_≤_, min};
 ghost use lib.ListN.{length};
@@ -10,13 +11,6 @@ fn stated(length: u16) -> usize
     ensures { λ r. ⌜ r ≡ length ⌝ }
 {
     length as usize
-}
-
-// The smaller of two numbers.
-fn least(a: usize, b: usize) -> usize
-    ensures { λ r. ⌜ r ≡ min a b ⌝ }
-{
-    if a < b { a } else { b }
 }
 
 // Whether the last `spelt` letters of a segment spell what one of its variants of these lengths spells. A length that goes beyond the

@@ -1,4 +1,4 @@
--- What is known of bytes that were read: so many stand at the start of the buffer, so that a caller can cut them off.
+-- What is known of bytes that were read: a number of them stand at the start of the buffer, so that a caller can cut them off.
 use Prim.Native.Nat.{ℕ, _<_}
 use mathlib.Core.List.{List}
 use Rattle.io.specs.Counts.{Counts}

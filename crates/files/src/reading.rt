@@ -6,14 +6,14 @@ ghost use Prim.Native.Nat.{_≤_};
 ghost use lib.ListN.{length};
 ghost use Rattle.files.specs.Reads.{ReadInto, PieceInto};
 
-// What one read finds: so many bytes, at the start of the buffer, and at least one; the end of the file; or it failed.
+// What one read finds: a number of bytes, at the start of the buffer, and at least one; the end of the file; or it failed.
 pub enum Piece {
     Bytes(usize),
     End,
     Failed,
 }
 
-// What reading a file to its end finds: all its bytes, so many of them, at the start of the buffer; more than the buffer holds; or a
+// What reading a file to its end finds: all its bytes, with their number, at the start of the buffer; more than the buffer holds; or a
 // read failed.
 pub enum Read {
     Whole(usize),

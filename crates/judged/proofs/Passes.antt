@@ -10,7 +10,7 @@ use Rattle.text.specs.Card.{later, firstEnd, tabulate, padded, ran, rowsOf, car
 use Rattle.text.specs.Card.{onward, joined, samePattern, join}
 use Rattle.layout.specs.Bytes.{word, wordBytes}
 use Rattle.layout.specs.Pieces.{fitsAt, openAt, variantsAt, headAt, closedAt}
-use Rattle.layout.specs.Reading.{among, valueOf, formed, variantAt, many, segmentAt, stretchOf}
+use Rattle.layout.specs.Reading.{among, valueOf, formed, variantAt, many, segmentAt, segmentsOf, wholeStretch, stretchOf}
 use Rattle.layout.specs.Encoding.{bytesOf, encodeVariant, encodeSegment, encode, all}
 use Rattle.judged.specs.Examples.{table}
 
@@ -19,5 +19,5 @@ pub examples : all (λ b. b) table ≡ true
 unfolding all table same prefix suffix inside bit fromBits anyBelow anyOf base letter every firstNot total counted weight size brings
     sends carries nextBit next endsAt ends run marksFrom marks later firstEnd tabulate padded ran rowsOf cardOf isRow areRows
     wellFormed earliest union follow onward joined samePattern join word wordBytes fitsAt openAt variantsAt headAt closedAt among valueOf
-    formed variantAt many segmentAt stretchOf bytesOf encodeVariant encodeSegment encode
+    formed variantAt many segmentAt segmentsOf wholeStretch stretchOf bytesOf encodeVariant encodeSegment encode
 examples = refl

@@ -9,7 +9,7 @@ mod writes;
 
 use card::Card;
 use card::Made;
-use test_examples::Line;
+use test_examples::ExampleLine;
 use test_examples::call;
 use test_examples::notation::number;
 use test_examples::tell;
@@ -72,7 +72,7 @@ fn judged(input: &[u8]) -> Tally {
     let mut tally = Tally::NONE;
     let mut right = Card::empty(b"A", Strand::Given);
     let mut left = right.card;
-    let mut line = Line::NONE;
+    let mut line = ExampleLine::NONE;
     let mut k = 0;
     while k < input.len() {
         line = line.next(input);

@@ -15,13 +15,13 @@ use Rattle.text.proofs.Meanings.{letters-capital}
 use Rattle.text.proofs.Outcomes.{ok-inj, demand-met, after-met}
 use Rattle.layout.specs.Bytes.{greatestStretch, word, wordBytes}
 use Rattle.layout.specs.Pieces.{lettersAt, nextOf, closedAt}
-use Rattle.layout.specs.Reading.{Taken, valueOf, among, many, variantAt, segmentAt, stretchOf, loneSegment, segmentOf}
+use Rattle.layout.specs.Reading.{Taken, valueOf, among, many, variantAt, segmentAt, wholeStretch, stretchOf, loneSegment, segmentOf}
 use Rattle.layout.specs.Encoding.{bytesOf, encodeVariant, encodeSegment, encode, raisedText, distinct, all, writableSegment}
 use Rattle.layout.specs.Encoding.{writable}
 use Rattle.layout.specs.Skips.{stepped, behindSegment}
 use Rattle.layout.specs.Standing.{lettersFrom, standingSegment, segmentsFrom, standing}
 use Rattle.layout.proofs.Heads.{whole-letters, value-part}
-use Rattle.layout.proofs.Frames.{Opens, segment-met, stretch-met, closed-met}
+use Rattle.layout.proofs.Frames.{Opens, segment-met, whole-met, stretch-whole, closed-met}
 use Rattle.layout.proofs.Units.{variant-read}
 use Rattle.layout.proofs.Stands.{Bytes, stands-both, stands-byte, stands-word, stands-whole}
 use Rattle.layout.proofs.Lengths.{filled, filled-lengths}
@@ -186,7 +186,6 @@ module _ (s : List ℕ) where
 
   -- a stretch that was read: its count and the row of its segments, up to the end
   pub record StretchRead (t : Text) : Type 0 where
-    pub short : length s ≤ greatestStretch
     pub counted : 2 ≤ length s
     pub count : word s 0 ≡ length t
     pub row : Row (λ _. segmentAt s) [] 2 t (length s)
@@ -197,14 +196,16 @@ module _ (s : List ℕ) where
   segments-read n t o e =
       let m = many-row (λ _. segmentAt s) n [] 2 _ e in
       record {
-        short = o .short;
         counted = o .counted;
         count = sym (o .count) ∙ sym (m .count) ∙ ap length (sym (m .value));
         row = rw (m .value) (m .row);
       }
 
+  pub whole-read : (t : Text) → wholeStretch s ≡ ok t → StretchRead t
+  whole-read t e = let m = whole-met s t e in segments-read (m .count) t (m .opens) (m .all)
+
   pub stretch-read : (t : Text) → stretchOf s ≡ ok t → StretchRead t
-  stretch-read t e = let m = stretch-met s t e in segments-read (m .count) t (m .opens) (m .all)
+  stretch-read t e = whole-read t (stretch-whole s t e .1)
 
   module _ (t : Text) (r : StretchRead t) where
     -- each segment has variants
@@ -251,7 +252,7 @@ module _ (s : List ℕ) where
       let r = stretch-read t e in
       let same : length (encode t) ≡ length s =
       ap (λ (u : Text). length (encode u)) (sym (stretch-means t e)) ∙ raised-bytes (standing s) ∙ ap length (stretch-bytes bytes t e) in
-      let short : length (encode t) ≤ greatestStretch = rw same (r .short) in
+      let short : length (encode t) ≤ greatestStretch = rw same (stretch-whole s t e .0) in
       and-both (all writableSegment t) (leb (length (encode t)) greatestStretch)
       (row-all (λ _. segmentAt s) writableSegment (λ _. segment-writable bytes) t [] 2 (length s) (r .row))
       (le-leb (length (encode t)) greatestStretch short)

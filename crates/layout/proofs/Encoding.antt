@@ -16,12 +16,12 @@ use Rattle.text.specs.Refusal.{ok}
 use Rattle.text.proofs.Truth.{and-both, and-left, and-right}
 use Rattle.layout.specs.Bytes.{greatestStretch, word, wordBytes}
 use Rattle.layout.specs.Pieces.{lettersAt, nextOf, headAt, variantsAt, mostInStretch}
-use Rattle.layout.specs.Reading.{among, valueOf, formed, many, variantAt, segmentAt, stretchOf, loneSegment, segmentOf}
+use Rattle.layout.specs.Reading.{among, valueOf, formed, many, variantAt, segmentAt, segmentsOf, wholeStretch, stretchOf, loneSegment, segmentOf}
 use Rattle.layout.specs.Encoding.{bytesOf, encodeVariant, encodeSegment, encode, distinct, all, writableSegment, writable}
 use Rattle.layout.specs.Skips.{stepped, behindSegment}
 use Rattle.layout.specs.Standing.{lettersFrom, standingSegment, segmentsFrom, standing}
 use Rattle.layout.proofs.Heads.{value-part}
-use Rattle.layout.proofs.Frames.{open-counts, closed-sound}
+use Rattle.layout.proofs.Frames.{open-counts, closed-sound, stretch-is}
 use Rattle.layout.proofs.Stands.{Stands, stands-front, stands-back, stands-inside, stands-at, word-stands}
 use Rattle.layout.proofs.Rows.{row-many, written-row}
 use Rattle.layout.proofs.Lengths.{filled, filled-lengths}
@@ -130,9 +130,9 @@ module _ (s : List ℕ) (short : length s ≤ greatestStretch) where
 accepted :
     (s : List ℕ) (t : Text) (next : ℕ) → length s ≤ greatestStretch → 2 ≤ length s → length t ≤ mostInStretch → word s 0 ≡ length t →
     many (λ _. segmentAt s) (length t) [] 2 ≡ ok (record { value = t; next = next }) → next ≡ length s → stretchOf s ≡ ok t
-unfolding stretchOf
+unfolding wholeStretch segmentsOf
 accepted s t next short two few n segments e =
-    rw (open-counts s short two, n, segments, closed-sound s next (length t) e few)
+    stretch-is s short ∙ rw (open-counts s two, n, segments, closed-sound s next (length t) e few)
 
 -- a text that can be written is what its bytes mean
 pub stretch-of : (t : Text) → writable t ≡ true → stretchOf (encode t) ≡ ok t

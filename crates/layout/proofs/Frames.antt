@@ -1,5 +1,5 @@
--- Laws of the frame of a stretch: how it opens, what a segment's count says and how it closes; and what the reading of a segment, of a
--- stretch and of a lone segment is by these.
+-- Laws of the frame of a stretch: how long it may be, how it opens, what a segment's count says and how it closes; and what the reading of
+-- a segment and of a stretch is by these.
 use Prim.Native.Nat.{ℕ, _+_, _≤_, _<_}
 use native.Mathlib.Omega.{arith}
 use mathlib.Core.Path.{_≡_, sym, ap, _∙_}
@@ -9,19 +9,16 @@ use borrow.Author.Tests.{ltb-true, leb-true, eqb-true, lt-ltb, le-ltb, le-leb, l
 use lib.Dec.{leb, ltb, eqb}
 use lib.ListN.{length, getD}
 use Rattle.text.specs.Text.{Segment, Text}
-use Rattle.text.specs.Refusal.{Outcome, ok, refused, demand}
+use Rattle.text.specs.Refusal.{Outcome, ok, refused, demand, toldVerdict, toldAmount}
 use Rattle.text.specs.declared.refusal.Refusal.{Refusal}
 use Rattle.text.proofs.Outcomes.{ok-inj, refused-ok, demand-met, after-met}
-use Rattle.layout.specs.Bytes.{greatestStretch, word}
-use Rattle.layout.specs.Pieces.{fitsAt, fits, openAt, variantsAt, mostInStretch, closedAt, toldOpened, toldCounted, toldVerdict}
-use Rattle.layout.specs.Reading.{Taken, variantAt, many, segmentAt, stretchOf, loneSegment}
-use Rattle.layout.specs.declared.pieces.Opened.{Opened}
-use Rattle.layout.specs.declared.pieces.Opened.the-variants.{Segments}
-use Rattle.layout.specs.declared.pieces.Counted.{Counted}
-use Rattle.layout.specs.declared.pieces.Counted.the-variants.{Variants}
-use Rattle.layout.specs.declared.pieces.Verdict.{Verdict}
-use Rattle.layout.specs.declared.pieces.Verdict.the-variants.{Sound}
-use Rattle.layout.proofs.Walks.{walk-length}
+use Rattle.layout.specs.Bytes.{greatestStretch, word, wordAt}
+use Rattle.layout.specs.Pieces.{fitsAt, fits, openAt, variantsAt, mostInStretch, closedAt}
+use Rattle.layout.specs.Reading.{Taken, variantAt, many, segmentAt, segmentsOf, wholeStretch, stretchOf}
+use Rattle.text.specs.declared.verdict.Amount.{Amount}
+use Rattle.text.specs.declared.verdict.Amount.the-variants.{Is}
+use Rattle.text.specs.declared.verdict.Verdict.{Verdict}
+use Rattle.text.specs.declared.verdict.Verdict.the-variants.{Sound}
 
 -- a demand that is refused is refused whatever follows
 demand-refused :
@@ -32,7 +29,6 @@ demand-refused false n p a o j q e = let x : n ≡ j = cc in let y : p ≡ q = c
 
 -- a stretch that opens, with its segment count
 pub record Opens (s : List ℕ) (n : ℕ) : Type 0 where
-  pub short : length s ≤ greatestStretch
   pub counted : 2 ≤ length s
   pub count : n ≡ word s 0
 
@@ -65,18 +61,17 @@ module _ (s : List ℕ) where
         leb-true (length s) greatestStretch
         (demand-met (leb (length s) greatestStretch) 4 0 (ok tt) tt (sym told ∙ ap toldVerdict is) .0)
 
-    pub open-long : {w : Refusal} → v ≡ Verdict.Refused w → openAt s ≡ refused (w .number) (w .place)
-    unfolding openAt
-    open-long is = fits-refused is _
+  -- whoever asks it twice asks it once
+  pub fits-once : {A : Type 0} (o : Outcome A) → length s ≤ greatestStretch → fits s o ≡ o
+  fits-once o l = rw (le-leb (length s) greatestStretch l)
 
-  module _ (short : length s ≤ greatestStretch) where
-    pub open-cut : length s < 2 → openAt s ≡ refused 5 0
-    unfolding openAt
-    open-cut l = rw (le-leb (length s) greatestStretch short, lt-leb 2 (length s) l)
+  pub open-cut : length s < 2 → openAt s ≡ refused 5 0
+  unfolding openAt
+  open-cut l = rw (lt-leb 2 (length s) l)
 
-    pub open-counts : 2 ≤ length s → openAt s ≡ ok (word s 0)
-    unfolding openAt
-    open-counts l = rw (le-leb (length s) greatestStretch short, le-leb 2 (length s) l)
+  pub open-counts : 2 ≤ length s → openAt s ≡ ok (word s 0)
+  unfolding openAt
+  open-counts l = rw (le-leb 2 (length s) l)
 
   module _ (at : ℕ) where
     pub variants-cut : length s ≤ at → variantsAt s at ≡ refused 5 at
@@ -110,9 +105,13 @@ module _ (s : List ℕ) where
   pub open-met : (n : ℕ) → openAt s ≡ ok n → Opens s n
   unfolding openAt
   open-met n e =
-      let a = demand-met (leb (length s) greatestStretch) 4 0 _ n e in
-      let b = demand-met (leb 2 (length s)) 5 0 _ n (a .1) in
-      record { short = leb-true (length s) greatestStretch (a .0); counted = leb-true 2 (length s) (b .0); count = sym (ok-inj (b .1)) }
+      let a = demand-met (leb 2 (length s)) 5 0 _ n e in
+      record { counted = leb-true 2 (length s) (a .0); count = sym (ok-inj (a .1)) }
+
+  -- and such a stretch states its count
+  pub open-stated : (n : ℕ) → openAt s ≡ ok n → wordAt s 0 ≡ n
+  unfolding openAt wordAt
+  open-stated n e = let a = demand-met (leb 2 (length s)) 5 0 _ n e in rw (a .0) (ok-inj (a .1))
 
   pub variants-met : (at n : ℕ) → variantsAt s at ≡ ok n → Counts s at n
   unfolding variantsAt
@@ -145,16 +144,16 @@ segment-met s at x e =
     let (n, c, all) = after-met (variantsAt s at) (λ n. many (variantAt s) n [] (at + 1)) x e in
     record { count = n; counts = variants-met s at n c; all = all }
 
--- a stretch that was read: its count, its segments, and that nothing is left
-pub record StretchMet (s : List ℕ) (t : Text) : Type 0 where
+-- bytes that were read as a stretch, their length apart: the count, the segments, and that nothing is left
+pub record WholeMet (s : List ℕ) (t : Text) : Type 0 where
   pub count : ℕ
   pub opens : Opens s count
   pub all : many (λ _. segmentAt s) count [] 2 ≡ ok (record { value = t; next = length s })
   pub few : count ≤ mostInStretch
 
-pub stretch-met : (s : List ℕ) (t : Text) → stretchOf s ≡ ok t → StretchMet s t
-unfolding stretchOf
-stretch-met s t e =
+pub whole-met : (s : List ℕ) (t : Text) → wholeStretch s ≡ ok t → WholeMet s t
+unfolding wholeStretch segmentsOf
+whole-met s t e =
     let (n, o, f) = after-met (openAt s) _ t e in
     let (x, all, g) = after-met (many (λ _. segmentAt s) n [] 2) _ t f in
     let (_, c, h) = after-met (closedAt s (x .next) n) (λ _. ok (x .value)) t g in
@@ -166,50 +165,24 @@ stretch-met s t e =
       few = few;
     }
 
--- one segment, from what `variants` tells
-module _ (s : List ℕ) (at : ℕ) {r : Counted} (told : toldCounted r ≡ variantsAt s at) where
-  pub count-met : {n : ℕ} → r ≡ Variants n → Counts s at n
-  count-met {n} is = variants-met s at n (sym told ∙ ap toldCounted is)
-
--- a stretch, from what `open` tells, what its segments are and what `closed` tells
-module _ (s : List ℕ) {r : Opened} (told : toldOpened r ≡ openAt s) where
-  pub frame-refused-open : {w : Refusal} → r ≡ Opened.Refused w → stretchOf s ≡ refused (w .number) (w .place)
-  unfolding stretchOf
-  frame-refused-open is = rw (← told, is)
-
-  module _ {n : ℕ} (is : r ≡ Segments n) where
-    pub frame-opens : Opens s n
-    frame-opens = open-met s n (sym told ∙ ap toldOpened is)
-
-    pub frame-refused-inside : {j p : ℕ} → many (λ _. segmentAt s) n [] 2 ≡ refused j p → stretchOf s ≡ refused j p
-    unfolding stretchOf
-    frame-refused-inside e = rw (← told, is, e)
-
-    module _ {seen : Text} {at : ℕ} (all : many (λ _. segmentAt s) n [] 2 ≡ ok (record { value = seen; next = at })) where
-      pub frame-count : length seen ≡ n
-      frame-count = walk-length (λ _. segmentAt s) 2 n seen at all
-
-      module _ {v : Verdict} (verdict : toldVerdict v ≡ closedAt s at n) where
-        pub frame-refused-closed : {w : Refusal} → v ≡ Verdict.Refused w → stretchOf s ≡ refused (w .number) (w .place)
-        unfolding stretchOf
-        frame-refused-closed g = rw (← told, is, all, ← verdict, g)
-
-        pub frame-sound : v ≡ Sound → stretchOf s ≡ ok seen
-        unfolding stretchOf
-        frame-sound g = rw (← told, is, all, ← verdict, g)
-
--- a lone segment, from what reading it at place 0 comes to and what `closed` tells
+-- a stretch is such bytes, if they are not too many
 module _ (s : List ℕ) where
-  pub lone-refused-inside : {j p : ℕ} → segmentAt s 0 ≡ refused j p → loneSegment s ≡ refused j p
-  unfolding loneSegment
-  lone-refused-inside e = rw e
+  pub stretch-is : length s ≤ greatestStretch → stretchOf s ≡ wholeStretch s
+  unfolding stretchOf
+  stretch-is short = fits-once s (wholeStretch s) short
 
-  module _ {g : Segment} {at : ℕ} (read : segmentAt s 0 ≡ ok (record { value = g; next = at }))
-      {v : Verdict} (verdict : toldVerdict v ≡ closedAt s at 1) where
-    pub lone-refused-closed : {w : Refusal} → v ≡ Verdict.Refused w → loneSegment s ≡ refused (w .number) (w .place)
-    unfolding loneSegment
-    lone-refused-closed is = rw (read, ← verdict, is)
+  pub stretch-over : {v : Verdict} → toldVerdict v ≡ fitsAt s → {w : Refusal} → v ≡ Verdict.Refused w
+      → stretchOf s ≡ refused (w .number) (w .place)
+  unfolding stretchOf
+  stretch-over told is = fits-refused s told is (wholeStretch s)
 
-    pub lone-sound : v ≡ Sound → loneSegment s ≡ ok g
-    unfolding loneSegment
-    lone-sound is = rw (read, ← verdict, is)
+  pub stretch-whole : (t : Text) → stretchOf s ≡ ok t → (length s ≤ greatestStretch) × (wholeStretch s ≡ ok t)
+  unfolding stretchOf
+  stretch-whole t e =
+      let a = demand-met (leb (length s) greatestStretch) 4 0 (wholeStretch s) t e in
+      (leb-true (length s) greatestStretch (a .0), a .1)
+
+-- one segment, from what `variants` tells
+module _ (s : List ℕ) (at : ℕ) {r : Amount} (told : toldAmount r ≡ variantsAt s at) where
+  pub count-met : {n : ℕ} → r ≡ Is n → Counts s at n
+  count-met {n} is = variants-met s at n (sym told ∙ ap toldAmount is)

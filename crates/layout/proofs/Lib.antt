@@ -18,6 +18,7 @@ pub mod Units
 pub mod Segments
 pub mod Walking
 pub mod Stretches
+pub mod Going
 -- bytes and texts are inverse
 pub mod Rows
 pub mod Lengths

@@ -1,5 +1,5 @@
 -- Laws of writing over a list, as it goes on: one more piece after what was written.
-use Prim.Native.Nat.{ℕ, suc, _+_, _-_, _<_, _≤_}
+use Prim.Native.Nat.{ℕ, suc, _+_, _-_, _%_, _<_, _≤_}
 use native.Mathlib.Numerals.{add-one}
 use native.Mathlib.Omega.{arith}
 use mathlib.Core.Path.{_≡_, refl, sym, ap, _∙_}
@@ -10,9 +10,10 @@ use lib.Dec.{leb}
 use lib.ListN.{length, take, drop, set, getD, length-append, length-take, length-drop, take-append-drop, drop-of-length-le}
 use lib.Seq.{take-at, drop-append-add, drop-drop, drop-cons, set-split}
 use Rattle.text.proofs.Truth.{same-truth}
-use Rattle.text.specs.Text.{Variant}
+use Rattle.text.specs.Text.{Variant, Segment}
 use Rattle.layout.specs.Bytes.{wordBytes, over, put}
-use Rattle.layout.specs.Encoding.{encodeVariant}
+use Rattle.layout.specs.Encoding.{bytesOf, encodeVariant, encodeSegment}
+use Rattle.layout.specs.Sizes.{countBytes}
 
 drop-behind : (p q : List ℕ) (n m : ℕ) → length p ≡ n → drop (n + m) (p ++ q) ≡ drop m q
 drop-behind p q n m e = rw (← e) (drop-append-add p q m)
@@ -148,3 +149,20 @@ unfolding encodeVariant wordBytes
 variant-over d at v l e f =
     let room : at + 2 ≤ length d = omega arith in
     f ∙ rw e (over-over d at (wordBytes (length v)) room v)
+
+-- a segment is its variant count and then its variants
+pub count-over :
+    (d : List ℕ) {mid : List ℕ} (at : ℕ) {n : ℕ} → n ≤ 255 → at < length d → mid ≡ put d at (countBytes n) → mid ≡ over d at (n ∷ [])
+unfolding countBytes
+count-over d at {n} small l e =
+    let byte : n % 256 ≡ n = omega arith in
+    let room : at + 1 ≤ length d = omega arith in
+    e ∙ put-over d at (countBytes n) room ∙ ap (λ m. over d at (m ∷ [])) byte
+
+pub segment-over :
+    (d : List ℕ) {mid out : List ℕ} (at : ℕ) (g : Segment) → at < length d → mid ≡ over d at (length g ∷ []) →
+    out ≡ over mid (at + 1) (bytesOf encodeVariant g) → out ≡ over d at (encodeSegment g)
+unfolding encodeSegment
+segment-over d at g l e f =
+    let room : at + 1 ≤ length d = omega arith in
+    f ∙ rw e (over-over d at (length g ∷ []) room (bytesOf encodeVariant g))

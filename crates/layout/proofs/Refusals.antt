@@ -13,7 +13,8 @@ use Rattle.text.specs.Refusal.{Outcome, ok, refused, demand, after}
 use Rattle.text.proofs.Letters.{first-le}
 use Rattle.layout.specs.Bytes.{greatestStretch, word}
 use Rattle.layout.specs.Pieces.{openAt, variantsAt, headAt, lettersAt, nextOf, wrongPlace, mostInStretch, closedAt}
-use Rattle.layout.specs.Reading.{Taken, valueOf, among, formed, many, variantAt, segmentAt, stretchOf, loneSegment, segmentOf}
+use Rattle.layout.specs.Reading.{Taken, valueOf, among, formed, many, variantAt, segmentAt, segmentsOf, wholeStretch, stretchOf}
+use Rattle.layout.specs.Reading.{loneSegment, segmentOf}
 use Rattle.layout.proofs.Walks.{walk-length}
 use Rattle.layout.proofs.Frames.{Opens}
 use Rattle.layout.proofs.Decoding.{segments-read, stretch-room}
@@ -89,26 +90,28 @@ module _ (s : List ℕ) where
   open-kept : Kept (Opens s) (openAt s)
   unfolding openAt
   open-kept =
-      demand-kept (Opens s) (leb (length s) greatestStretch) 4 0 _ (omega arith) λ short.
       demand-kept (Opens s) (leb 2 (length s)) 5 0 _ (omega arith) λ two.
-      record { short = leb-true (length s) greatestStretch short; counted = leb-true 2 (length s) two; count = refl }
+      record { counted = leb-true 2 (length s) two; count = refl }
 
   stretch-kept : Kept Any (stretchOf s)
-  unfolding stretchOf
+  unfolding stretchOf wholeStretch segmentsOf
   stretch-kept =
+      demand-kept Any (leb (length s) greatestStretch) 4 0 _ (omega arith) λ fits.
+      let short : length s ≤ greatestStretch = leb-true (length s) greatestStretch fits in
       after-kept (Opens s) Any (openAt s) _ open-kept λ n _ o.
       after-kept Inside Any (many (λ _. segmentAt s) n [] 2) _
-      (many-kept (λ _. segmentAt s) (λ _. segment-kept (o .short)) n [] 2 (o .counted)) λ x e k.
-      after-kept Any Any (closedAt s (x .next) n) _ (closed-kept (x .next) n (o .short) k (few n o x e)) (λ _ _ _. tt)
+      (many-kept (λ _. segmentAt s) (λ _. segment-kept short) n [] 2 (o .counted)) λ x e k.
+      after-kept Any Any (closedAt s (x .next) n) _ (closed-kept (x .next) n short k (few n o short x e)) (λ _ _ _. tt)
     where
       -- where the segments end with the bytes, they take three bytes each
-      few : (n : ℕ) → Opens s n → (x : Taken Text ℕ) → many (λ _. segmentAt s) n [] 2 ≡ ok x → x .next ≡ length s → n ≤ mostInStretch
-      few n o x e end =
+      few : (n : ℕ) → Opens s n → length s ≤ greatestStretch → (x : Taken Text ℕ) → many (λ _. segmentAt s) n [] 2 ≡ ok x
+          → x .next ≡ length s → n ≤ mostInStretch
+      few n o short x e end =
           let all : many (λ _. segmentAt s) n [] 2 ≡ ok (record { value = x .value; next = length s }) =
           e ∙ ap (λ (at : ℕ). ok (record { value = x .value; next = at })) end in
           let room : 2 + 3 * length (x .value) ≤ length s = stretch-room s (x .value) (segments-read s n (x .value) o all) in
           let count : length (x .value) ≡ n = walk-length (λ _. segmentAt s) 2 n (x .value) (length s) all in
-          omega (arith, o .short)
+          omega (arith, short)
 
   segment-of-kept : Kept Any (segmentOf s)
   unfolding segmentOf loneSegment

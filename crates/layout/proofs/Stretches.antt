@@ -9,10 +9,10 @@ use Rattle.text.specs.Text.{Variant, Segment, Text, weight, total}
 use Rattle.text.specs.Refusal.{ok, refused}
 use Rattle.text.proofs.Sizes.{total-each}
 use Rattle.layout.specs.Bytes.{greatestStretch}
-use Rattle.layout.specs.Pieces.{openAt, mostInStretch}
-use Rattle.layout.specs.Reading.{Taken, variantAt, many, segmentAt, stretchOf}
+use Rattle.layout.specs.Pieces.{mostInStretch}
+use Rattle.layout.specs.Reading.{Taken, variantAt, many, segmentAt, wholeStretch, stretchOf}
 use Rattle.layout.proofs.Walks.{Step, walk-refused, walk-length, Summed, summed-none, summed-more, many-steps, many-length}
-use Rattle.layout.proofs.Frames.{segment-met, stretch-met}
+use Rattle.layout.proofs.Frames.{segment-met, whole-met, stretch-whole}
 use Rattle.layout.proofs.Units.{variant-read}
 use Rattle.layout.proofs.Segments.{variant-steps}
 
@@ -60,14 +60,17 @@ segment-bytes s at x e =
 
 -- a stretch of more than 32,768 bytes is refused
 pub stretch-long : (s : List ℕ) → greatestStretch < length s → stretchOf s ≡ refused 4 0
-unfolding stretchOf openAt
+unfolding stretchOf
 stretch-long s l = rw (lt-leb (length s) greatestStretch l)
 
 -- an accepted stretch has at most 32,768 bytes and 10,922 segments
 pub stretch-short : (s : List ℕ) (t : Text) → stretchOf s ≡ ok t → length s ≤ greatestStretch
-stretch-short s t e = stretch-met s t e .opens .short
+stretch-short s t e = stretch-whole s t e .0
+
+pub whole-most : (s : List ℕ) (t : Text) → wholeStretch s ≡ ok t → length t ≤ mostInStretch
+whole-most s t e =
+    let m = whole-met s t e in
+    omega (arith, m .few, walk-length (λ _. segmentAt s) 2 (m .count) t (length s) (m .all))
 
 pub stretch-most : (s : List ℕ) (t : Text) → stretchOf s ≡ ok t → length t ≤ mostInStretch
-stretch-most s t e =
-    let m = stretch-met s t e in
-    omega (arith, m .few, walk-length (λ _. segmentAt s) 2 (m .count) t (length s) (m .all))
+stretch-most s t e = whole-most s t (stretch-whole s t e .1)

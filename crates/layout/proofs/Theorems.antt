@@ -1,20 +1,22 @@
 -- What is proved about the bytes of a stretch and of a lone segment, by name. The contracts in src/ say what each call answers by the
 -- definitions of specs/; here stands what these definitions come to together.
-use Prim.Native.Nat.{ℕ, _≤_}
+use Prim.Native.Nat.{ℕ, _+_, _≤_}
 use mathlib.Core.Path.{_≡_}
 use mathlib.Core.Bool.{true}
 use mathlib.Core.List.{List, map}
 use lib.ListN.{length}
 use Rattle.text.specs.Letter.{meant}
-use Rattle.text.specs.Text.{Segment, Text}
+use Rattle.text.specs.Text.{Variant, Segment, Text}
 use Rattle.text.specs.Refusal.{ok, refused}
 use Rattle.layout.specs.Bytes.{greatestStretch}
 use Rattle.layout.specs.Reading.{stretchOf, segmentOf}
-use Rattle.layout.specs.Encoding.{encodeSegment, encode, raisedText, writableSegment, writable}
+use Rattle.layout.specs.Encoding.{encodeVariant, encodeSegment, encode, raisedText, writableSegment, writable}
+use Rattle.layout.specs.Sizes.{segmentBytes, textBytes, afterVariant, lettersOf, variantsIn, lettersIn}
 use Rattle.layout.specs.Standing.{standingSegment, standing}
 use Rattle.layout.proofs.Stands.{Bytes}
 use Rattle.layout.proofs.Decoding.{stretch-bytes, stretch-means, stretch-writable, lone-bytes, lone-means, lone-writable}
 use Rattle.layout.proofs.Encoding.{stretch-of, segment-of}
+use Rattle.layout.proofs.Lengths.{variant-ends, length-segment, length-text}
 use Rattle.layout.proofs.Refusals.{Low, stretch-low, segment-low, stretch-never-16}
 
 -- A stretch is accepted exactly when it is the bytes of a text that, its letters raised to upper case, can be written; and it means that
@@ -56,3 +58,13 @@ refused-lone-low = segment-low
 
 pub never-16 : (s : List ℕ) (p : ℕ) → stretchOf s ≡ refused 16 p → ⊥
 never-16 = stretch-never-16
+
+-- The sizes that are computed from numbers are those of the bytes.
+pub text-bytes : (T : Text) → length (encode T) ≡ textBytes (lettersIn T) (variantsIn T) (length T)
+text-bytes = length-text
+
+pub segment-bytes : (g : Segment) → length (encodeSegment g) ≡ segmentBytes (lettersOf g) (length g)
+segment-bytes = length-segment
+
+pub variant-bytes : (at : ℕ) (v : Variant) → at + length (encodeVariant v) ≡ afterVariant at (length v)
+variant-bytes = variant-ends

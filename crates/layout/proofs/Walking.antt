@@ -11,19 +11,19 @@ use lib.Bits.{bitOr}
 use lib.ListN.{length, take, drop}
 use Rattle.text.specs.Letter.{letter, every}
 use Rattle.text.specs.Text.{Variant, Segment, counted, weight}
-use Rattle.text.specs.Refusal.{Outcome, ok, refused, demand, after}
+use Rattle.text.specs.Refusal.{Outcome, ok, refused, demand, after, toldVerdict, toldAmount}
 use Rattle.text.specs.declared.refusal.Refusal.{Refusal}
 use Rattle.text.proofs.Outcomes.{refused-ok, refused-inj, demand-met, told-met, told-refused}
-use Rattle.layout.specs.Pieces.{nextOf, variantsAt, headAt, misspeltAt, toldCounted, toldPart, toldVerdict}
+use Rattle.layout.specs.Pieces.{nextOf, variantsAt, headAt, misspeltAt, toldPart}
 use Rattle.layout.specs.Reading.{Taken, valueOf, variantAt, valuesFrom, many, segmentAt}
 use Rattle.layout.specs.Prints.{printAt, suspectedAt, repeatsAt, Noted}
 use Rattle.layout.specs.Skips.{UpTo}
 use Rattle.layout.specs.Cursor.{started, enterAt, comparedAt, pastAt, toldEntered}
-use Rattle.layout.specs.declared.pieces.Counted.{Counted}
-use Rattle.layout.specs.declared.pieces.Counted.the-variants.{Variants}
+use Rattle.text.specs.declared.verdict.Amount.{Amount}
+use Rattle.text.specs.declared.verdict.Amount.the-variants.{Is}
 use Rattle.layout.specs.declared.pieces.Part.{Part}
-use Rattle.layout.specs.declared.pieces.Verdict.{Verdict}
-use Rattle.layout.specs.declared.pieces.Verdict.the-variants.{Sound}
+use Rattle.text.specs.declared.verdict.Verdict.{Verdict}
+use Rattle.text.specs.declared.verdict.Verdict.the-variants.{Sound}
 use Rattle.layout.specs.declared.cursor.Cursor.{Cursor}
 use Rattle.layout.specs.declared.cursor.Entered.{Entered}
 use Rattle.layout.specs.declared.cursor.Entered.the-variants.{At}
@@ -34,12 +34,12 @@ use Rattle.layout.proofs.Units.{variant-read, head-refused, misspelt-re
 use Rattle.layout.proofs.Segments.{InSegment, in-none, in-values, in-whole, in-next, in-not, in-all}
 
 -- the answers of the steps, from the tests and the callees that lead there
-module _ (s : List ℕ) (at : ℕ) {r : Counted} (told : toldCounted r ≡ variantsAt s at) where
-  pub enter-not : {w : Refusal} → r ≡ Counted.Refused w → enterAt s at ≡ refused (w .number) (w .place)
+module _ (s : List ℕ) (at : ℕ) {r : Amount} (told : toldAmount r ≡ variantsAt s at) where
+  pub enter-not : {w : Refusal} → r ≡ Amount.Refused w → enterAt s at ≡ refused (w .number) (w .place)
   unfolding enterAt
   enter-not is = rw (← told, is)
 
-  pub enter-is : {n : ℕ} → r ≡ Variants n → enterAt s at ≡ ok (started n at)
+  pub enter-is : {n : ℕ} → r ≡ Is n → enterAt s at ≡ ok (started n at)
   unfolding enterAt
   enter-is is = rw (← told, is)
 

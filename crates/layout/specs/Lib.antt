@@ -4,6 +4,8 @@ pub mod Pieces
 pub mod Reading
 pub mod Prints
 pub mod Cursor
+pub mod Walk
 pub mod Encoding
 pub mod Skips
 pub mod Standing
+pub mod Sizes

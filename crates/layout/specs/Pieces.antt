@@ -9,14 +9,8 @@ use Rattle.text.specs.Text.{Variant}
 use Rattle.text.specs.Compare.{alike}
 use Rattle.text.specs.Refusal.{Outcome, ok, refused, demand, after}
 use Rattle.layout.specs.Bytes.{greatestStretch, word, part}
-use Rattle.layout.specs.declared.pieces.Opened.{Opened}
-use Rattle.layout.specs.declared.pieces.Opened.the-variants.{Segments}
-use Rattle.layout.specs.declared.pieces.Counted.{Counted}
-use Rattle.layout.specs.declared.pieces.Counted.the-variants.{Variants}
 use Rattle.layout.specs.declared.pieces.Part.{Part}
 use Rattle.layout.specs.declared.pieces.Part.the-variants.{At}
-use Rattle.layout.specs.declared.pieces.Verdict.{Verdict}
-use Rattle.layout.specs.declared.pieces.Verdict.the-variants.{Sound}
 
 -- at most 32,768 bytes before o, else 4; and that alone
 abbrev pub fits : {A : Type 0} → List ℕ → Outcome A → Outcome A
@@ -25,9 +19,9 @@ fits s o = demand (leb (length s) greatestStretch) 4 0 o
 unfoldable pub fitsAt : List ℕ → Outcome (Unit {0})
 fitsAt s = fits s (ok tt)
 
--- the segment count of a stretch: 4, then 5 where it is cut off
+-- the segment count of a stretch: 5 where it is cut off
 unfoldable pub openAt : List ℕ → Outcome ℕ
-openAt s = fits s (demand (leb 2 (length s)) 5 0 (ok (word s 0)))
+openAt s = demand (leb 2 (length s)) 5 0 (ok (word s 0))
 
 -- the variant count of the segment at `at`: 5 where it is cut off, then 6
 unfoldable pub variantsAt : List ℕ → ℕ → Outcome ℕ
@@ -74,19 +68,7 @@ mostInStretch = 10922
 unfoldable pub closedAt : List ℕ → ℕ → ℕ → Outcome (Unit {0})
 closedAt s at n = demand (eqb at (length s)) 9 at (demand (leb n mostInStretch) 16 0 (ok tt))
 
--- what the answers of the pieces say
-abbrev pub toldOpened : Opened → Outcome ℕ
-toldOpened (Segments n) = ok n
-toldOpened (Opened.Refused r) = refused (r .number) (r .place)
-
-abbrev pub toldCounted : Counted → Outcome ℕ
-toldCounted (Variants n) = ok n
-toldCounted (Counted.Refused r) = refused (r .number) (r .place)
-
+-- what the answer of a head says
 abbrev pub toldPart : Part → Outcome Span
 toldPart (At start next) = ok (record { start = start; next = next })
 toldPart (Part.Refused r) = refused (r .number) (r .place)
-
-abbrev pub toldVerdict : Verdict → Outcome (Unit {0})
-toldVerdict Sound = ok tt
-toldVerdict (Verdict.Refused r) = refused (r .number) (r .place)

@@ -1,5 +1,6 @@
 -- What bytes mean: a text, or a refusal with its place. Places count in the whole list.
 use Prim.Native.Nat.{ℕ, zero, suc, _+_}
+use mathlib.Core.Path.{_≡_}
 use mathlib.Core.Bool.{Bool, not}
 use mathlib.Core.List.{List, [], _∷_, _++_}
 use Rattle.text.specs.Letter.{letter, meant, every}
@@ -45,13 +46,25 @@ many f (suc n) seen at = after (f seen at) (λ x. many f n (seen ++ (x .value �
 unfoldable pub segmentAt : List ℕ → ℕ → Outcome (Taken Segment ℕ)
 segmentAt s at = after (variantsAt s at) λ n. many (variantAt s) n [] (at + 1)
 
--- the text that a stretch encodes: its count, its segments, and nothing after them
-unfoldable pub stretchOf : List ℕ → Outcome Text
-stretchOf s =
-    after (openAt s) λ n.
-    after (many (λ _. segmentAt s) n [] 2) λ x.
+-- a segment can be read at `at`
+pub record Readable (s : List ℕ) (at : ℕ) : Type 0 where
+  pub read : Taken Segment ℕ
+  pub is : segmentAt s at ≡ ok read
+
+-- the text of n segments that stand from `from` on, and nothing after them: 5 to 8, then 9, 16
+unfoldable pub segmentsOf : List ℕ → ℕ → ℕ → Outcome Text
+segmentsOf s n from =
+    after (many (λ _. segmentAt s) n [] from) λ x.
     after (closedAt s (x .next) n) λ _.
     ok (x .value)
+
+-- the text that a stretch encodes, its length apart: its count, its segments, and nothing after them
+unfoldable pub wholeStretch : List ℕ → Outcome Text
+wholeStretch s = after (openAt s) λ n. segmentsOf s n 2
+
+-- the text that a stretch encodes
+unfoldable pub stretchOf : List ℕ → Outcome Text
+stretchOf s = fits s (wholeStretch s)
 
 -- the segment that a lone segment encodes, its length apart
 unfoldable pub loneSegment : List ℕ → Outcome Segment

@@ -1,10 +1,7 @@
 // A walk over the variants of one segment, as a value that stands before the next of them. Every walk over a segment takes these steps:
 // enter; then for each variant head, its own pass over the letters, misspelt if one of them was wrong, compared if it suspects the
 // variant, and past. Any bytes and any numbers are fine.
-use crate::pieces::Counted;
-use crate::pieces::FIRST_VARIANT;
 use crate::pieces::Part;
-use crate::pieces::Verdict;
 use crate::pieces::head;
 use crate::pieces::misspelt;
 use crate::pieces::variants;
@@ -12,12 +9,15 @@ use crate::repetition::again;
 use crate::repetition::print;
 use crate::repetition::repeated_at;
 use crate::repetition::suspected;
+use crate::sizes::FIRST_VARIANT;
 use std::num::wrapping_add_usize;
+use text::Amount;
 use text::Refusal;
+use text::Verdict;
 use text::size::counted;
 ghost use mathlib.Core.Path.{_≡_};
-ghost use Rattle.text.specs.Refusal.{refused};
-ghost use Rattle.layout.specs.Pieces.{headAt, misspeltAt, toldPart, toldVerdict};
+ghost use Rattle.text.specs.Refusal.{refused, toldVerdict};
+ghost use Rattle.layout.specs.Pieces.{headAt, misspeltAt, toldPart};
 ghost use Rattle.layout.specs.Prints.{suspectedAt};
 ghost use Rattle.layout.specs.Cursor.{enterAt, comparedAt, pastAt, toldEntered};
 
@@ -45,8 +45,8 @@ impl Cursor {
         ensures { λ r. ⌜ toldEntered r ≡ enterAt (now (stretch .entry)) at ⌝ }
     {
         match variants(stretch, at) {
-            Counted::Refused(wrong) => Entered::Refused(wrong),
-            Counted::Variants(count) => {
+            Amount::Refused(wrong) => Entered::Refused(wrong),
+            Amount::Is(count) => {
                 let first = at + FIRST_VARIANT;
                 Entered::At(Cursor {
                     count,

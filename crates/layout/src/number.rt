@@ -43,7 +43,7 @@ pub(crate) fn has_room(size: usize, at: usize, more: usize) -> bool
 }
 
 // The two bytes of a number, put at place `at`; nothing is put where they have no room.
-pub fn put_word(n: usize, out: &mut [u8], at: usize)
+pub(crate) fn put_word(n: usize, out: &mut [u8], at: usize)
     ensures { λ r. ⌜ now (out .exit) ≡ put (now (out .entry)) at (wordBytes n) ⌝ }
 {
     if !has_room(out.len(), at, 2) {

@@ -1,32 +1,17 @@
-// The pieces of which every walk over a stretch is made, each a question that is asked here alone: may the stretch be read at all
-// and how many segments has it, how many variants has a segment, where does a variant stand, is it sound, and is nothing left
-// after the last segment. Those of one segment are asked by a cursor. Any bytes and any places are fine.
+// The pieces of which every walk over a segment is made, each a question that is asked here alone: how many variants has the segment,
+// where does a variant stand, and which of its letters is wrong; a cursor asks them. Before any walk it is asked whether the bytes may be
+// read at all. Any bytes and any places are fine.
 use crate::number::pair;
 use crate::number::wide;
+use text::Amount;
 use text::Refusal;
+use text::Verdict;
 use text::letter::first_wrong;
+use text::limits;
 use text::refusal;
 ghost use mathlib.Core.Path.{_≡_};
-ghost use Rattle.text.specs.Refusal.{refused};
-ghost use Rattle.layout.specs.Pieces.{fitsAt, openAt, variantsAt, headAt, misspeltAt, closedAt};
-ghost use Rattle.layout.specs.Pieces.{toldOpened, toldCounted, toldPart, toldVerdict};
-
-// Where the first segment of a stretch stands: after the segment count.
-pub const FIRST_SEGMENT: usize = 2;
-// How far after a segment's place its first variant stands: after the variant count.
-pub const FIRST_VARIANT: usize = 1;
-
-// How many segments a stretch states.
-pub enum Opened {
-    Segments(usize),
-    Refused(Refusal),
-}
-
-// How many variants a segment states, 1 to 255.
-pub enum Counted {
-    Variants(usize),
-    Refused(Refusal),
-}
+ghost use Rattle.text.specs.Refusal.{refused, toldVerdict, toldAmount};
+ghost use Rattle.layout.specs.Pieces.{fitsAt, variantsAt, headAt, misspeltAt, toldPart};
 
 // Where a variant's letters start, and where the next variant begins, right after them.
 pub enum Part {
@@ -34,17 +19,11 @@ pub enum Part {
     Refused(Refusal),
 }
 
-// Whether what was asked about is as it should be.
-pub enum Verdict {
-    Sound,
-    Refused(Refusal),
-}
-
 // Refusal 4: a stretch or a lone segment has at most 32,768 bytes.
 pub fn fits(stretch: &[u8]) -> Verdict
     ensures { λ r. ⌜ toldVerdict r ≡ fitsAt (now (stretch .entry)) ⌝ }
 {
-    if refusal::GREATEST_STRETCH < stretch.len() {
+    if limits::GREATEST_STRETCH < stretch.len() {
         return Verdict::Refused(Refusal {
             number: refusal::STRETCH_LONG,
             place: 0,
@@ -53,40 +32,24 @@ pub fn fits(stretch: &[u8]) -> Verdict
     Verdict::Sound
 }
 
-// The segment count of a stretch: refusal 4, then 5 where the count is cut off.
-pub fn open(stretch: &[u8]) -> Opened
-    ensures { λ r. ⌜ toldOpened r ≡ openAt (now (stretch .entry)) ⌝ }
-{
-    if let Verdict::Refused(wrong) = fits(stretch) {
-        return Opened::Refused(wrong);
-    }
-    if stretch.len() < 2 {
-        return Opened::Refused(Refusal {
-            number: refusal::BYTES_END,
-            place: 0,
-        });
-    }
-    Opened::Segments(pair(stretch, 0))
-}
-
 // The variant count of the segment at `at`: refusal 5 where it is cut off, then 6.
-pub(crate) fn variants(stretch: &[u8], at: usize) -> Counted
-    ensures { λ r. ⌜ toldCounted r ≡ variantsAt (now (stretch .entry)) at ⌝ }
+pub(crate) fn variants(stretch: &[u8], at: usize) -> Amount
+    ensures { λ r. ⌜ toldAmount r ≡ variantsAt (now (stretch .entry)) at ⌝ }
 {
     if stretch.len() <= at {
-        return Counted::Refused(Refusal {
+        return Amount::Refused(Refusal {
             number: refusal::BYTES_END,
             place: at,
         });
     }
     let count = wide(stretch[at]);
     if count == 0 {
-        return Counted::Refused(Refusal {
+        return Amount::Refused(Refusal {
             number: refusal::NO_VARIANTS,
             place: at,
         });
     }
-    Counted::Variants(count)
+    Amount::Is(count)
 }
 
 // The variant whose length stands at `at`: refusal 5 where the bytes end inside the length, or before the letters that it states.
@@ -128,23 +91,4 @@ pub(crate) fn misspelt(stretch: &[u8], at: usize) -> Refusal
             }
         }
     }
-}
-
-// What is asked after the last of that many segments, at `at`: refusal 9, then 16. A lone segment is the last of one.
-pub fn closed(stretch: &[u8], at: usize, segments: usize) -> Verdict
-    ensures { λ r. ⌜ toldVerdict r ≡ closedAt (now (stretch .entry)) at segments ⌝ }
-{
-    if at != stretch.len() {
-        return Verdict::Refused(Refusal {
-            number: refusal::BYTES_LEFT,
-            place: at,
-        });
-    }
-    if refusal::MOST_IN_STRETCH < segments {
-        return Verdict::Refused(Refusal {
-            number: refusal::SEGMENTS_MANY,
-            place: 0,
-        });
-    }
-    Verdict::Sound
 }

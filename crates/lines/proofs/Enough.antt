@@ -9,17 +9,17 @@ use lib.Dec.{leb, ltb, eqb}
 use lib.ListN.{length, length-append}
 use Rattle.text.specs.Letter.{base, every, firstNot}
 use Rattle.text.specs.Text.{Text, total, weight, size}
-use Rattle.text.specs.Refusal.{Outcome, ok, refused, demand, after, pattern, greatestPattern}
+use Rattle.text.specs.Refusal.{Outcome, ok, refused, demand, after, pattern, greatestPattern, SoundPattern}
 use Rattle.text.proofs.Letters.{first-le}
 use Rattle.text.proofs.Outcomes.{demand-met, after-met}
-use Rattle.text.proofs.Patterns.{SoundPattern, pattern-sound, pattern-after}
+use Rattle.text.proofs.Patterns.{pattern-sound, pattern-after}
 use Rattle.layout.specs.Bytes.{greatestStretch}
 use Rattle.layout.specs.Pieces.{mostInStretch}
 use Rattle.layout.specs.Reading.{segmentAt, stretchOf}
 use Rattle.layout.proofs.Walks.{many-steps}
 use Rattle.layout.proofs.Rows.{row-many}
 use Rattle.layout.proofs.Decoding.{stretch-read}
-use Rattle.layout.proofs.Stretches.{segment-steps, stretch-most}
+use Rattle.layout.proofs.Stretches.{segment-steps, stretch-most, stretch-short}
 use Rattle.layout.proofs.Refusals.{stretch-low}
 use Rattle.search.specs.Answers.{into, stretchInto, searching}
 use Rattle.lines.specs.Input.{patternIn, stretchIn}
@@ -48,7 +48,7 @@ stretch-size s t e =
     let r = stretch-read s t e in
     let row = row-many (λ _. segmentAt s) t [] 2 (length s) (r .row) in
     let m = many-steps (λ _. segmentAt s) (total weight) (length s) (segment-steps s) (length t) [] 2 _ (r .counted) row in
-    omega (arith, m .0, r .short)
+    omega (arith, m .0, stretch-short s t e)
 
 -- each mark counts at most 1
 ends-few : (marks : List ℕ) → Row marks → total (λ x. x) marks ≤ length marks

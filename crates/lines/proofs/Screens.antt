@@ -16,7 +16,7 @@ use Rattle.text.specs.Compare.{same}
 use Rattle.text.specs.Refusal.{ok, after}
 use Rattle.text.specs.declared.strand.Strand.the-variants.{Given, Opposite}
 use Rattle.layout.specs.Bytes.{leftBy}
-use Rattle.search.specs.Answers.{Sums, sumsOf, seenFrom, searching, toldSearched}
+use Rattle.search.specs.Answers.{sumsOf, seenFrom, searching, toldSearched}
 use Rattle.search.specs.declared.searching.Searched.{Searched}
 use Rattle.search.specs.Either.{united, eitherMarks, eitherSums}
 use Rattle.search.proofs.Eithers.{either-length}

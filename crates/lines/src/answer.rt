@@ -8,12 +8,12 @@ use crate::strands::Strands;
 use crate::strands::search_on;
 use search::Searched;
 use text::Refusal;
-use text::refusal;
+use text::limits;
 ghost use Rattle.lines.specs.Puts.{Put};
 ghost use Rattle.lines.specs.Answer.{markedFrom, endLines, firstLine, textLines, refusalLine, linesOf};
 
 // The most bytes of an answer's lines: ten for each `end` line of the most segments, and 49 for the four other lines.
-pub const MOST_BYTES: usize = 10 * refusal::MOST_IN_STRETCH + 49;
+pub const MOST_BYTES: usize = 10 * limits::MOST_IN_STRETCH + 49;
 
 // A refusal: its number and its place.
 pub fn put_refusal(wrong: Refusal, out: &mut [u8], at: usize) -> usize
@@ -70,7 +70,7 @@ fn put_text(segments: usize, size: usize, ends: usize, marks: &[u8], out: &mut [
 pub fn screened(strands: Strands, input: &[u8], out: &mut [u8]) -> usize
     ensures { λ r. ⌜ Put (now (out .entry)) 0 (linesOf strands (now (input .entry))) (now (out .exit)) r ⌝ }
 {
-    let mut marks = [0u8; refusal::MOST_IN_STRETCH];
+    let mut marks = [0u8; limits::MOST_IN_STRETCH];
     let pattern = pattern_in(input);
     let stretch = stretch_in(input);
     match search_on(strands, pattern, stretch, &mut marks) {

@@ -1,13 +1,13 @@
 // The parts of the program's input. Where it ends inside the pattern, the bytes there are the pattern, and the stretch is empty.
 use layout::number::wide;
-use text::refusal;
+use text::limits;
 ghost use mathlib.Core.Path.{_≡_};
 ghost use Prim.Native.Nat.{_<_};
 ghost use Rattle.lines.specs.Input.{announced, patternIn, stretchIn};
 
 // The bytes of an input that count: the pattern's length, the longest pattern that a byte can announce, and a stretch of one byte over
 // the limit.
-pub const MOST_READ: usize = 257 + refusal::GREATEST_STRETCH;
+pub const MOST_READ: usize = 257 + limits::GREATEST_STRETCH;
 
 // The pattern's length, as its byte says it; 0 where there is no input.
 fn announced(input: &[u8]) -> usize

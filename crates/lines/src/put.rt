@@ -1,18 +1,12 @@
 // Bytes, numbers and lines, put into a buffer from a place on: as many bytes as there is room for. What is put right after is then
 // what would have been put in one piece, so that a caller that lends enough need not ask in between. Each call tells the place
 // after what it has put.
+use text::numbers::least;
 ghost use mathlib.Core.Path.{_≡_};
 ghost use Prim.Native.Nat.{_≤_, min};
 ghost use lib.ListN.{length, drop};
 ghost use Rattle.lines.specs.Decimal.{digits, line};
 ghost use Rattle.lines.specs.Puts.{Put};
-
-// The smaller of two numbers.
-fn least(a: usize, b: usize) -> usize
-    ensures { λ r. ⌜ r ≡ min a b ⌝ }
-{
-    if a < b { a } else { b }
-}
 
 // Bytes as they are.
 pub fn put_bytes(bytes: &[u8], out: &mut [u8], at: usize) -> usize

@@ -10,12 +10,12 @@ use borrow.Author.Tests.{le-leb, lt-leb}
 use lib.Dec.{eqb}
 use lib.ListN.{length, getD, take, drop, length-take, length-drop, drop-of-length-le}
 use Rattle.text.specs.Letter.{every, firstNot}
-use Rattle.text.specs.Compare.{same}
+use Rattle.text.specs.Compare.{same, fromTo}
 use Rattle.text.proofs.Letters.{first-le}
 use Rattle.text.proofs.Truth.{and-false}
 use Rattle.text.proofs.Strings.{part-end}
 use Rattle.manifest.specs.Kinds.{of, isName}
-use Rattle.manifest.specs.Line.{between, blanks, isComment, isEntry, saidBy, lineTo, endFrom, lineOf, Onward}
+use Rattle.manifest.specs.Line.{blanks, isComment, isEntry, saidBy, lineTo, endFrom, lineOf, Onward}
 use Rattle.manifest.specs.declared.classes.Kind.the-variants.{InLine, Digit}
 use Rattle.manifest.specs.declared.reading.Line.{Line}
 
@@ -119,12 +119,12 @@ unfolding lineOf lineTo
 placed m at h =
     let stop : ℕ = endFrom m at in
     let inside : stop ≤ length m = omega (arith, first-le (of InLine) (drop at m), length-drop at m) in
-    let few : length (between m at stop) ≤ stop - at = omega (arith, length-take (stop - at) (drop at m)) in
+    let few : length (fromTo m at stop) ≤ stop - at = omega (arith, length-take (stop - at) (drop at m)) in
     rw (lt-leb (length m) at h)
     (by-cases (decLt stop (length m))
     (λ (l : stop < length m).
     let upto : at ≤ stop = omega arith in
-    rw (lt-leb (length m) stop l) (said-placed at stop (length m) (between m at stop) few upto l))
+    rw (lt-leb (length m) stop l) (said-placed at stop (length m) (fromTo m at stop) few upto l))
     (λ (l : stop < length m → ⊥).
     let far : length m ≤ stop = omega arith in
     let on : at < stop = omega arith in

@@ -9,11 +9,11 @@ use lib.Dec.{eqb, ltb}
 use lib.ListN.{length, take, drop, getD, length-append}
 use lib.Seq.{take-at, drop-at, drop-drop, drop-append-seam}
 use Rattle.text.specs.Letter.{every, firstNot}
-use Rattle.text.specs.Compare.{same}
+use Rattle.text.specs.Compare.{same, fromTo}
 use Rattle.text.proofs.Strings.{same-refl}
 use Rattle.text.proofs.Truth.{and-left, and-right, and-both}
 use Rattle.manifest.specs.Kinds.{of, isName}
-use Rattle.manifest.specs.Line.{between, blanks, isComment, isEntry, saidBy, lineTo, endFrom, lineOf}
+use Rattle.manifest.specs.Line.{blanks, isComment, isEntry, saidBy, lineTo, endFrom, lineOf}
 use Rattle.manifest.specs.Lines.{after, Entry, entryAt, entriesFrom, wrongFrom}
 use Rattle.manifest.specs.Written.{commentLine, commentLines, entryFor, entryLine, entryLines}
 use Rattle.manifest.specs.declared.classes.Kind.the-variants.{InLine, Digit, Name}
@@ -109,7 +109,7 @@ module _ (u l r : List ℕ) (plain : every (of InLine) l ≡ true) where
   ends : endFrom whole (length u) ≡ length u + length l
   ends = ap (λ (n : ℕ). length u + n) (ap (firstNot (of InLine)) at-line ∙ first-feed l r plain)
 
-  content : between whole (length u) (length u + length l) ≡ l
+  content : fromTo whole (length u) (length u + length l) ≡ l
   content =
       let n : length u + length l - length u ≡ length l = omega arith in
       rw (n, at-line) (take-at l (10 ∷ r) (length l) refl)
@@ -149,14 +149,14 @@ module _ (e : Entry) (s : SoundEntry e) (u r : List ℕ) where
   from-entry : drop (length u) there ≡ contentOf e ++ (10 ∷ r)
   from-entry = drop-append-seam u (contentOf e ++ (10 ∷ r))
 
-  read-digest : between there (length u + 66 - 66) (length u + 66 - 2) ≡ e .digest
+  read-digest : fromTo there (length u + 66 - 66) (length u + 66 - 2) ≡ e .digest
   read-digest =
       let a : length u + 66 - 66 ≡ length u = omega arith in
       let b : length u + 66 - 2 - length u ≡ 64 = omega arith in
       let parted : contentOf e ++ (10 ∷ r) ≡ e .digest ++ (blanks ++ (e .name ++ (10 ∷ r))) = simp append-assoc in
       rw (a, b, from-entry, parted) (take-at (e .digest) (blanks ++ (e .name ++ (10 ∷ r))) 64 (s .size))
 
-  read-name : between there (length u + 66) (length u + length (contentOf e)) ≡ e .name
+  read-name : fromTo there (length u + 66) (length u + length (contentOf e)) ≡ e .name
   read-name =
       let n : length u + length (contentOf e) - (length u + 66) ≡ length (e .name) = omega (arith, content-length e s) in
       let parted : contentOf e ++ (10 ∷ r) ≡ (e .digest ++ blanks) ++ (e .name ++ (10 ∷ r)) =

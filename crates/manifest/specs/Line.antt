@@ -5,14 +5,10 @@ use mathlib.Core.List.{List, [], _∷_}
 use lib.Dec.{eqb, leb}
 use lib.ListN.{length, take, drop, getD}
 use Rattle.text.specs.Letter.{every, firstNot}
-use Rattle.text.specs.Compare.{same}
+use Rattle.text.specs.Compare.{same, fromTo}
 use Rattle.manifest.specs.Kinds.{of, isName}
 use Rattle.manifest.specs.declared.classes.Kind.the-variants.{InLine, Digit}
 use Rattle.manifest.specs.declared.reading.Line.{Line}
-
--- the bytes from one place up to another
-abbrev pub between : List ℕ → ℕ → ℕ → List ℕ
-between m from to = take (to - from) (drop from m)
 
 -- two blanks
 abbrev pub blanks : List ℕ
@@ -33,7 +29,7 @@ saidBy at end l =
 
 -- the line from `at` to the line feed at `end`; where the manifest ends there, the line has none, and is wrong
 unfoldable pub lineTo : List ℕ → ℕ → ℕ → Line
-lineTo m at end = cond (leb (length m) end) (Line.Wrong end) (saidBy at end (between m at end))
+lineTo m at end = cond (leb (length m) end) (Line.Wrong end) (saidBy at end (fromTo m at end))
 
 -- where the line that begins at a place ends: the first line feed, or the end of the manifest
 abbrev pub endFrom : List ℕ → ℕ → ℕ

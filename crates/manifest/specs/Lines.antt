@@ -4,7 +4,8 @@ use mathlib.Core.Bool.{Bool, true, false, _||_, cond}
 use mathlib.Core.List.{List, [], _∷_, _++_}
 use lib.Dec.{leb}
 use lib.ListN.{length}
-use Rattle.manifest.specs.Line.{between, lineOf}
+use Rattle.text.specs.Compare.{fromTo}
+use Rattle.manifest.specs.Line.{lineOf}
 use Rattle.manifest.specs.declared.reading.Line.{Line}
 
 -- where the line after this one begins
@@ -34,11 +35,11 @@ pub record Entry : Type 0 where
 
 -- the 64 digits before a name that begins at `start`, and two blanks
 abbrev pub digestAt : List ℕ → ℕ → List ℕ
-digestAt m start = between m (start - 66) (start - 2)
+digestAt m start = fromTo m (start - 66) (start - 2)
 
 -- the entry whose name stands from `start` to `end`
 abbrev pub entryAt : List ℕ → ℕ → ℕ → Entry
-entryAt m start end = record { digest = digestAt m start; name = between m start end }
+entryAt m start end = record { digest = digestAt m start; name = fromTo m start end }
 
 -- the entry of a stretch's line; any other has none
 abbrev pub entryIn : List ℕ → Line → List Entry

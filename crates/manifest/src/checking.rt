@@ -14,7 +14,7 @@ ghost use mathlib.Core.Path.{_≡_};
 ghost use Rattle.manifest.specs.Check.{sealed, counted, listedOf, checkedOf, vouches, countsStand};
 
 // What a manifest is, asked in this order: it does not begin with the first line; its last line is not the digest of the bytes before; a
-// line is wrong; it has no stretch; or it is sound, with so many stretches.
+// line is wrong; it has no stretch; or it is sound, with that many stretches.
 pub enum Checked {
     Sound(usize),
     Foreign,

@@ -3,13 +3,13 @@ use crate::source::Source;
 use crate::walk::Walk;
 use crate::walk::next_position;
 use crate::words::CHROMOSOME;
-use desk_list::part;
 use files::folder;
 use lines::put_bytes;
 use lines::put_line;
 use lines::put_number;
 use manifest::is_name;
 use manifest::put_digest;
+use text::part;
 
 // Puts the name that a word of the command line ends with; one that no line may have is put as a question mark.
 fn put_word(word: usize, out: &mut [u8], at: usize) -> usize {

@@ -36,8 +36,8 @@ use crate::words::VARIANTS;
 use crate::words::say;
 use crate::words::tell;
 use crate::words::tell_bases;
-use desk_list::part;
 use lines::put_line;
+use text::part;
 use text_files::write_manifest;
 
 // Room for the comment lines of a manifest: two names of files, and a chromosome's.
@@ -175,7 +175,9 @@ fn turn(
     } else if next_position(walk) < walk.until {
         step(name, walk, &mut *piece, &mut *window, &mut *text)
     } else {
-        arrive(walk, short, &mut *window, &mut *text)
+        let records = walk.records;
+        let line = part(short, 0, records.behind);
+        arrive(walk, line, &mut *window, &mut *text)
     }
 }
 
@@ -215,7 +217,6 @@ fn walk_from(name: &[u8], first: Walk, variants: &mut [u8]) {
     let mut short = io::large_buffer();
     let mut window = [0u8; ROOM];
     let mut text = manifest::room();
-    put_heading(&mut short, 0);
     put_heading(&mut window, LINES);
     let walk = walk_on(
         name,

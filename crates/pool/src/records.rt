@@ -7,12 +7,12 @@ use crate::source::next_piece;
 use crate::words::VARIANTS;
 use crate::words::tell;
 use crate::words::tell_line;
-use desk_list::part;
 use lines::put_bytes;
 use pool_files::Come;
-use pool_files::Line;
+use pool_files::ShortLine;
 use pool_files::read_line;
 use text::compare::prefix;
+use text::part;
 use vcf::records::heading;
 
 // How many bytes the heading has, with its line feed.
@@ -35,7 +35,7 @@ pub const STOP: u64 = 4;
 // the chromosome (0 where nothing says so), whether the last line may have no line feed, and what the last turn came to.
 pub struct Records {
     pub source: Source,
-    pub line: Line,
+    pub line: ShortLine,
     pub number: u64,
     pub behind: usize,
     pub own: u64,
@@ -50,9 +50,9 @@ pub struct Records {
 pub fn first_records(source: Source, unended: bool) -> Records {
     Records {
         source,
-        line: Line::at(HEADING),
+        line: ShortLine::at(0),
         number: 0,
-        behind: HEADING,
+        behind: 0,
         own: 0,
         others: 0,
         columns: 0,
@@ -62,7 +62,7 @@ pub fn first_records(source: Source, unended: bool) -> Records {
     }
 }
 
-// Puts the heading into a buffer, for lines in short to stand after.
+// Puts the heading into a buffer, for the lines of a window to stand after.
 pub fn put_heading(out: &mut [u8], at: usize) -> usize {
     let end = put_bytes(&heading::HEADING, &mut *out, at);
     put_bytes(b"\n", &mut *out, end)
@@ -125,7 +125,7 @@ fn after_comment(records: Records, columns: usize, name: &[u8], kept: &[u8]) -> 
 }
 
 // After a record's line: one with fewer columns than the others may have been cut.
-fn after_record(records: Records, line: Line, columns: usize, name: &[u8]) -> Records {
+fn after_record(records: Records, line: ShortLine, columns: usize, name: &[u8]) -> Records {
     let mut next = records;
     if !line.has_fields() {
         return fault(next, b"it has fewer than eight fields, parted by tabs");
@@ -158,11 +158,11 @@ fn after_record(records: Records, line: Line, columns: usize, name: &[u8]) -> Re
 fn after_line(name: &[u8], records: Records, short: &[u8]) -> Records {
     let line = records.line;
     let mut next = records;
-    next.line = Line::at(HEADING);
+    next.line = ShortLine::at(0);
     next.number = std::num::wrapping_add_u64(records.number, 1);
     let columns = std::num::wrapping_add_usize(line.tabs, 1);
     if line.is_comment() {
-        return after_comment(next, columns, name, part(short, HEADING, line.behind));
+        return after_comment(next, columns, name, part(short, 0, line.behind));
     }
     after_record(next, line, columns, name)
 }
@@ -177,7 +177,7 @@ fn at_end(name: &[u8], records: Records, short: &[u8]) -> Records {
     if !records.unended && !source.feed {
         let mut next = records;
         next.number = std::num::wrapping_add_u64(records.number, 1);
-        next.line = Line::at(HEADING);
+        next.line = ShortLine::at(0);
         return fault(
             next,
             b"it does not end with a line feed: the file may have been cut (--unended takes it as it is)",
@@ -200,7 +200,7 @@ fn turn_page(name: &[u8], records: Records, piece: &mut [u8], short: &[u8]) -> R
     }
 }
 
-// Reads on to the end of the line or of the piece. The line in short is put into the buffer after the heading.
+// Reads on to the end of the line or of the piece. The line in short is put into the buffer.
 pub fn read_on(name: &[u8], records: Records, piece: &mut [u8], short: &mut [u8]) -> Records {
     let mut next = records;
     let mut source = records.source;

@@ -9,13 +9,13 @@ use crate::walk::stop;
 use crate::words::REFERENCE;
 use crate::words::tell;
 use crate::words::tell_byte;
-use desk_list::part;
 use eds_notation::Place;
 use pool_files::Fit;
 use pool_files::Held;
 use pool_files::Reading;
 use pool_files::take;
 use text::compare::prefix;
+use text::part;
 
 // Where the reading of the reference stands, and line and column where the piece that is held begins.
 pub struct Spot {

@@ -1,8 +1,8 @@
 // A file that is read in pieces, from front to end, with the digest of all that was read.
-use desk_list::part;
 use digest::Hashing;
 use files::Piece;
 use files::fill;
+use text::part;
 
 // There may be more of it; it has ended; or it could not be read, which is said.
 pub const OPEN: u64 = 0;

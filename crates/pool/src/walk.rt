@@ -12,19 +12,20 @@ use crate::words::TEXT;
 use crate::words::say;
 use crate::words::say_number;
 use crate::words::tell;
-use desk_list::part;
 use eds_notation::Place;
 use pool_files::Held;
 use pool_files::Reading;
 use stretch::Written;
 use text::Refusal;
-use text::refusal;
+use text::limits;
+use text::numbers::least;
+use text::part;
 use text_files::Built;
 use text_files::write_stretch;
 use vcf::build;
 
 // One buffer has the window's bases and, from this place on, the heading and its records' lines in short.
-pub const LINES: usize = refusal::GREATEST_STRETCH;
+pub const LINES: usize = limits::GREATEST_STRETCH;
 
 // Room for the lines of every window too: a stretch of the most bytes has at most 8,191 records, and a record of so few bytes has a line
 // of 20.
@@ -61,9 +62,10 @@ pub struct Walk {
     // The reference, and where in it the reading stands.
     pub reference: Source,
     pub spot: Spot,
-    // What comes next, the position before which bases are taken for it, and the bytes of the record's segment.
+    // What comes next, the position before which bases are taken for it, the bases of the record's REF and the bytes of its segment.
     pub aim: u64,
     pub until: usize,
+    pub bases: usize,
     pub segment: usize,
     // The variant file.
     pub records: Records,
@@ -89,6 +91,7 @@ pub fn start(reference: Source, records: Records) -> Walk {
         },
         aim: NEXT,
         until: 0,
+        bases: 0,
         segment: 0,
         records,
         faults: 0,
@@ -157,7 +160,7 @@ fn write_window(walk: Walk, stretch: &[u8], text: &mut [u8]) -> Walk {
 
 // The window's stretch, built and written.
 fn build_window(walk: Walk, window: &[u8], text: &mut [u8]) -> Walk {
-    let mut out = [0u8; refusal::GREATEST_STRETCH];
+    let mut out = [0u8; limits::GREATEST_STRETCH];
     let lines = part(window, LINES, walk.lines);
     let bases = part(window, 0, walk.count);
     match build(lines, bases, walk.first, b"", &mut out) {
@@ -187,11 +190,6 @@ pub fn cut_window(walk: Walk, window: &[u8], text: &mut [u8]) -> Walk {
     }
     let written = build_window(walk, window, &mut *text);
     next_window(written)
-}
-
-// The smaller of two numbers.
-fn least(a: usize, b: usize) -> usize {
-    if a < b { a } else { b }
 }
 
 // How many bases more there is room for. Those of a record's REF have room, since its segment has.

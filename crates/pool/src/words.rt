@@ -1,8 +1,8 @@
 // What is said on standard error: file, line and reason. Files are named as the command line names them.
-use desk_list::part;
 use lines::put_bytes;
 use lines::put_number;
 use text::Refusal;
+use text::part;
 use text::refusal;
 use vcf::records::record::field;
 
@@ -119,7 +119,7 @@ fn tell_alternates(line: u64, alternates: &[u8]) {
     }
 }
 
-// Why a record is refused: the number that `build` gave to it alone, and its line in short.
+// Why a record is refused: the refusal of it alone, and its line in short.
 pub fn tell_record(line: u64, wrong: Refusal, short: &[u8]) {
     let number = wrong.number;
     match number {

@@ -9,10 +9,10 @@ use borrow.Author.Tests.{eq-eqb, ne-eqb, ltb-true}
 use lib.Dec.{eqb, ltb}
 use lib.ListN.{length, drop, getD, drop-of-length-le}
 use lib.Seq.{drop-cons}
-use Rattle.pool_files.specs.Short.{Shortened, Outcome, keeps, actOf, putting, inField, tabbed, acted, overByte, reading}
+use Rattle.pool_files.specs.Short.{Shortened, keeps, actOf, putting, inField, tabbed, acted, overByte, reading}
 use Rattle.pool_files.specs.declared.short.Act.{Act}
 use Rattle.pool_files.specs.declared.short.Act.the-variants.{Skip, Keep, Name, Next, Count, Comment}
-use Rattle.pool_files.specs.declared.short.Line.{Line}
+use Rattle.pool_files.specs.declared.short.ShortLine.{ShortLine}
 use Rattle.pool_files.specs.declared.short.Come.the-variants.{On, End}
 
 -- the next field is at most the eighth
@@ -33,7 +33,7 @@ unfolding actOf
 next-small k m b e = ltb-true k 7 (next-by (eqb b 0x09) (eqb k 0) (eqb b 0x23 && eqb m 0) (keeps k) k e)
 
 -- what a byte does, by its act
-module _ (name : List ℕ) (l : Line) (b : ℕ) (d : List ℕ) (a : Act) (e : actOf (l .field) (l .matched) b ≡ a) where
+module _ (name : List ℕ) (l : ShortLine) (b : ℕ) (d : List ℕ) (a : Act) (e : actOf (l .field) (l .matched) b ≡ a) where
   over-as : overByte name l b d ≡ acted name l b d a
   unfolding overByte
   over-as = rw e
@@ -45,7 +45,7 @@ module _ (name : List ℕ) (l : Line) (b : ℕ) (d : List ℕ) (a : Act) (e : ac
   over-buffer = sym (ap (λ (s : Shortened). s .buffer) over-as)
 
 -- the next field, with the tab counted
-module _ (name : List ℕ) (l : Line) (b : ℕ) (d : List ℕ) (e : actOf (l .field) (l .matched) b ≡ Next) {n : ℕ} (w : n ≡ (l .tabs + 1) % 2 ^ 64) where
+module _ (name : List ℕ) (l : ShortLine) (b : ℕ) (d : List ℕ) (e : actOf (l .field) (l .matched) b ≡ Next) {n : ℕ} (w : n ≡ (l .tabs + 1) % 2 ^ 64) where
   pub next-line : putting (inField (tabbed l n) (l .field + 1) (l .matched)) b d .line ≡ overByte name l b d .line
   next-line = rw w (over-line name l b d Next e)
 
@@ -53,14 +53,14 @@ module _ (name : List ℕ) (l : Line) (b : ℕ) (d : List ℕ) (e : actOf (l .fi
   next-buffer = rw w (over-buffer name l b d Next e)
 
 -- from here the bytes that are left lead to what all of them lead to
-pub record Reads (name : List ℕ) (l₀ : Line) (piece : List ℕ) (from : ℕ) (d₀ : List ℕ) (l : Line) (at : ℕ) (d : List ℕ) : Type 0 where
+pub record Reads (name : List ℕ) (l₀ : ShortLine) (piece : List ℕ) (from : ℕ) (d₀ : List ℕ) (l : ShortLine) (at : ℕ) (d : List ℕ) : Type 0 where
   pub same : reading name l (drop at piece) at d ≡ reading name l₀ (drop from piece) from d₀
   pub size : length d ≡ length d₀
 
-pub reads-none : (name : List ℕ) (l : Line) (piece : List ℕ) (from : ℕ) (d : List ℕ) → Reads name l piece from d l from d
+pub reads-none : (name : List ℕ) (l : ShortLine) (piece : List ℕ) (from : ℕ) (d : List ℕ) → Reads name l piece from d l from d
 reads-none name l piece from d = record { same = refl; size = refl }
 
-module _ {name : List ℕ} {l₀ : Line} {piece : List ℕ} {from : ℕ} {d₀ : List ℕ} {l : Line} {at : ℕ} {d : List ℕ}
+module _ {name : List ℕ} {l₀ : ShortLine} {piece : List ℕ} {from : ℕ} {d₀ : List ℕ} {l : ShortLine} {at : ℕ} {d : List ℕ}
     (r : Reads name l₀ piece from d₀ l at d) where
   pub reads-all : length piece ≤ at → record { come = On l; left = d } ≡ reading name l₀ (drop from piece) from d₀
   unfolding reading
@@ -82,7 +82,7 @@ module _ {name : List ℕ} {l₀ : Line} {piece : List ℕ} {from : ℕ} {d₀ :
 
     pub reads-more :
         (getD piece at 0 ≡ 0x0A → ⊥) →
-        (m : Line) (x : List ℕ) →
+        (m : ShortLine) (x : List ℕ) →
         m ≡ overByte name l (getD piece at 0) d .line →
         x ≡ overByte name l (getD piece at 0) d .buffer →
         length x ≡ length d →

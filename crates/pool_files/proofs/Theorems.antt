@@ -1,4 +1,4 @@
--- What crate clinic proves of its calls, over all inputs.
+-- What this crate proves of its calls, over all inputs.
 use Prim.Native.Nat.{ℕ, suc, _+_, _<_, _≤_}
 use native.Mathlib.Omega.{arith}
 use mathlib.Core.Path.{_≡_, refl, sym, ap, _∙_}
@@ -7,11 +7,11 @@ use mathlib.Core.List.{List, [], _∷_, _++_}
 use borrow.Author.Tests.{leb-true, leb-false, le-leb, lt-leb}
 use lib.Dec.{leb, eqb}
 use lib.ListN.{length, length-append}
-use Rattle.text.specs.Text.{Variant, Segment, Text}
+use Rattle.text.specs.Text.{Segment, Text}
 use Rattle.layout.specs.Bytes.{wordBytes, greatestStretch}
-use Rattle.layout.specs.Encoding.{bytesOf, encodeVariant, encodeSegment, encode}
+use Rattle.layout.specs.Encoding.{bytesOf, encodeSegment, encode}
 use Rattle.layout.proofs.Rows.{bytes-append}
-use Rattle.pool_files.specs.Room.{nothing, opened, withBases, withRecord}
+use Rattle.pool_files.specs.Room.{nothing, withRecord}
 use Rattle.pool_files.specs.declared.held.Held.{Held}
 use Rattle.pool_files.specs.declared.held.Fit.{Fit}
 use Rattle.pool_files.specs.declared.held.Fit.the-variants.{Fits, Full}

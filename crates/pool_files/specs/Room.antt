@@ -3,17 +3,18 @@ use Prim.Native.Nat.{ℕ, _+_, _-_}
 use mathlib.Core.Bool.{Bool, true, false, cond}
 use lib.Dec.{eqb, leb}
 use Rattle.layout.specs.Bytes.{greatestStretch}
+use Rattle.layout.specs.Sizes.{firstSegment, leastSegment}
 use Rattle.pool_files.specs.declared.held.Held.{Held}
 use Rattle.pool_files.specs.declared.held.Fit.{Fit}
 use Rattle.pool_files.specs.declared.held.Fit.the-variants.{Fits, Full}
 
 -- no segment: a segment count alone
 abbrev pub nothing : Held
-nothing = record { bytes = 2; running = false }
+nothing = record { bytes = firstSegment; running = false }
 
--- the bytes with which a base more begins: a segment's count and a variant's length, unless the last segment goes on
+-- the bytes with which a base more begins: those of the least segment, unless the last segment goes on
 unfoldable pub opened : Held → ℕ
-opened h = h .bytes + cond (h .running) 0 3
+opened h = h .bytes + cond (h .running) 0 leastSegment
 
 -- how many bases more there is room for
 unfoldable pub roomIn : Held → ℕ

@@ -8,12 +8,12 @@ use lib.ListN.{length, set}
 use Rattle.pool_files.specs.Words.{goOn}
 use Rattle.pool_files.specs.declared.short.Act.{Act}
 use Rattle.pool_files.specs.declared.short.Act.the-variants.{Skip, Keep, Name, Next, Count, Comment}
-use Rattle.pool_files.specs.declared.short.Line.{Line}
+use Rattle.pool_files.specs.declared.short.ShortLine.{ShortLine}
 use Rattle.pool_files.specs.declared.short.Come.{Come}
 use Rattle.pool_files.specs.declared.short.Come.the-variants.{On, End}
 
 -- a line that begins, to be put from a place on
-abbrev pub lineAt : ℕ → Line
+abbrev pub lineAt : ℕ → ShortLine
 lineAt at = record { field = 0; matched = 0; tabs = 0; behind = at; whole = true }
 
 -- POS, REF and ALT, and what stands after a #
@@ -30,11 +30,11 @@ actOf k matched b =
 
 -- a line, and the buffer that it is put into
 pub record Shortened : Type 0 where
-  pub line : Line
+  pub line : ShortLine
   pub buffer : List ℕ
 
 -- with a byte put, where there is room for it
-unfoldable pub putting : Line → ℕ → List ℕ → Shortened
+unfoldable pub putting : ShortLine → ℕ → List ℕ → Shortened
 putting l b d =
     cond (leb (length d) (l .behind))
     (record { line = record { field = l .field; matched = l .matched; tabs = l .tabs; behind = l .behind; whole = false }; buffer = d })
@@ -45,19 +45,19 @@ putting l b d =
     })
 
 -- in field k, with that many bytes of CHROM that are the name's first
-abbrev pub inField : Line → ℕ → ℕ → Line
+abbrev pub inField : ShortLine → ℕ → ℕ → ShortLine
 inField l k matched = record { field = k; matched = matched; tabs = l .tabs; behind = l .behind; whole = l .whole }
 
 -- with n tabs so far
-abbrev pub tabbed : Line → ℕ → Line
+abbrev pub tabbed : ShortLine → ℕ → ShortLine
 tabbed l n = record { field = l .field; matched = l .matched; tabs = n; behind = l .behind; whole = l .whole }
 
 -- with one tab more, as a word of 64 bits counts them
-abbrev pub counted : Line → Line
+abbrev pub counted : ShortLine → ShortLine
 counted l = tabbed l ((l .tabs + 1) % 2 ^ 64)
 
 -- by what a byte does
-abbrev pub acted : List ℕ → Line → ℕ → List ℕ → Act → Shortened
+abbrev pub acted : List ℕ → ShortLine → ℕ → List ℕ → Act → Shortened
 acted name l b d Skip = record { line = l; buffer = d }
 acted name l b d Keep = putting l b d
 acted name l b d Name = record { line = inField l (l .field) (goOn name (l .matched) b); buffer = d }
@@ -66,7 +66,7 @@ acted name l b d Count = record { line = counted l; buffer = d }
 acted name l b d Comment = record { line = inField l 8 (l .matched); buffer = d }
 
 -- after one byte more
-unfoldable pub overByte : List ℕ → Line → ℕ → List ℕ → Shortened
+unfoldable pub overByte : List ℕ → ShortLine → ℕ → List ℕ → Shortened
 overByte name l b d = acted name l b d (actOf (l .field) (l .matched) b)
 
 -- what comes of a line, and the buffer then
@@ -75,7 +75,7 @@ pub record Outcome : Type 0 where
   pub left : List ℕ
 
 -- these bytes, which stand from place `at` on, up to the first line feed
-unfoldable pub reading : List ℕ → Line → List ℕ → ℕ → List ℕ → Outcome
+unfoldable pub reading : List ℕ → ShortLine → List ℕ → ℕ → List ℕ → Outcome
 reading name l [] at d = record { come = On l; left = d }
 reading name l (b ∷ s) at d =
     let rest : Outcome = reading name (overByte name l b d .line) s (at + 1) (overByte name l b d .buffer) in

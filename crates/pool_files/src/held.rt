@@ -1,7 +1,8 @@
-// What a stretch holds so far, counted in its bytes: two for the segment count, one for each segment, and two and its letters for
-// each variant. Bases of the reference up to the next record are one segment of one variant, so only the first of them needs three
-// bytes more.
-use text::refusal;
+// What a stretch holds so far, counted in its bytes. Bases of the reference up to the next record are one segment of one variant, so
+// only the first of them needs more than its letter: the bytes of the least segment.
+use layout::FIRST_SEGMENT;
+use layout::LEAST_SEGMENT;
+use text::limits;
 ghost use mathlib.Core.Path.{_≡_};
 ghost use Rattle.pool_files.specs.Room.{nothing, roomIn, withBases, withRecord};
 
@@ -24,7 +25,7 @@ impl Held {
         ensures { λ r. ⌜ r ≡ nothing ⌝ }
     {
         Held {
-            bytes: 2,
+            bytes: FIRST_SEGMENT,
             running: false,
         }
     }
@@ -34,17 +35,17 @@ impl Held {
         ensures { λ r. ⌜ r ≡ roomIn self ⌝ }
     {
         let bytes = self.bytes;
-        if refusal::GREATEST_STRETCH < bytes {
+        if limits::GREATEST_STRETCH < bytes {
             return 0;
         }
-        let left = refusal::GREATEST_STRETCH - bytes;
+        let left = limits::GREATEST_STRETCH - bytes;
         if self.running {
             return left;
         }
-        if left < 3 {
+        if left < LEAST_SEGMENT {
             return 0;
         }
-        left - 3
+        left - LEAST_SEGMENT
     }
 
     // With that many bases more.
@@ -59,7 +60,7 @@ impl Held {
             return Fit::Full;
         }
         Fit::Fits(Held {
-            bytes: refusal::GREATEST_STRETCH - (room - n),
+            bytes: limits::GREATEST_STRETCH - (room - n),
             running: true,
         })
     }
@@ -69,10 +70,10 @@ impl Held {
         ensures { λ r. ⌜ r ≡ withRecord self n ⌝ }
     {
         let bytes = self.bytes;
-        if refusal::GREATEST_STRETCH < bytes {
+        if limits::GREATEST_STRETCH < bytes {
             return Fit::Full;
         }
-        if refusal::GREATEST_STRETCH - bytes < n {
+        if limits::GREATEST_STRETCH - bytes < n {
             return Fit::Full;
         }
         Fit::Fits(Held {

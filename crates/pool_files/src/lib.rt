@@ -11,5 +11,5 @@ pub use reference::Reading;
 pub use reference::Taken;
 pub use reference::take;
 pub use short::Come;
-pub use short::Line;
+pub use short::ShortLine;
 pub use short::read_line;

@@ -11,7 +11,7 @@ ghost use lib.ListN.{length, drop};
 ghost use Rattle.pool_files.specs.Short.{keeps, actOf, lineAt, putting, overByte, reading};
 
 // How far a line has come.
-pub struct Line {
+pub struct ShortLine {
     // The number of the field, counted from 0; 7 for every field from the eighth on, and 8 for a line that begins with #.
     pub field: usize,
     // How many bytes of CHROM are the name's first.
@@ -81,12 +81,12 @@ fn act_of(field: usize, matched: usize, byte: u8) -> Act
     Act::Skip
 }
 
-impl Line {
+impl ShortLine {
     // A line that begins, to be put from a place on.
-    pub fn at(place: usize) -> Line
+    pub fn at(place: usize) -> ShortLine
         ensures { λ r. ⌜ r ≡ lineAt place ⌝ }
     {
-        Line {
+        ShortLine {
             field: 0,
             matched: 0,
             tabs: 0,
@@ -96,7 +96,7 @@ impl Line {
     }
 
     // With a byte put, where there is room for it.
-    fn put(self, byte: u8, short: &mut [u8]) -> Line
+    fn put(self, byte: u8, short: &mut [u8]) -> ShortLine
         ensures { λ r. ⌜ r ≡ putting self byte (now (short .entry)) .line ⌝ }
         ensures { λ r. ⌜ now (short .exit) ≡ putting self byte (now (short .entry)) .buffer ⌝ }
     {
@@ -112,7 +112,7 @@ impl Line {
     }
 
     // After one byte more, which is no line feed.
-    fn over(self, name: &[u8], byte: u8, short: &mut [u8]) -> Line
+    fn over(self, name: &[u8], byte: u8, short: &mut [u8]) -> ShortLine
         ensures { λ r. ⌜ r ≡ overByte (now (name .entry)) self byte (now (short .entry)) .line ⌝ }
         ensures { λ r. ⌜ now (short .exit) ≡ overByte (now (name .entry)) self byte (now (short .entry)) .buffer ⌝ }
     {
@@ -175,12 +175,12 @@ impl Line {
 
 // A line that goes on in the next piece, or one that has ended, and the place after its line feed.
 pub enum Come {
-    On(Line),
-    End { line: Line, next: usize },
+    On(ShortLine),
+    End { line: ShortLine, next: usize },
 }
 
 // Reads on in a piece from a place on, up to the end of the line.
-pub fn read_line(name: &[u8], line: Line, piece: &[u8], from: usize, short: &mut [u8]) -> Come
+pub fn read_line(name: &[u8], line: ShortLine, piece: &[u8], from: usize, short: &mut [u8]) -> Come
     ensures answer { λ r. ⌜ r ≡ reading (now (name .entry)) line (drop from (now (piece .entry))) from (now (short .entry)) .come ⌝ }
     ensures buffer { λ r. ⌜ now (short .exit) ≡ reading (now (name .entry)) line (drop from (now (piece .entry))) from
         (now (short .entry)) .left ⌝ }

@@ -46,7 +46,7 @@ fn is_apart() -> bool {
 }
 
 // How many bytes of an input were read, and whether nothing failed.
-struct Got {
+struct Input {
     n: usize,
     whole: bool,
 }
@@ -62,34 +62,34 @@ fn bounded(n: usize, bytes: &[u8]) -> usize
 }
 
 // Reads a file to its end, or as much of it as there is room for. What fails is said.
-fn read(fd: i32, bytes: &mut [u8]) -> Got {
+fn read(fd: i32, bytes: &mut [u8]) -> Input {
     match read_all(fd, &mut *bytes) {
-        Read::Whole(n) => Got { n, whole: true },
-        Read::Full => Got {
+        Read::Whole(n) => Input { n, whole: true },
+        Read::Full => Input {
             n: bytes.len(),
             whole: true,
         },
         Read::Failed => {
             os::fail(b"screen: the input");
-            Got { n: 0, whole: false }
+            Input { n: 0, whole: false }
         }
     }
 }
 
 // Reads the stretch after a pattern of n bytes.
-fn read_apart(bytes: &mut [u8], n: usize) -> Got {
+fn read_apart(bytes: &mut [u8], n: usize) -> Input {
     if bytes.len() < n {
-        return Got { n, whole: false };
+        return Input { n, whole: false };
     }
     let rest = read(STRETCH_FILENO, &mut bytes[n..]);
-    Got {
+    Input {
         n: std::num::wrapping_add_usize(n, rest.n),
         whole: rest.whole,
     }
 }
 
 // Reads the input, of which the stretch may come apart.
-fn read_input(bytes: &mut [u8]) -> Got {
+fn read_input(bytes: &mut [u8]) -> Input {
     let front = read(libc::STDIN_FILENO, &mut *bytes);
     if !front.whole {
         return front;

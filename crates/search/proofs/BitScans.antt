@@ -15,6 +15,7 @@ use lib.Dec.{eqb, ltb, lit<}
 use lib.ListN.{length, getD, take, set, replicate, length-set, length-take, length-replicate, getD-replicate}
 use lib.Pow.{pow-pos, pow-lt, pow-mono, ones-sub-lt}
 use lib.Seq.{take-suc, take-all, getD-take, getD-set-same, getD-set-other}
+use Rattle.text.proofs.Snoc.{_▸_}
 use Rattle.text.specs.Letter.{raised, letter, meant, every, zeroFor}
 use Rattle.text.specs.Text.{Variant}
 use Rattle.text.specs.Bits.{bit, fromBits}
@@ -24,7 +25,6 @@ use Rattle.text.proofs.Blocks.{clean-more, zero-letters}
 use Rattle.text.proofs.Likes.{meant-length, meant-at}
 use Rattle.text.proofs.Bits.{bit-ext, bit-above, bit-zero, bit-or, bit-and, bit-fromBits, fromBits-lt, bit-single, bit-shl, bit-shl-below}
 use Rattle.text.proofs.Bits.{bit-mod, bit-mod-above, bit-shr-test}
-use Rattle.text.proofs.Snoc.{_▸_}
 use Rattle.text.proofs.Steps.{next-open}
 use Rattle.text.proofs.Scan.{one-ends, empty-state, empty-ends, scan-state, scan-ends}
 use Rattle.search.specs.Masks.{maskOf, bases, Masks, others, Others, Filled, Ready}

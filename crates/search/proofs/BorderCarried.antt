@@ -8,13 +8,13 @@ use mathlib.Core.Bool.{Bool, true, false, false≢true}
 use mathlib.Core.List.{List, _++_, append-cancel-left}
 use lib.ListN.{length, take, drop, length-append, length-drop}
 use lib.Seq.{take-add, length-take-le}
+use Rattle.text.specs.Refusal.{SoundPattern}
 use Rattle.text.specs.Letter.{meant}
 use Rattle.text.specs.Compare.{prefix}
 use Rattle.text.specs.Occurrence.{Prefix}
 use Rattle.text.proofs.Strings.{same-eq, eq-same, prefix-is, is-prefix}
 use Rattle.text.proofs.Likes.{meant-length}
 use Rattle.text.proofs.Steps.{split-length}
-use Rattle.search.specs.Border.{Sized}
 use Rattle.search.specs.BorderStep.{Holds, CarriesOne}
 use Rattle.search.proofs.BorderLetters.{rest-meant}
 use Rattle.search.proofs.BorderHolds.{lone, holds-none, holds-lone, holds-map}
@@ -48,7 +48,7 @@ module _ (P v : List ℕ) (q : ℕ) (near : q < length P) where
       λ h. absurd (let z : ⊥ = omega (arith, length-drop q P, simp length-append at (ap length (h .split))) in z),
     )
 
-    led-on : Sized P → fits ≡ true → CarriesOne P q v (1 * 2 ^ (q + length v) % 2 ^ 64) false
+    led-on : SoundPattern P → fits ≡ true → CarriesOne P q v (1 * 2 ^ (q + length v) % 2 ^ 64) false
     unfolding prefix
     led-on sized t =
         let end = q + length v in
@@ -74,7 +74,7 @@ module _ (P v : List ℕ) (q : ℕ) (near : q < length P) where
     }
 
 -- the same of a variant with the bytes w, compared by what they mean
-module _ (P w : List ℕ) (q : ℕ) (near : q < length P) (sized : Sized P) where
+module _ (P w : List ℕ) (q : ℕ) (near : q < length P) (sized : SoundPattern P) where
   pub carries-end : {ends : Bool} → length P - q ≤ length w → ends ≡ prefix (meant (take (length P - q) (drop q P))) (meant w)
       → CarriesOne P q (meant w) 0 ends
   carries-end long e =

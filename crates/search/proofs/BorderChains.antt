@@ -9,8 +9,9 @@ use mathlib.Core.Bool.{Bool}
 use mathlib.Core.List.{List}
 use lib.Bits.{bitOr}
 use lib.ListN.{length, take, getD}
+use Rattle.text.specs.Refusal.{SoundPattern}
 use Rattle.text.specs.Occurrence.{Suffix}
-use Rattle.search.specs.Border.{Longest, Borders, Sized}
+use Rattle.search.specs.Border.{Longest, Borders}
 use Rattle.search.specs.BorderStep.{Scans, Holds, Begins}
 use Rattle.search.proofs.BorderLengths.{longest-below}
 use Rattle.search.proofs.BorderHolds.{lone, holds-lone, holds-or, holds-map}
@@ -32,7 +33,7 @@ pub record Chain (P v : List ℕ) (bits k : ℕ) : Type 0 where
   pub ends : Suffix (take k P) v
   pub upward : Holds (length P) (EndsFrom P v k) bits
 
-pub chain-none : {P v : List ℕ} {k : ℕ} {whole : Bool} → Sized P → Scans P v k whole → Chain P v (1 * 2 ^ k % 2 ^ 64) k
+pub chain-none : {P v : List ℕ} {k : ℕ} {whole : Bool} → SoundPattern P → Scans P v k whole → Chain P v (1 * 2 ^ k % 2 ^ 64) k
 chain-none {P} {v} {k} sized g =
     let near : k < length P = omega (arith, sized .some, g .ends .within) in
     let only : (r : ℕ) → r < length P → (k ≡ r) ↔ EndsFrom P v k r =
@@ -48,7 +49,7 @@ module _ {P v table : List ℕ} {bits k : ℕ} (t : Borders P table) (h : Chain 
   chain-less = omega (arith, t .border k (le-of-lt (h .near)) .within)
 
   -- on to the border of k: no length between them is passed over
-  pub chain-more : Sized P → Chain P v (bitOr bits (1 * 2 ^ getD table k 0 % 2 ^ 64)) (getD table k 0)
+  pub chain-more : SoundPattern P → Chain P v (bitOr bits (1 * 2 ^ getD table k 0 % 2 ^ 64)) (getD table k 0)
   chain-more sized =
       rw (lone b (let z : b < 64 = omega (arith, near, sized .short) in z)) record {
         near = near;

@@ -6,12 +6,13 @@ use mathlib.Core.Bool.{Bool, true, false, not, false≢true}
 use mathlib.Core.List.{List}
 use borrow.Author.Tests.{not-true, not-false}
 use lib.ListN.{length, take, length-append}
+use Rattle.text.specs.Refusal.{SoundPattern}
 use Rattle.text.specs.Letter.{meant}
 use Rattle.text.specs.Compare.{suffix}
 use Rattle.text.specs.Occurrence.{Suffix, Inside}
 use Rattle.text.proofs.Strings.{suffix-is, is-suffix}
 use Rattle.text.proofs.Likes.{meant-length}
-use Rattle.search.specs.Border.{Longest, Sized}
+use Rattle.search.specs.Border.{Longest}
 use Rattle.search.specs.BorderStep.{Scans}
 use Rattle.search.proofs.BorderLetters.{front-meant}
 use Rattle.search.proofs.BorderLengths.{ends-length}
@@ -37,7 +38,7 @@ module _ {P : List ℕ} (w : List ℕ) (short : length w < length P) where
       outside h = omega (arith, meant-length w, simp length-append at (ap length (h .split)))
 
 -- the first k bases are asked
-module _ {P v : List ℕ} {k : ℕ} {fits : Bool} (sized : Sized P) (g : Ending P v k) (e : fits ≡ suffix (meant (take k P)) v) where
+module _ {P v : List ℕ} {k : ℕ} {fits : Bool} (sized : SoundPattern P) (g : Ending P v k) (e : fits ≡ suffix (meant (take k P)) v) where
   asked : fits ≡ suffix (take k P) v
   asked = e ∙ ap (λ (p : List ℕ). suffix p v) (front-meant P (sized .bases) k)
 

@@ -9,8 +9,9 @@ use mathlib.Core.Bool.{Bool, true, false, false≢true}
 use mathlib.Core.List.{List, [], _∷_, _++_}
 use lib.ListN.{length, take, getD, length-append}
 use lib.Seq.{take-suc, take-all, take-length}
+use Rattle.text.specs.Refusal.{SoundPattern}
 use Rattle.text.specs.Occurrence.{Suffix, Inside}
-use Rattle.search.specs.Border.{Longest, Next, Borders, Matched, Sized}
+use Rattle.search.specs.Border.{Longest, Next, Borders, Matched}
 use Rattle.search.specs.BorderStep.{Scans}
 use Rattle.text.proofs.Snoc.{inside-less, inside-more}
 use Rattle.search.proofs.BorderStrings.{suffix-none, suffix-inside}
@@ -32,7 +33,7 @@ scans-none P l = record { ends = longest; inside = (λ e. absurd (false≢true e
     outside h = omega (arith, simp length-append at (ap length (h .split)))
 
 -- the letter c is put after s, and the first x bases end that
-module _ {P s : List ℕ} {k : ℕ} {whole : Bool} (c : ℕ) {x : ℕ} (sized : Sized P) (g : Scans P s k whole) (w : Next P k c x) where
+module _ {P s : List ℕ} {k : ℕ} {whole : Bool} (c : ℕ) {x : ℕ} (sized : SoundPattern P) (g : Scans P s k whole) (w : Next P k c x) where
   grown : Longest P (s ++ (c ∷ [])) (length P) x
   grown =
       let n : suc (length P - 1) ≡ length P = omega (arith, sized .some) in
@@ -74,7 +75,7 @@ pub record Scanning (P v : List ℕ) (k : ℕ) (whole : Bool) (i : ℕ) : Type 0
   pub inside : i ≤ length v
   pub scans : Scans P (take i v) k whole
 
-pub scanning-none : {P v : List ℕ} → Sized P → Scanning P v 0 false 0
+pub scanning-none : {P v : List ℕ} → SoundPattern P → Scanning P v 0 false 0
 scanning-none {P} sized = record { inside = omega arith; scans = scans-none P (sized .some) }
 
 scanning-more :
@@ -82,7 +83,7 @@ scanning-more :
     Scanning P v k whole (i + 1)
 scanning-more P v k whole i l g = rw add-one record { inside = l; scans = rw (take-suc v i 0 l) g }
 
-module _ {P table v : List ℕ} {k : ℕ} {whole : Bool} {i : ℕ} (sized : Sized P) (b : Borders P table) (g : Scanning P v k whole i) where
+module _ {P table v : List ℕ} {k : ℕ} {whole : Bool} {i : ℕ} (sized : SoundPattern P) (b : Borders P table) (g : Scanning P v k whole i) where
   -- a fallback may start from the longest
   pub scanning-matched : Matched P table k
   scanning-matched =

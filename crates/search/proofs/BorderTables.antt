@@ -8,7 +8,8 @@ use mathlib.Core.Logic.{by-cases}
 use mathlib.Core.List.{List}
 use lib.ListN.{length, take, getD, set, replicate, length-set, length-replicate, getD-replicate}
 use lib.Seq.{take-suc, getD-set-same, getD-set-other}
-use Rattle.search.specs.Border.{Border, Next, Filled, Borders, Matched, Sized}
+use Rattle.text.specs.Refusal.{SoundPattern}
+use Rattle.search.specs.Border.{Border, Next, Filled, Borders, Matched}
 use Rattle.search.proofs.BorderStrings.{suffix-none}
 use Rattle.search.proofs.BorderLengths.{grow}
 
@@ -50,7 +51,7 @@ pub record Building (P table : List ℕ) (k i : ℕ) : Type 0 where
   pub filled : Filled P table i
   pub last : Border P i k
 
-pub building-none : {P : List ℕ} → Sized P → Building P (replicate 256 0) 0 1
+pub building-none : {P : List ℕ} → SoundPattern P → Building P (replicate 256 0) 0 1
 building-none {P} sized = record {
   some = omega arith;
   within = sized .some;
@@ -61,7 +62,7 @@ building-none {P} sized = record {
 
 module _ {P table : List ℕ} {k i : ℕ} (b : Building P table k i) where
   -- a fallback may start from the last border
-  pub building-matched : Sized P → i < length P → Matched P table k
+  pub building-matched : SoundPattern P → i < length P → Matched P table k
   building-matched sized l = record {
     near = omega (arith, b .last .within);
     short = sized .short;
@@ -69,7 +70,7 @@ module _ {P table : List ℕ} {k i : ℕ} (b : Building P table k i) where
   }
 
   -- one entry more
-  pub building-more : {x : ℕ} → Sized P → i < length P → Next P k (getD P i 0) x → Building P (set table (i + 1) x) x (i + 1)
+  pub building-more : {x : ℕ} → SoundPattern P → i < length P → Next P k (getD P i 0) x → Building P (set table (i + 1) x) x (i + 1)
   building-more {x} sized l w =
       let border = border-more P i k x (b .some) l (b .last) w in
       let room : suc i < length table = omega (arith, b .room, sized .short) in

@@ -10,11 +10,10 @@ use lib.ListN.{length, getD, take}
 use Rattle.text.specs.Text.{Segment, Text}
 use Rattle.text.specs.Bits.{bit}
 use Rattle.text.specs.State.{isState, next, ends, run, marksFrom}
-use Rattle.text.specs.Refusal.{ok, after}
+use Rattle.text.specs.Refusal.{ok, after, SoundPattern}
 use Rattle.text.proofs.Truth.{and-left, and-both}
 use Rattle.text.specs.Strand.{onStrand}
 use Rattle.text.specs.declared.strand.Strand.{Strand}
-use Rattle.text.proofs.Patterns.{SoundPattern}
 use Rattle.text.proofs.Strands.{strand-length, strand-sound}
 use Rattle.text.proofs.Outcomes.{demand-met, after-met, ok-inj}
 use Rattle.text.proofs.Steps.{next-open, next-lt}

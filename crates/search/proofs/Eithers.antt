@@ -1,5 +1,5 @@
 -- The search on both strands: the union of what they mark, the run over segments that marks it, and what the search answers.
-use Prim.Native.Nat.{ℕ, zero, suc, _+_, _≤_, _<_, max}
+use Prim.Native.Nat.{ℕ, zero, suc, _+_, _-_, _/_, _^_, _≤_, _<_, min, max}
 use native.Mathlib.Omega.{arith}
 use mathlib.Core.Path.{_≡_, refl, sym, ap, ap₂, subst, _∙_}
 use mathlib.Core.Logic.{_⊎_, inl, inr, ⊎-elim, _↔_}
@@ -9,28 +9,32 @@ use lib.Dec.{eqb}
 use lib.ListN.{length, getD, take, set}
 use Rattle.text.specs.Text.{Segment, Text, segment, total, size}
 use Rattle.text.specs.State.{isState, fresh, next, ends, run, marksFrom, marks}
-use Rattle.text.specs.Refusal.{Outcome, ok, refused, demand, after, pattern}
+use Rattle.text.specs.Refusal.{Outcome, ok, refused, demand, after, pattern, toldVerdict}
 use Rattle.text.specs.Strand.{opposite}
-use Rattle.layout.specs.Pieces.{fitsAt}
-use Rattle.text.proofs.Outcomes.{ok-inj, told-met, told-refused}
-use Rattle.text.proofs.Outcomes.{after-after, after-demand, after-met, demand-met}
+use Rattle.text.proofs.Outcomes.{ok-inj, after-after, after-demand, after-met, demand-met}
 use Rattle.text.proofs.Marks.{marks-length, mark-at}
 use Rattle.text.proofs.Folds.{run-snoc, marks-snoc}
-use Rattle.text.proofs.Patterns.{SoundPattern, pattern-sound, sound-pattern}
-use Rattle.layout.specs.Reading.{Taken, segmentAt, many}
+use Rattle.text.proofs.Patterns.{pattern-sound}
+use Rattle.layout.specs.Pieces.{fitsAt}
+use Rattle.layout.specs.Reading.{Taken, segmentsOf}
+use Rattle.layout.specs.Walk.{passedTo, endAt, Begun}
+use Rattle.text.specs.declared.verdict.Verdict.{Verdict}
+use Rattle.text.specs.declared.verdict.Verdict.the-variants.{Sound}
+use Rattle.layout.specs.declared.walk.Walk.{Walk}
+use Rattle.layout.proofs.Frames.{stretch-is}
+use Rattle.layout.proofs.Going.{going-length, going-refused, going-not, going-sound}
 use Rattle.search.specs.Masks.{StateOf}
 use Rattle.search.specs.Step.{Pass, toldPassed, segmentPass}
-use Rattle.search.specs.Answers.{entering, stretchInto, searching, seeking, MarksFrom, RoomyFrom, Sums}
-use Rattle.search.specs.Either.{united, eitherMarks, eitherSums, eitherFrom, enteringBoth, seekingBoth, SeenBoth, seenBoth, sumsBoth}
-use Rattle.search.specs.Either.{CourseBoth, eitherCourse, passedGiven, passedOpposite}
+use Rattle.search.specs.Answers.{entering, stretchInto, wholeInto, searching, seeking, MarksOf, Sums}
+use Rattle.search.specs.Either.{united, eitherMarks, eitherSums, eitherFrom, enteringBoth, seekingBoth, SeenBoth, seenBoth}
+use Rattle.search.specs.Either.{sumsBoth, passedGiven, passedOpposite}
 use Rattle.text.specs.declared.refusal.Refusal.{Refusal}
 use Rattle.search.specs.declared.both.words.Pair.{Pair}
 use Rattle.search.specs.declared.both.segment.PassedBoth.{PassedBoth}
 use Rattle.search.specs.declared.both.segment.PassedBoth.the-variants.{To, Refused}
 use Rattle.search.proofs.Entries.{Entered, entering-after, entering-refused, entering-sound, entering-pattern, entered, fresh-state}
 use Rattle.search.proofs.Passes.{Stepped, segment-met, segment-not}
-use Rattle.search.proofs.Markings.{Marking, marking-none, marking-room, marking-more, marking-refused, marking-all, marking-marks}
-use Rattle.search.proofs.Markings.{run-marks-not, Told}
+use Rattle.search.proofs.Markings.{Marking, marking-none, marking-room, marking-more, marking-marks, marks-not, Told}
 use Rattle.search.proofs.Searches.{run-state, fresh-searching}
 
 -- 1 for a mark of 1, and 0 for every other
@@ -162,21 +166,26 @@ module _ {r : PassedBoth} {x y : Outcome Pass} (own : toldPassed (passedGiven r)
     pub passed-turned : y ≡ ok (record { next = behind; size = more; state = state .opposite; ends = back })
     passed-turned = sym turned ∙ ap (λ (z : PassedBoth). toldPassed (passedOpposite z)) e
 
--- k segments from `from` on have been searched on both strands, from the states st and re on
-pub record Uniting (P : List ℕ) (st re : ℕ) (s : List ℕ) (from : ℕ) (buffer : List ℕ) (k at size ends given other : ℕ) : Type 0 where
+-- the segments of a walk have been searched on both strands, from the states st and re on
+pub record Uniting (P : List ℕ) (st re : ℕ) (s : List ℕ) (n from : ℕ) (buffer : List ℕ) (w : Walk) (ends given other : ℕ) : Type 0 where
   pub seen : Text
-  pub walk : Marking false (eitherFrom P st re) s from buffer seen k at size ends
+  pub walk : Marking false (eitherFrom P st re) s n from buffer seen w ends
   pub own : given ≡ run P st seen
   pub turned : other ≡ run (opposite P) re seen
 
-pub uniting-none : (P : List ℕ) (st re : ℕ) (s : List ℕ) (from : ℕ) (buffer : List ℕ) → from ≤ length s
-    → Uniting P st re s from buffer 0 from 0 0 st re
+pub uniting-none : (P : List ℕ) (st re : ℕ) (s buffer : List ℕ) (w : Walk) → Begun s w
+    → Uniting P st re s (w .count) (w .at) buffer w 0 st re
 unfolding run
-uniting-none P st re s from buffer l =
-    record { seen = []; walk = marking-none false (eitherFrom P st re) s from buffer (from-none P st re) l; own = refl; turned = refl }
+uniting-none P st re s buffer w b =
+    record { seen = []; walk = marking-none false (eitherFrom P st re) s buffer w (from-none P st re) b; own = refl; turned = refl }
 
-module _ {P : List ℕ} {st re : ℕ} {s : List ℕ} {from : ℕ} {buffer : List ℕ} {k at size ones given other : ℕ}
-    (q : Uniting P st re s from buffer k at size ones given other) where
+-- what a run over n segments from `from` on promises of its answer and of the marks
+abbrev pub Says : List ℕ → ℕ → ℕ → List ℕ → ℕ → ℕ → Outcome SeenBoth → List ℕ → Type 0
+Says P st re s n from told buffer =
+    (told ≡ after (segmentsOf s n from) (λ t. ok (seenBoth P st re t))) × MarksOf (eitherFrom P st re) (segmentsOf s n from) buffer
+
+module _ {P : List ℕ} {st re : ℕ} {s : List ℕ} {n from : ℕ} {buffer : List ℕ} {w : Walk} {ones given other : ℕ}
+    (q : Uniting P st re s n from buffer w ones given other) where
   -- the states are those of the two strands
   pub uniting-own : 0 < length P → StateOf P st → StateOf P given
   uniting-own some h = rw (q .own) (run-state P st (q .seen) some h)
@@ -185,13 +194,14 @@ module _ {P : List ℕ} {st re : ℕ} {s : List ℕ} {from : ℕ} {buffer : List
   uniting-turned some h = rw (q .turned) (run-state (opposite P) re (q .seen) some h)
 
   module _ {behind more reached further : ℕ} {hit back : Bool}
-      (e : segmentPass P given s at ≡ ok (record { next = behind; size = more; state = reached; ends = hit }))
-      (f : segmentPass (opposite P) other s at ≡ ok (record { next = behind; size = more; state = further; ends = back })) where
-    met : Stepped P given s at behind more reached hit
-    met = segment-met P given s at behind more reached hit e
+      (e : segmentPass P given s (w .at) ≡ ok (record { next = behind; size = more; state = reached; ends = hit }))
+      (f : segmentPass (opposite P) other s (w .at) ≡ ok (record { next = behind; size = more; state = further; ends = back }))
+      (l : w .passed < n) where
+    met : Stepped P given s (w .at) behind more reached hit
+    met = segment-met P given s (w .at) behind more reached hit e
 
-    faced : Stepped (opposite P) other s at behind more further back
-    faced = segment-met (opposite P) other s at behind more further back f
+    faced : Stepped (opposite P) other s (w .at) behind more further back
+    faced = segment-met (opposite P) other s (w .at) behind more further back f
 
     -- both strands have read the same segment
     g : Segment
@@ -202,8 +212,8 @@ module _ {P : List ℕ} {st re : ℕ} {s : List ℕ} {from : ℕ} {buffer : List
     same = ap (λ (x : Taken Segment ℕ). x .value) (ok-inj (sym (faced .read) ∙ met .read))
 
     -- there is room for its mark
-    pub uniting-room : (n : ℕ) → k < n → RoomyFrom s from n buffer → k < length buffer
-    uniting-room = marking-room (q .walk) (met .read) (met .size)
+    pub uniting-room : min n ((length s - from) / 3) ≤ length buffer → w .passed < length buffer
+    uniting-room = marking-room (q .walk) (met .read) (met .size) l
 
     last : eitherFrom P st re (q .seen ++ (g ∷ [])) ≡ eitherFrom P st re (q .seen) ++ (cond (hit || back) 1 0 ∷ [])
     unfolding g
@@ -214,75 +224,47 @@ module _ {P : List ℕ} {st re : ℕ} {s : List ℕ} {from : ℕ} {buffer : List
         from-snoc P st re (q .seen) g ∙ ap₂ (λ (a b : Bool). eitherFrom P st re (q .seen) ++ (cond (a || b) 1 0 ∷ [])) here there
 
     -- the mark that the code writes for the segment
-    pub uniting-more : (mark : ℕ) → mark ≡ cond (hit || back) 1 0 → k < length buffer
-        → Uniting P st re s from (set buffer k mark) (k + 1) behind (size + more) (ones + mark) reached further
+    pub uniting-more : (mark : ℕ) → mark ≡ cond (hit || back) 1 0 → w .passed < length buffer → length s < 2 ^ 64 → {v : Walk}
+        → v ≡ passedTo w behind more → Uniting P st re s n from (set buffer (w .passed) mark) v (ones + mark) reached further
     unfolding g
-    uniting-more mark is room =
+    uniting-more mark is room fits on =
         record {
           seen = q .seen ++ (g ∷ []);
-          walk = marking-more (q .walk) (met .read) (met .size) (hit || back) last mark is (λ _. room);
+          walk = marking-more (q .walk) (met .read) (met .size) l (hit || back) last mark is fits on (λ _. room);
           own = sym (met .state) ∙ ap (λ (n : ℕ). next P n g) (q .own) ∙ sym (run-snoc P st (q .seen) g);
           turned =
               sym (faced .state) ∙ ap₂ (λ (n : ℕ) (h : Segment). next (opposite P) n h) (q .turned) same
               ∙ sym (run-snoc (opposite P) re (q .seen) g);
         }
 
-  module _ (n : ℕ) where
-    -- what a run tells of n segments, and the marks that it leaves
-    abbrev Run : Outcome CourseBoth → Type 0
-    Run told =
-        (told ≡ after (many (λ _. segmentAt s) n [] from) (λ x. ok (eitherCourse P st re x)))
-        × MarksFrom (eitherFrom P st re) (many (λ _. segmentAt s) n [] from) buffer
+  refuses : (j p : ℕ) → segmentsOf s n from ≡ refused j p → Says P st re s n from (refused j p) buffer
+  refuses j p e =
+      (sym (ap (λ (o : Outcome Text). after o (λ t. ok (seenBoth P st re t))) e), marks-not (eitherFrom P st re) _ j p buffer e)
 
-    pub uniting-refused : k < n → (j p : ℕ) → segmentPass P given s at ≡ refused j p → Run (refused j p)
-    uniting-refused l j p e =
-        let none = marking-refused (q .walk) n l j p (segment-not P given s at j p e) in
-        (rw none, run-marks-not (eitherFrom P st re) _ j p buffer none)
+  pub uniting-refused : w .passed < n → (j p : ℕ) → segmentPass P given s (w .at) ≡ refused j p
+      → Says P st re s n from (refused j p) buffer
+  uniting-refused l j p e = refuses j p (going-refused (q .walk .go) l (segment-not P given s (w .at) j p e))
 
-    pub uniting-ran : k ≡ n → Run (ok (record { next = at; size = size; ends = ones; given = given; opposite = other }))
-    unfolding eitherCourse size
-    uniting-ran done =
-        (rw (marking-all (q .walk) n done, q .walk .sum .sum, q .walk .ones, q .own, q .turned), marking-marks (q .walk) n done refl)
+  -- after the last
+  module _ (done : n ≤ w .passed) {v : Verdict} (told : toldVerdict v ≡ endAt s w) where
+    pub uniting-left : {f : Refusal} → v ≡ Verdict.Refused f → Says P st re s n from (refused (f .number) (f .place)) buffer
+    uniting-left {f} is = refuses (f .number) (f .place) (going-not (q .walk .go) done told is)
 
--- from what a run over segments tells
-module _ (P : List ℕ) (st re : ℕ) (s : List ℕ) (n from : ℕ) where
-  pub both-not : (j p : ℕ) → after (many (λ _. segmentAt s) n [] from) (λ x. ok (eitherCourse P st re x)) ≡ refused j p
-      → many (λ _. segmentAt s) n [] from ≡ refused j p
-  both-not j p e = told-refused (many (λ _. segmentAt s) n [] from) (eitherCourse P st re) j p e
-
-  pub both-met : (at sum ones given other : ℕ)
-      → after (many (λ _. segmentAt s) n [] from) (λ x. ok (eitherCourse P st re x))
-      ≡ ok (record { next = at; size = sum; ends = ones; given = given; opposite = other })
-      → (t : Text) × (many (λ _. segmentAt s) n [] from ≡ ok (record { value = t; next = at }))
-      × (record { segments = length t; size = sum; ends = ones; given = given; opposite = other } ≡ seenBoth P st re t)
-  unfolding eitherCourse seenBoth
-  both-met at sum ones given other e =
-      let m = told-met (many (λ _. segmentAt s) n [] from) (eitherCourse P st re)
-      (record { next = at; size = sum; ends = ones; given = given; opposite = other }) e in
-      let t = m .0 .value in
-      let q = sym (m .2) in (
-        t,
-        m .1 ∙ ap (λ (i : ℕ). ok (record { value = t; next = i })) (ap (λ (x : CourseBoth). x .next) (m .2)),
-        λ i. record { segments = length t; size = q i .size; ends = q i .ends; given = q i .given; opposite = q i .opposite },
-      )
+    pub uniting-sound : v ≡ Sound
+        → Says P st re s n from
+        (ok (record { segments = w .passed; size = w .size; ends = ones; given = given; opposite = other })) buffer
+    unfolding seenBoth size
+    uniting-sound is =
+        let e = going-sound (q .walk .go) done told is in
+        let go = q .walk .go in (
+          rw (e, going-length go, ← go .sum .sum, ← q .walk .ones, ← q .own, ← q .turned) refl,
+          marking-marks (q .walk) _ e refl,
+        )
 
 -- what the search tells of a text
-module _ (P : List ℕ) (st re : ℕ) where
-  pub both-segments : (x : SeenBoth) (t : Text) → seenBoth P st re t ≡ x → length t ≡ x .segments
-  unfolding seenBoth
-  both-segments x t e = ap (λ (y : SeenBoth). y .segments) e
-
-  module _ (o : Outcome Text) where
-    pub either-not : (j p : ℕ) → o ≡ refused j p → after o (λ t. ok (seenBoth P st re t)) ≡ refused j p
-    either-not j p e = rw e
-
-    pub either-seen : (t : Text) → o ≡ ok t → (n sum ones given other : ℕ) → length t ≡ n
-        → record { segments = length t; size = sum; ends = ones; given = given; opposite = other } ≡ seenBoth P st re t
-        → after o (λ t. ok (seenBoth P st re t))
-        ≡ ok (record { segments = n; size = sum; ends = ones; given = given; opposite = other })
-    either-seen t e n sum ones given other count is =
-        rw e (ap ok (sym is)
-        ∙ ap (λ (m : ℕ). ok (record { segments = m; size = sum; ends = ones; given = given; opposite = other })) count)
+pub both-segments : (P : List ℕ) (st re : ℕ) (t : Text) → seenBoth P st re t .segments ≡ length t
+unfolding seenBoth
+both-segments P st re t = refl
 
 -- a call from a state of each strand that may go on
 pub record EnteredBoth (P : List ℕ) (st re : ℕ) (s : List ℕ) : Type 0 where
@@ -339,10 +321,11 @@ module _ (P : List ℕ) (st re : ℕ) (s : List ℕ) where
         rw none (refl, refl)
 
     pub both-seek-sound : EnteredBoth P st re s → (told : Outcome SeenBoth) (left : List ℕ)
-        → Told (seenBoth P st re) (eitherFrom P st re) out (stretchInto s (length out)) told left
+        → Told (seenBoth P st re) (eitherFrom P st re) out (wholeInto s (length out)) told left
         → Told (seenBoth P st re) (eitherFrom P st re) out (seekingBoth P st re s (length out)) told left
     unfolding seekingBoth
-    both-seek-sound y told left h = rw (both-sound (y .own) (y .turned) (stretchInto s (length out))) h
+    both-seek-sound y told left h =
+        rw (both-sound (y .own) (y .turned) (stretchInto s (length out)), stretch-is s (y .own .short)) h
 
 -- a search from the fresh states is a search
 module _ (P s out : List ℕ) where

@@ -10,15 +10,15 @@ use lib.ListN.{length}
 use lib.Pow.{pow-lt}
 use Rattle.text.specs.Bits.{bit}
 use Rattle.text.specs.State.{isState, fresh}
-use Rattle.text.specs.Refusal.{Outcome, ok, refused, demand, after, pattern}
+use Rattle.text.specs.Refusal.{Outcome, ok, refused, demand, after, pattern, toldVerdict, SoundPattern}
 use Rattle.text.proofs.Truth.{and-left, and-right}
 use Rattle.text.proofs.Bits.{bit-first}
 use Rattle.text.proofs.Outcomes.{demand-met, after-met, after-demand}
-use Rattle.text.proofs.Patterns.{SoundPattern, pattern-sound, sound-pattern, pattern-refused, pattern-after}
+use Rattle.text.proofs.Patterns.{pattern-sound, sound-pattern, pattern-refused, pattern-after}
 use Rattle.layout.specs.Bytes.{greatestStretch}
 use Rattle.text.specs.declared.refusal.Refusal.{Refusal}
-use Rattle.layout.specs.Pieces.{fitsAt, fits, toldVerdict}
-use Rattle.layout.specs.declared.pieces.Verdict.{Verdict}
+use Rattle.layout.specs.Pieces.{fitsAt, fits}
+use Rattle.text.specs.declared.verdict.Verdict.{Verdict}
 use Rattle.layout.proofs.Frames.{fits-refused}
 use Rattle.search.specs.Masks.{StateOf}
 use Rattle.search.specs.Answers.{entering}

@@ -4,7 +4,7 @@ use native.Mathlib.Nat.{add-zero}
 use native.Mathlib.Decide.{ℕ-discrete}
 use native.Mathlib.Omega.{arith}
 use mathlib.Core.Path.{_≡_, refl, sym, ap, ap₂, _∙_}
-use mathlib.Core.Logic.{by-cases}
+use mathlib.Core.Logic.{inr, by-cases}
 use mathlib.Core.Bool.{Bool, true, false, cond, false≢true}
 use mathlib.Core.List.{List, [], _∷_, _++_}
 use borrow.Author.Tests.{lt-ltb, le-ltb}
@@ -12,27 +12,26 @@ use lib.Dec.{ltb}
 use lib.ListN.{length, getD}
 use Rattle.text.specs.Text.{Segment, Text, total}
 use Rattle.text.specs.State.{isState, next, ends, run, marksFrom}
-use Rattle.text.specs.Card.{none, firstEnd, later}
-use Rattle.text.specs.Refusal.{Outcome, ok, refused, after}
+use Rattle.text.specs.Card.{none, firstEnd}
+use Rattle.text.specs.Refusal.{ok, refused, after, SoundPattern}
 use Rattle.text.specs.Strand.{onStrand}
 use Rattle.text.specs.declared.strand.Strand.{Strand}
-use Rattle.text.proofs.Patterns.{SoundPattern}
 use Rattle.text.proofs.Strands.{strand-length, strand-sound}
 use Rattle.text.proofs.Sizes.{total-append}
 use Rattle.text.proofs.Outcomes.{ok-inj, after-met}
 use Rattle.text.proofs.Marks.{run-append, marks-append, marks-length}
 use Rattle.text.proofs.Folds.{marks-snoc}
 use Rattle.layout.specs.Pieces.{openAt}
-use Rattle.layout.specs.Reading.{segmentAt, many, stretchOf}
-use Rattle.layout.proofs.Frames.{stretch-met, open-counts}
+use Rattle.layout.specs.Bytes.{greatestStretch}
+use Rattle.layout.specs.Reading.{segmentAt, many, segmentsOf, stretchOf}
+use Rattle.layout.proofs.Frames.{whole-met, stretch-whole, open-counts}
 use Rattle.layout.proofs.Stretches.{stretch-short, stretch-most}
-use Rattle.layout.proofs.Walks.{walk-refused, walk-length}
+use Rattle.layout.proofs.Walks.{walk-refused}
 use Rattle.search.specs.First.{Hit, endsIn, clear, whole, wholeOf, firstIn, hitting, firsting}
-use Rattle.search.specs.Chain.{stretchesText, asks, onward}
-use Rattle.search.proofs.Entries.{Entered, entering-sound}
-use Rattle.search.proofs.Stops.{first, whole-walk, no-ones, some-ones, first-last, walk-few}
-use Rattle.search.proofs.Stops.{first-is}
-use Rattle.search.proofs.Hits.{hit-not, hit-ends}
+use Rattle.search.specs.Chain.{stretchesText, asks}
+use Rattle.search.proofs.Entries.{entering-sound}
+use Rattle.search.proofs.Stops.{whole-walk, no-ones, some-ones, first-last, walk-few, hit-here, hit-nowhere}
+use Rattle.search.proofs.Hits.{hit-from}
 use Rattle.search.proofs.Chains.{run-state}
 
 -- the first hit among marks: the first one, or the state after them where there is none
@@ -44,9 +43,9 @@ pub hit-sound : (P : List ℕ) (st : ℕ) (s : List ℕ) (t : Text) → stretchO
     → hitting P st s ≡ ok (hitOf (marksFrom P st t) (run P st t))
 unfolding hitting firstIn wholeOf whole
 hit-sound P st s t e =
-    let m = stretch-met s t e in
+    let m = whole-met s t (stretch-whole s t e .1) in
     let n = m .count in
-    let opens : openAt s ≡ ok n = open-counts s (m .opens .short) (m .opens .counted) ∙ ap ok (sym (m .opens .count)) in
+    let opens : openAt s ≡ ok n = open-counts s (m .opens .counted) ∙ ap ok (sym (m .opens .count)) in
     let all : whole (λ _. segmentAt s) n [] 2 ≡ t =
     ap (λ (i : ℕ). whole (λ _. segmentAt s) i [] 2) (sym (add-zero n)) ∙ whole-walk (λ _. segmentAt s) n 0 [] 2 _ (m .all) in
     rw (opens, all, e) (either (ltb (firstEnd (marksFrom P st t)) none) _ _)
@@ -58,7 +57,7 @@ hit-sound P st s t e =
 -- the first k of n segments of a stretch read whole, those seen, up to `at`
 pub record Reads (s : List ℕ) (n k : ℕ) (seen : Text) (at : ℕ) : Type 0 where
   pub opens : openAt s ≡ ok n
-  pub short : length s < none
+  pub short : length s ≤ greatestStretch
   pub counted : 2 ≤ length s
   pub few : k ≤ n
   pub all : many (λ _. segmentAt s) k [] 2 ≡ ok (record { value = seen; next = at })
@@ -67,34 +66,26 @@ module _ (P : List ℕ) (st : ℕ) (s : List ℕ) (n k : ℕ) (seen : Text) (at 
   -- a segment that reads whole and in which an occurrence ends, the first such: whatever stands after it
   pub hit-first : (g : Segment) (behind : ℕ) → Reads s n (k + 1) (seen ++ (g ∷ [])) behind → length seen ≡ k
       → total (λ x. x) (marksFrom P st seen) ≡ 0 → ends P (run P st seen) g ≡ true → hitting P st s ≡ ok (endsIn k)
-  unfolding later
   hit-first g behind r long zeros hit =
       let few = walk-few s 2 (k + 1) _ behind (r .counted) (r .all) in
       let short = r .short in
       let unmarked = no-ones P st seen (omega (arith, long, few, short)) zeros in
       let last : marksFrom P st (seen ++ (g ∷ [])) ≡ marksFrom P st seen ++ (1 ∷ []) =
       marks-snoc P st seen g ∙ ap (λ (b : Bool). marksFrom P st seen ++ (cond b 1 0 ∷ [])) hit in
-      let one = ap firstEnd last ∙ first-last (marksFrom P st seen) k unmarked (marks-length P st seen ∙ long)
-      (omega (arith, few, short)) in
-      let is = first-is P st s n 2 short (r .counted) (k + 1) (seen ++ (g ∷ [])) behind (r .all) (r .few) in
-      let here : first P st s n 2 ≡ k = omega (arith, is, one) in
-      hit-ends P st s n (r .opens) (omega (arith, here, few, short)) ∙ ap (λ (i : ℕ). ok (endsIn i)) here
+      let low : k < none = omega (arith, few, short) in
+      let one = ap firstEnd last ∙ first-last (marksFrom P st seen) k unmarked (marks-length P st seen ∙ long) low in
+      hit-from P st s n (r .opens) short ∙ hit-here P st s n 2 (k + 1) (seen ++ (g ∷ [])) behind (r .all) (r .few) k refl one low
 
   -- a fault before any end, inside a segment too: its refusal
   pub hit-fault : (j p : ℕ) → Reads s n k seen at → k < n → total (λ x. x) (marksFrom P st seen) ≡ 0 → segmentAt s at ≡ refused j p
       → hitting P st s ≡ refused j p
-  unfolding whole stretchOf
+  unfolding segmentsOf
   hit-fault j p r l zeros wrong =
       let few = walk-few s 2 k seen at (r .counted) (r .all) in
       let short = r .short in
-      let long = walk-length (λ _. segmentAt s) 2 k seen at (r .all) in
-      let rest : k + suc (n - suc k) ≡ n = omega arith in
-      let all : whole (λ _. segmentAt s) n [] 2 ≡ seen =
-      ap (λ (i : ℕ). whole (λ _. segmentAt s) i [] 2) (sym rest)
-      ∙ whole-walk (λ _. segmentAt s) k (suc (n - suc k)) [] 2 _ (r .all) ∙ rw wrong refl in
-      let unmarked = ap (λ (T : Text). firstEnd (marksFrom P st T)) all ∙ no-ones P st seen (omega (arith, long, few, short)) zeros in
-      hit-not P st s n (r .opens) unmarked
-      ∙ rw (r .opens, walk-refused (λ _. segmentAt s) 2 k seen at (r .all) n l j p wrong) refl
+      hit-from P st s n (r .opens) short
+      ∙ hit-nowhere P st s n 2 k seen at (r .all) (r .few) (inr (j, p, wrong)) (omega (arith, few, short)) zeros
+      ∙ rw (walk-refused (λ _. segmentAt s) 2 k seen at (r .all) n l j p wrong) refl
 
 -- marks that sum up to 0 are no ones
 pub zeros-at : (l : List ℕ) → total (λ x. x) l ≡ 0 → (j : ℕ) → getD l j 0 ≡ 1 → ⊥

@@ -1,6 +1,6 @@
 -- The first hit is told by the bytes up to the end of its segment: a stretch that begins with the same bytes has the same first hit,
 -- whatever stands after them.
-use Prim.Native.Nat.{ℕ, zero, suc, _+_, _*_, _≤_, _<_}
+use Prim.Native.Nat.{ℕ, zero, suc, _+_, _-_, _*_, _≤_, _<_}
 use native.Mathlib.Nat.{le-refl}
 use native.Mathlib.Omega.{arith}
 use mathlib.Core.Path.{_≡_, refl, sym, ap, ap₂, _∙_}
@@ -29,9 +29,9 @@ use Rattle.layout.proofs.Units.{variant-read}
 use Rattle.layout.proofs.Segments.{variant-steps}
 use Rattle.layout.proofs.Stretches.{segment-steps, segment-bytes}
 use Rattle.search.specs.Answers.{entering}
-use Rattle.search.specs.First.{endsIn, clear, whole, wholeOf, firstIn, hitting, firsting, reach}
+use Rattle.search.specs.First.{endsIn, clear, whole, wholeOf, firstIn, hitting, firstFrom, firsting}
 use Rattle.search.proofs.Entries.{Entered, entering-after, entered, entering-sound}
-use Rattle.search.proofs.Stops.{first, first-is, whole-few, stop-refused}
+use Rattle.search.proofs.Stops.{first-is, first-here, whole-few, whole-short}
 use Rattle.search.proofs.Hits.{hit-ends}
 use Rattle.search.proofs.FirstHits.{ends-clear}
 
@@ -141,52 +141,49 @@ hit-met P st s k e = go (ltb (firstIn P st s) none) refl e
         absurd (ends-clear k (run P st t) (sym (ok-inj none-is)))
 
 -- the bytes open, since else nothing reads whole
-hit-opens : (P : List ℕ) (st : ℕ) (s : List ℕ) → firstIn P st s < none → (n : ℕ) × (openAt s ≡ ok n) × (firstIn P st s ≡ first P st s n 2)
-unfolding firstIn wholeOf marksFrom firstEnd
+hit-opens : (P : List ℕ) (st : ℕ) (s : List ℕ) → firstIn P st s < none → (n : ℕ) × (openAt s ≡ ok n) × (firstIn P st s ≡ firstFrom P st s n 2)
+unfolding firstIn wholeOf firstFrom marksFrom firstEnd
 hit-opens P st s l = go (openAt s) refl
   where
-    go : (o : Outcome ℕ) → openAt s ≡ o → (n : ℕ) × (openAt s ≡ ok n) × (firstIn P st s ≡ first P st s n 2)
+    go : (o : Outcome ℕ) → openAt s ≡ o → (n : ℕ) × (openAt s ≡ ok n) × (firstIn P st s ≡ firstFrom P st s n 2)
     go (ok n) e = (n, e, rw e refl)
     go (refused j p) e = let nowhere : firstIn P st s ≡ none = rw e refl in absurd (let c : ⊥ = omega (arith, l, nowhere) in c)
 
 -- of n segments, the first in which something ends is number k
-module _ (P : List ℕ) (st : ℕ) (s : List ℕ) (n k : ℕ) (small : length s < none) (counted : 2 ≤ length s)
-    (is : first P st s n 2 ≡ k) (low : k < none) where
-  few : k + 1 ≤ n
-  few =
+module _ (P : List ℕ) (st : ℕ) (s : List ℕ) (n k : ℕ) (is : firstFrom P st s n 2 ≡ k) (low : k < none) where
+  inside-whole : k < length (whole (λ _. segmentAt s) n [] 2)
+  unfolding firstFrom
+  inside-whole =
       let all : Text = whole (λ _. segmentAt s) n [] 2 in
       let some : firstEnd (marksFrom P st all) < none = omega (arith, is, low) in
-      omega (arith, is, firstEnd-within (marksFrom P st all) some, marks-length P st all, whole-few (λ _. segmentAt s) n [] 2)
+      omega (arith, is, firstEnd-within (marksFrom P st all) some, marks-length P st all)
+
+  few : k + 1 ≤ n
+  few = omega (arith, inside-whole, whole-few (λ _. segmentAt s) n [] 2)
 
   -- those up to it read whole
   hit-reads : (x : Taken Text ℕ) × (many (λ _. segmentAt s) (k + 1) [] 2 ≡ ok x)
-  unfolding reach
   hit-reads = go (many (λ _. segmentAt s) (k + 1) [] 2) refl
     where
-      last : reach true P st s n 2 ≡ k + 1
-      last = omega (arith, is, few)
-
       go : (o : Outcome (Taken Text ℕ)) → many (λ _. segmentAt s) (k + 1) [] 2 ≡ o
           → (x : Taken Text ℕ) × (many (λ _. segmentAt s) (k + 1) [] 2 ≡ ok x)
       go (ok x) e = (x, e)
       go (refused j p) e =
-          let fault : many (λ _. segmentAt s) (reach true P st s n 2) [] 2 ≡ refused j p = rw last e in
-          let nowhere = stop-refused P st s n 2 small counted j p fault .1 in
-          absurd (let c : ⊥ = omega (arith, is, low, nowhere) in c)
+          let rest : k + 1 + (n - (k + 1)) ≡ n = omega (arith, few) in
+          let short = rw rest at (whole-short (λ _. segmentAt s) (k + 1) (n - (k + 1)) [] 2 j p e) in
+          absurd (let c : ⊥ = omega (arith, short, inside-whole) in c)
 
   -- and it is the first of them
   hit-last : (x : Taken Text ℕ) → many (λ _. segmentAt s) (k + 1) [] 2 ≡ ok x → firstEnd (marksFrom P st (x .value)) ≡ k
   unfolding later
-  hit-last x e = omega (arith, first-is P st s n 2 small counted (k + 1) (x .value) (x .next) e few, is, low)
+  hit-last x e = omega (arith, first-is P st s n 2 (k + 1) (x .value) (x .next) e few, is, low)
 
 -- where the segments up to number k read so, whatever stands after them, the first hit is in number k
-hit-front : (P : List ℕ) (st : ℕ) (z : List ℕ) (n k : ℕ) (x : Taken Text ℕ) → length z < none → 2 ≤ length z → openAt z ≡ ok n → k + 1 ≤ n
-    → k < none → many (λ _. segmentAt z) (k + 1) [] 2 ≡ ok x → firstEnd (marksFrom P st (x .value)) ≡ k
+hit-front : (P : List ℕ) (st : ℕ) (z : List ℕ) (n k : ℕ) (x : Taken Text ℕ) → openAt z ≡ ok n → k + 1 ≤ n → k < none
+    → many (λ _. segmentAt z) (k + 1) [] 2 ≡ ok x → firstEnd (marksFrom P st (x .value)) ≡ k
     → hitting P st z ≡ ok (endsIn k)
-unfolding later
-hit-front P st z n k x small counted opens few low read last =
-    let is : first P st z n 2 ≡ k =
-    omega (arith, first-is P st z n 2 small counted (k + 1) (x .value) (x .next) read few, last, low) in
+hit-front P st z n k x opens few low read last =
+    let is = first-here P st z n 2 (k + 1) (x .value) (x .next) read few k refl last low in
     hit-ends P st z n opens (omega (arith, is, low)) ∙ ap (λ (i : ℕ). ok (endsIn i)) is
 
 -- what a first hit in segment k says: of the pattern, the state and the bytes, and of the n segments that the bytes count
@@ -194,9 +191,8 @@ record Found (P : List ℕ) (Q : List ℕ) (st : ℕ) (s : List ℕ) (k : ℕ) :
   n : ℕ
   entry : Entered P st s
   opens : Opens s n
-  is : first Q st s n 2 ≡ k
+  is : firstFrom Q st s n 2 ≡ k
   low : k < none
-  small : length s < none
 
 found : (P : List ℕ) (strand : Strand) (st : ℕ) (s : List ℕ) (k : ℕ) → firsting P strand st s ≡ ok (endsIn k)
     → Found P (onStrand strand P) st s k
@@ -208,14 +204,14 @@ found P strand st s k e =
     let y = entered P st s asked in
     let (there, low) = hit-met Q st s k hit in
     let (n, opens, is) = hit-opens Q st s (omega (arith, there, low)) in
-    record { n = n; entry = y; opens = open-met s n opens; is = sym is ∙ there; low = low; small = omega (arith, y .short) }
+    record { n = n; entry = y; opens = open-met s n opens; is = sym is ∙ there; low = low }
 
 module _ (P : List ℕ) (strand : Strand) (st : ℕ) (s : List ℕ) (k : ℕ) (e : firsting P strand st s ≡ ok (endsIn k)) where
   -- the segments up to number k read whole, and end inside the bytes
   pub front-read : (x : Taken Text ℕ) × (many (λ _. segmentAt s) (k + 1) [] 2 ≡ ok x) × (x .next ≤ length s)
   front-read =
       let f = found P strand st s k e in
-      let (x, read) = hit-reads (onStrand strand P) st s (f .n) k (f .small) (f .opens .counted) (f .is) (f .low) in
+      let (x, read) = hit-reads (onStrand strand P) st s (f .n) k (f .is) (f .low) in
       (x, read, segments-inside s (k + 1) 2 x (f .opens .counted) read)
 
   -- bytes that begin with the same ones up to there have the same first hit
@@ -230,9 +226,8 @@ module _ (P : List ℕ) (strand : Strand) (st : ℕ) (s : List ℕ) (k : ℕ) (e
       let from = segments-onward s (k + 1) 2 x read in
       let counted : 2 ≤ length z = omega (arith, from, within s z (x .next) same inside) in
       let count : openAt z ≡ ok (f .n) =
-      open-counts z short counted ∙ ap ok (word-alike s z (x .next) same inside 0 from ∙ sym (o .count)) in
+      open-counts z counted ∙ ap ok (word-alike s z (x .next) same inside 0 from ∙ sym (o .count)) in
       let all = segments-alike s z (x .next) same inside (k + 1) 2 x read (le-refl (x .next)) in
-      let small : length z < none = omega (arith, short) in
       entering-sound P st z (record { sound = f .entry .sound; short = short; state = f .entry .state }) (hitting Q st z)
-      ∙ hit-front Q st z (f .n) k x small counted count (few Q st s (f .n) k (f .small) (o .counted) (f .is) (f .low)) (f .low) all
-      (hit-last Q st s (f .n) k (f .small) (o .counted) (f .is) (f .low) x read)
+      ∙ hit-front Q st z (f .n) k x count (few Q st s (f .n) k (f .is) (f .low)) (f .low) all
+      (hit-last Q st s (f .n) k (f .is) (f .low) x read)

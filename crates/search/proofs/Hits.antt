@@ -1,144 +1,135 @@
--- The first hit of a stretch, from what a run tells of its segments; and what a run over a whole stretch says, whether it stops or not.
-use Prim.Native.Nat.{ℕ, _+_, _-_, _<_, _≤_}
+-- The first hit of a stretch, from what a run tells of its segments; and what a run over the segments of a walk says, whether it stops or
+-- not.
+use Prim.Native.Nat.{ℕ, _+_, _-_, _/_, _<_, _≤_, min}
 use native.Mathlib.Omega.{arith}
 use mathlib.Core.Path.{_≡_, refl, sym, ap, _∙_}
-use mathlib.Core.Bool.{Bool, true, false, _&&_, not, cond, false≢true}
-use mathlib.Core.List.{List, []}
-use borrow.Author.Tests.{lt-ltb, eqb-true, eqb-false, eq-eqb, ne-eqb, not-true, not-false}
-use lib.Dec.{eqb, ltb}
+use mathlib.Core.Logic.{_⊎_, inl, inr}
+use mathlib.Core.Bool.{Bool, true, false, false≢true}
+use mathlib.Core.List.{List}
+use borrow.Author.Tests.{lt-ltb, ne-eqb}
+use lib.Dec.{eqb}
 use lib.ListN.{length}
-use Rattle.text.specs.Text.{Text, total}
+use Rattle.text.specs.Text.{Text, size}
 use Rattle.text.specs.State.{run, marksFrom}
 use Rattle.text.specs.Card.{none, firstEnd}
-use Rattle.text.specs.Refusal.{Outcome, ok, refused, after}
+use Rattle.text.specs.Refusal.{Outcome, ok, refused, after, toldVerdict}
 use Rattle.text.specs.declared.refusal.Refusal.{Refusal}
 use Rattle.text.specs.Strand.{onStrand}
 use Rattle.text.specs.declared.strand.Strand.{Strand}
-use Rattle.text.proofs.Truth.{and-left, and-right}
+use Rattle.layout.specs.Bytes.{greatestStretch}
 use Rattle.layout.specs.Pieces.{openAt}
-use Rattle.layout.specs.Reading.{segmentAt, many, stretchOf}
-use Rattle.search.specs.Answers.{MarksOf, Seen, seenFrom, toldSought, entering}
-use Rattle.search.specs.First.{Hit, endsIn, clear, whole, wholeOf, firstIn, hitting, firsting, toldHit, Few, reach, manyTo}
+use Rattle.layout.specs.Reading.{segmentAt, segmentsOf, wholeStretch}
+use Rattle.layout.specs.Walk.{endAt}
+use Rattle.text.specs.declared.verdict.Verdict.{Verdict}
+use Rattle.text.specs.declared.verdict.Verdict.the-variants.{Sound}
+use Rattle.layout.specs.declared.walk.Walk.{Walk}
+use Rattle.layout.proofs.Frames.{stretch-is}
+use Rattle.layout.proofs.Going.{Opening, going-length, going-refused, going-not, going-sound}
+use Rattle.search.specs.Answers.{MarksOf, seenFrom, toldSought, entering}
+use Rattle.search.specs.First.{Hit, endsIn, clear, wholeOf, firstIn, hitting, firstFrom, hittingFrom, firsting, toldHit, Few}
+use Rattle.search.specs.Step.{segmentPass}
 use Rattle.search.specs.declared.state.Sought.{Sought}
 use Rattle.search.specs.declared.state.State.{State}
 use Rattle.search.proofs.Entries.{Entered, entering-refused, entering-sound}
-use Rattle.search.proofs.Markings.{marks-not}
-use Rattle.search.proofs.Searches.{told-not, told-seen}
-use Rattle.search.proofs.Stops.{first, ones-few, stop-refused, stop-clear, stop-ends}
+use Rattle.search.proofs.Passes.{segment-not}
+use Rattle.search.proofs.Markings.{marks-not, marking-marks}
+use Rattle.search.proofs.Searches.{Searching}
+use Rattle.search.proofs.Stops.{hit-nowhere}
 
 module _ (P : List ℕ) (st : ℕ) (s : List ℕ) where
-  -- what is answered where nothing ends
-  abbrev pub unhit : Outcome Hit
-  unhit = after (stretchOf s) (λ t. ok (clear (run P st t)))
-
-  hit-none : firstIn P st s ≡ none → hitting P st s ≡ unhit
-  unfolding hitting
-  hit-none e = rw e refl
-
   -- a stretch that does not open
-  pub hit-closed : (j p : ℕ) → openAt s ≡ refused j p → hitting P st s ≡ unhit
-  unfolding firstIn wholeOf marksFrom firstEnd
-  hit-closed j p e = hit-none (rw e refl)
+  pub hit-closed : length s ≤ greatestStretch → (j p : ℕ) → openAt s ≡ refused j p → hitting P st s ≡ refused j p
+  unfolding hitting firstIn wholeOf marksFrom firstEnd wholeStretch
+  hit-closed short j p e = rw (e, stretch-is s short) (rw e refl)
 
   module _ (n : ℕ) (opens : openAt s ≡ ok n) where
-    first-in : firstIn P st s ≡ first P st s n 2
-    unfolding firstIn wholeOf
+    first-in : firstIn P st s ≡ firstFrom P st s n 2
+    unfolding firstIn wholeOf firstFrom
     first-in = rw opens refl
 
-    -- no end among those that read whole
-    pub hit-not : first P st s n 2 ≡ none → hitting P st s ≡ unhit
-    hit-not e = hit-none (first-in ∙ e)
+    -- the first hit of a stretch is that of its segments
+    pub hit-from : length s ≤ greatestStretch → hitting P st s ≡ hittingFrom P st s n 2
+    unfolding hitting hittingFrom wholeStretch
+    hit-from short = rw (first-in, stretch-is s short) (rw opens refl)
 
     -- the first end
-    pub hit-ends : first P st s n 2 < none → hitting P st s ≡ ok (endsIn (first P st s n 2))
+    pub hit-ends : firstFrom P st s n 2 < none → hitting P st s ≡ ok (endsIn (firstFrom P st s n 2))
     unfolding hitting
-    hit-ends l = rw (first-in, lt-ltb (first P st s n 2) none l) refl
+    hit-ends l = rw (first-in, lt-ltb (firstFrom P st s n 2) none l) refl
 
--- what a run over n segments from `from` on says of all of them, whether it stops or not
-module _ (stop : Bool) (P : List ℕ) (st : ℕ) (s : List ℕ) (n from : ℕ) (small : length s < none) (within : from ≤ length s) where
-  pub run-refused : (j p : ℕ) → manyTo stop P st s n from ≡ refused j p
-      → (many (λ _. segmentAt s) n [] from ≡ refused j p) × (stop ≡ true → first P st s n from ≡ none)
-  unfolding reach
-  run-refused j p e = go stop e
-    where
-      go : (b : Bool) → manyTo b P st s n from ≡ refused j p
-          → (many (λ _. segmentAt s) n [] from ≡ refused j p) × (b ≡ true → first P st s n from ≡ none)
-      go true h = let all = stop-refused P st s n from small within j p h in (all .0, λ _. all .1)
-      go false h = (h, λ q. absurd (false≢true q))
+-- and that of the walk over it
+pub hit-walk : (P : List ℕ) (st : ℕ) (s : List ℕ) {w : Walk} → Opening s w → length s ≤ greatestStretch
+    → hitting P st s ≡ hittingFrom P st s (w .count) (w .at)
+hit-walk P st s {w} z short = hit-from P st s (w .count) (z .opens) short ∙ ap (hittingFrom P st s (w .count)) (sym (z .first))
 
-  module _ (t : Text) (at : ℕ) (e : manyTo stop P st s n from ≡ ok (record { value = t; next = at }))
-      (ones : ℕ) (is : ones ≡ total (λ x. x) (marksFrom P st t)) where
-    pub run-clear : (stop && not (eqb ones 0)) ≡ false
-        → (many (λ _. segmentAt s) n [] from ≡ ok (record { value = t; next = at })) × (stop ≡ true
-        → (first P st s n from ≡ none) × (ones ≡ 0))
-    unfolding reach
-    run-clear h = go stop e h
-      where
-        go : (b : Bool) → manyTo b P st s n from ≡ ok (record { value = t; next = at }) → (b && not (eqb ones 0)) ≡ false
-            → (many (λ _. segmentAt s) n [] from ≡ ok (record { value = t; next = at }))
-            × (b ≡ true → (first P st s n from ≡ none) × (ones ≡ 0))
-        go true h q =
-            let zero = eqb-true ones 0 (not-false (eqb ones 0) q) in
-            let all = stop-clear P st s n from small within t at h (sym is ∙ zero) in
-            (all .0, λ _. (all .1, zero))
-        go false h q = (h, λ w. absurd (false≢true w))
+-- what a run over n segments from `from` on promises of its answer and of the marks
+abbrev pub Says : Bool → List ℕ → ℕ → List ℕ → ℕ → ℕ → Sought → List ℕ → Type 0
+Says stop P st s n from r buffer =
+    (stop ≡ true → (toldHit r ≡ hittingFrom P st s n from) × Few r)
+    × ((stop ≡ false → toldSought r ≡ after (segmentsOf s n from) (λ t. ok (seenFrom P st t)))
+    × (stop ≡ false → MarksOf (marksFrom P st) (segmentsOf s n from) buffer))
 
-    pub run-stopped : (stop && not (eqb ones 0)) ≡ true
-        → (stop ≡ true) × (ones ≡ 0 → ⊥) × (first P st s n from + 1 ≡ length t) × (first P st s n from < none)
-    run-stopped h =
-        let stops = and-left stop (not (eqb ones 0)) h in
-        let some = eqb-false ones 0 (not-true (eqb ones 0) (and-right stop (not (eqb ones 0)) h)) in
-        let all = stop-ends P st s n from small within t at (ap (λ (b : Bool). manyTo b P st s n from) (sym stops) ∙ e)
-        (λ z. some (is ∙ z)) in
-        (stops, some, all .0, all .1)
+-- the run stands in its walk
+module _ {stop : Bool} {P : List ℕ} {st : ℕ} {s : List ℕ} {n from : ℕ} {buffer : List ℕ} {w : Walk} {ones bits : ℕ}
+    (q : Searching stop P st s n from buffer w ones bits) (most : min n ((length s - from) / 3) ≤ none) where
+  -- where it goes no further, and has met no end, it tells what is told of all
+  nowhere : (w .passed ≡ n) ⊎ ((j : ℕ) × (p : ℕ) × (segmentAt s (w .at) ≡ refused j p)) → stop ≡ true
+      → hittingFrom P st s n from ≡ after (segmentsOf s n from) (λ t. ok (clear (run P st t)))
+  nowhere last stops =
+      let go = q .walk .go in
+      hit-nowhere P st s n from (w .passed) (q .seen) (w .at) (go .sum .walk) (go .few) last
+      (omega (arith, most, go .far, go .sum .inside, go .few)) (sym (q .walk .ones) ∙ q .clear stops)
 
--- what a run over a whole stretch promises of its answer and of the marks
-abbrev pub Says : Bool → List ℕ → ℕ → List ℕ → Sought → List ℕ → Type 0
-Says stop P st s r buffer =
-    (stop ≡ true → (toldHit r ≡ hitting P st s) × Few r)
-    × (stop ≡ false → toldSought r ≡ after (stretchOf s) (λ t. ok (seenFrom P st t)))
-    × (stop ≡ false → MarksOf (marksFrom P st) (stretchOf s) buffer)
-
-module _ (stop : Bool) (P : List ℕ) (st : ℕ) (s buffer : List ℕ) where
-  pub says-refused : (w : Refusal) → stretchOf s ≡ refused (w .number) (w .place) → (stop ≡ true → hitting P st s ≡ unhit P st s)
-      → Says stop P st s (Sought.Refused w) buffer
-  says-refused w e clears = (
-    λ stops. (sym (clears stops ∙ ap (λ (o : Outcome Text). after o (λ t. ok (clear (run P st t)))) e), tt),
-    λ _. sym (told-not P st (stretchOf s) _ _ e),
-    λ _. marks-not (marksFrom P st) (stretchOf s) _ _ buffer e,
+  refuses : (w .passed ≡ n) ⊎ ((j : ℕ) × (p : ℕ) × (segmentAt s (w .at) ≡ refused j p)) → (f : Refusal)
+      → segmentsOf s n from ≡ refused (f .number) (f .place) → Says stop P st s n from (Sought.Refused f) buffer
+  refuses last f e = (
+    λ stops. (sym (nowhere last stops ∙ ap (λ (o : Outcome Text). after o (λ t. ok (clear (run P st t)))) e), tt),
+    (λ _. sym (ap (λ (o : Outcome Text). after o (λ t. ok (seenFrom P st t))) e), λ _. marks-not (marksFrom P st) _ _ _ buffer e),
   )
 
-  module _ (t : Text) (read size ones : ℕ) (reached : State)
-      (is : record { segments = read; size = size; ends = ones; state = reached .bits } ≡ seenFrom P st t) where
-    -- where it came to the end
-    pub says-sound : stretchOf s ≡ ok t → (stop ≡ true → (hitting P st s ≡ unhit P st s) × (ones ≡ 0))
-        → (stop ≡ false → MarksOf (marksFrom P st) (stretchOf s) buffer)
-        → Says stop P st s (Sought.Marked read size ones reached) buffer
-    unfolding seenFrom
-    says-sound e clears marks = (
-      λ stops.
-          let c = clears stops in
-          let state : reached .bits ≡ run P st t = ap (λ (x : Seen). x .state) is in
-          let hit : hitting P st s ≡ ok (clear (reached .bits)) =
-          c .0 ∙ ap (λ (o : Outcome Text). after o (λ t. ok (clear (run P st t)))) e ∙ ap (λ (b : ℕ). ok (clear b)) (sym state) in
-          (rw (c .1) (sym hit), omega (arith, c .1)),
-      λ _. sym (ap (λ (o : Outcome Text). after o (λ t. ok (seenFrom P st t))) e ∙ ap ok (sym is)),
-      marks,
-    )
+  -- the next segment is refused
+  pub says-refused : w .passed < n → (f : Refusal) → segmentPass P bits s (w .at) ≡ refused (f .number) (f .place)
+      → Says stop P st s n from (Sought.Refused f) buffer
+  says-refused l f e =
+      let wrong = segment-not P bits s (w .at) _ _ e in
+      refuses (inr (f .number, f .place, wrong)) f (going-refused (q .walk .go) l wrong)
 
-    -- where it stopped
-    pub says-stopped : stop ≡ true → (ones ≡ 0 → ⊥) → (k : ℕ) → hitting P st s ≡ ok (endsIn k) → k + 1 ≡ length t
-        → Says stop P st s (Sought.Marked read size ones reached) buffer
-    unfolding seenFrom
-    says-stopped stops some k hit last =
-        let long : read ≡ length t = ap (λ (x : Seen). x .segments) is in
-        let count : ones ≡ total (λ x. x) (marksFrom P st t) = ap (λ (x : Seen). x .ends) is in
-        let there : eqb ones 0 ≡ false = ne-eqb ones 0 some in
-        let place : read - 1 ≡ k = omega arith in (
-          λ _. (rw (there, place) (sym hit), omega (arith, long, count, ones-few P st t)),
-          λ kept. absurd (false≢true (sym kept ∙ stops)),
-          λ kept. absurd (false≢true (sym kept ∙ stops)),
+  -- after the last
+  all : n ≤ w .passed → w .passed ≡ n
+  all done = omega (arith, done, q .walk .go .few)
+
+  module _ (done : n ≤ w .passed) {v : Verdict} (told : toldVerdict v ≡ endAt s w) where
+    pub says-left : (f : Refusal) → v ≡ Verdict.Refused f → Says stop P st s n from (Sought.Refused f) buffer
+    says-left f is = refuses (inl (all done)) f (going-not (q .walk .go) done told is)
+
+    pub says-sound : v ≡ Sound → (reached : State) → reached .bits ≡ bits
+        → Says stop P st s n from (Sought.Marked (w .passed) (w .size) ones reached) buffer
+    unfolding seenFrom size
+    says-sound is reached same =
+        let e = going-sound (q .walk .go) done told is in
+        let state : reached .bits ≡ run P st (q .seen) = same ∙ q .state in (
+          λ stops.
+              let zero = q .clear stops in
+              let hit : hittingFrom P st s n from ≡ ok (clear (reached .bits)) =
+              nowhere (inl (all done)) stops ∙ ap (λ (o : Outcome Text). after o (λ t. ok (clear (run P st t)))) e
+              ∙ ap (λ (b : ℕ). ok (clear b)) (sym state) in
+              (rw zero (sym hit), q .walk .few),
+          (
+            λ _. rw (e, going-length (q .walk .go), ← q .walk .go .sum .sum, ← q .walk .ones, ← state) refl,
+            marking-marks (q .walk) _ e,
+          ),
         )
+
+-- it stopped at an end in segment k
+pub says-stopped : (stop : Bool) (P : List ℕ) (st : ℕ) (s : List ℕ) (n from : ℕ) (buffer : List ℕ) (k segments size ones : ℕ) (reached : State)
+    → stop ≡ true → 0 < ones → ones ≤ segments → hittingFrom P st s n from ≡ ok (endsIn k) → segments ≡ k + 1
+    → Says stop P st s n from (Sought.Marked segments size ones reached) buffer
+says-stopped stop P st s n from buffer k segments size ones reached stops some few hit count =
+    let there : eqb ones 0 ≡ false = ne-eqb ones 0 (λ z. let c : ⊥ = omega (arith, some, z) in c) in
+    let place : segments - 1 ≡ k = omega arith in (
+      λ _. (rw (there, place) (sym hit), few),
+      (λ kept. absurd (false≢true (sym kept ∙ stops)), λ kept. absurd (false≢true (sym kept ∙ stops))),
+    )
 
 -- what a run that came to the end, or stopped, tells of the first hit
 module _ {r : Sought} (n size ones : ℕ) (reached : State) (is : r ≡ Sought.Marked n size ones reached) where

@@ -5,12 +5,11 @@ use mathlib.Core.Path.{_≡_, sym, ap, subst, _∙_}
 use mathlib.Core.Bool.{true}
 use mathlib.Core.List.{List}
 use lib.ListN.{length, take, length-take}
+use Rattle.text.specs.Refusal.{SoundPattern}
 use Rattle.text.specs.State.{isState}
 use Rattle.text.specs.Strand.{onStrand, readOn}
 use Rattle.text.specs.declared.strand.Strand.{Strand}
-use Rattle.text.proofs.Patterns.{SoundPattern}
 use Rattle.text.proofs.Strands.{strand-sound, part-read, part-length}
-use Rattle.search.specs.Border.{Sized}
 use Rattle.search.specs.Masks.{StateOf}
 use Rattle.search.proofs.Entries.{state-of}
 
@@ -27,7 +26,7 @@ module _ (strand : Strand) (P bytes : List ℕ) (e : bytes ≡ readOn strand P) 
   pub read-sound : SoundPattern (take (length P) bytes)
   read-sound = subst SoundPattern (sym read-is) (strand-sound strand P y)
 
-  pub read-sized : Sized (take (length P) bytes)
+  pub read-sized : SoundPattern (take (length P) bytes)
   read-sized = record { some = read-sound .some; short = read-sound .short; bases = read-sound .bases }
 
   -- a state of the one is a state of the other

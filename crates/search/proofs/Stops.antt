@@ -2,11 +2,11 @@
 use Prim.Native.Nat.{ℕ, zero, suc, _+_, _-_, _≤_, _<_, min}
 use native.Mathlib.Nat.{zero-add, suc-add}
 use native.Mathlib.Omega.{arith}
-use mathlib.Core.Path.{_≡_, refl, sym, ap, ap₂, _∙_}
-use native.Mathlib.Decide.{decLt}
-use mathlib.Core.Logic.{_⊎_, inl, inr, ⊎-elim, by-cases}
-use mathlib.Core.Bool.{Bool, true, false, cond, false≢true}
+use mathlib.Core.Path.{_≡_, refl, sym, ap, _∙_}
+use mathlib.Core.Logic.{_⊎_, inl, inr, ⊎-elim}
+use mathlib.Core.Bool.{Bool, true, false, cond}
 use mathlib.Core.List.{List, [], _∷_, _++_, append-assoc, append-nil}
+use borrow.Author.Tests.{lt-ltb}
 use lib.Dec.{eqb}
 use lib.ListN.{length, length-append}
 use Rattle.text.specs.Text.{Segment, Text, total}
@@ -14,13 +14,13 @@ use Rattle.text.specs.State.{next, ends, run, marksFrom}
 use Rattle.text.specs.Card.{none, later, firstEnd}
 use Rattle.text.specs.Refusal.{Outcome, ok, refused, after}
 use Rattle.text.proofs.Outcomes.{ok-inj, refused-ok, after-met}
-use Rattle.text.proofs.Ends.{firstEnd-append, firstEnd-le, firstEnd-within}
+use Rattle.text.proofs.Ends.{firstEnd-append}
 use Rattle.text.proofs.Marks.{marks-append, marks-length}
 use Rattle.text.proofs.Sizes.{total-each}
-use Rattle.layout.specs.Reading.{Taken, segmentAt, many}
-use Rattle.layout.proofs.Walks.{Step, many-add, many-steps, walk-length}
+use Rattle.layout.specs.Reading.{Taken, segmentAt, many, segmentsOf}
+use Rattle.layout.proofs.Walks.{Step, many-steps, walk-length}
 use Rattle.layout.proofs.Stretches.{segment-steps, segment-bytes}
-use Rattle.search.specs.First.{unless, whole, reach}
+use Rattle.search.specs.First.{unless, whole, endsIn, clear, firstFrom, hittingFrom}
 
 module _ {A B : Type 0} (f : List A → B → Outcome (Taken A B)) where
   -- what was read is in front of what reads whole
@@ -128,12 +128,8 @@ walk-few s from k seen at l w =
     three : (seen : List Segment) (at : ℕ) (x : Taken Segment ℕ) → segmentAt s at ≡ ok x → Step (λ g. 3) (length s) at x
     three seen at x e = record { counts = omega (arith, segment-bytes s at x e); inside = segment-steps s seen at x e .inside }
 
--- the first end among those of n segments from `from` on that read whole
-abbrev pub first : List ℕ → ℕ → List ℕ → ℕ → ℕ → ℕ
-first P st s n from = firstEnd (marksFrom P st (whole (λ _. segmentAt s) n [] from))
-
--- of n segments that stand from `from` on, in bytes that are fewer than "none"
-module _ (P : List ℕ) (st : ℕ) (s : List ℕ) (n from : ℕ) (small : length s < none) (within : from ≤ length s) where
+-- of n segments that stand from `from` on
+module _ (P : List ℕ) (st : ℕ) (s : List ℕ) (n from : ℕ) where
   -- k of them have been read, those seen
   module _ (k : ℕ) (seen : Text) (at : ℕ) (w : many (λ _. segmentAt s) k [] from ≡ ok (record { value = seen; next = at }))
       (l : k ≤ n) where
@@ -148,7 +144,9 @@ module _ (P : List ℕ) (st : ℕ) (s : List ℕ) (n from : ℕ) (small : length
         )
 
     -- the first end is theirs, or comes later
-    pub first-is : first P st s n from ≡ min (firstEnd (marksFrom P st seen)) (later k (firstEnd (marksFrom P (run P st seen) (behind .0))))
+    pub first-is : firstFrom P st s n from
+        ≡ min (firstEnd (marksFrom P st seen)) (later k (firstEnd (marksFrom P (run P st seen) (behind .0))))
+    unfolding firstFrom
     first-is =
         ap (λ (T : Text). firstEnd (marksFrom P st T)) (behind .1)
         ∙ ap firstEnd (marks-append P st seen (behind .0))
@@ -156,95 +154,45 @@ module _ (P : List ℕ) (st : ℕ) (s : List ℕ) (n from : ℕ) (small : length
         ∙ ap (λ (i : ℕ). min (firstEnd (marksFrom P st seen)) (later i (firstEnd (marksFrom P (run P st seen) (behind .0)))))
         (marks-length P st seen ∙ walk-length (λ _. segmentAt s) from k seen at w)
 
-    -- while nothing has ended, a run that stops goes on
-    module _ (stop : Bool) (clear : stop ≡ true → total (λ x. x) (marksFrom P st seen) ≡ 0) where
-      -- the first end is not among them
-      pub not-yet : stop ≡ true → k ≤ first P st s n from
-      unfolding later
-      not-yet stops =
-          let long = walk-length (λ _. segmentAt s) from k seen at w in
-          let few = walk-few s from k seen at within w in
-          let unmarked = no-ones P st seen (omega (arith, long, few)) (clear stops) in
-          omega (arith, first-is, unmarked, few)
+    -- where the last of them is the first that ends, it is the first hit
+    pub first-here : (j : ℕ) → k ≡ j + 1 → firstEnd (marksFrom P st seen) ≡ j → j < none → firstFrom P st s n from ≡ j
+    unfolding later
+    first-here j last ended low = omega (arith, first-is, last, ended, low)
 
-      pub reach-more : k < n → k < reach stop P st s n from
-      unfolding reach
-      reach-more more = go stop refl
+    pub hit-here : (j : ℕ) → k ≡ j + 1 → firstEnd (marksFrom P st seen) ≡ j → j < none → hittingFrom P st s n from ≡ ok (endsIn j)
+    unfolding hittingFrom
+    hit-here j last ended low = let is = first-here j last ended low in rw (is, lt-ltb j none low) refl
+
+    -- where no more read whole, and nothing ends in them, there is no end
+    module _ (none-more : (k ≡ n) ⊎ ((j : ℕ) × (p : ℕ) × (segmentAt s at ≡ refused j p))) (few : k ≤ none)
+        (zeros : total (λ x. x) (marksFrom P st seen) ≡ 0) where
+      pub all-whole : whole (λ _. segmentAt s) n [] from ≡ seen
+      unfolding whole
+      all-whole =
+          let all : k + (n - k) ≡ n = omega arith in
+          ap (λ (i : ℕ). whole (λ _. segmentAt s) i [] from) (sym all)
+          ∙ whole-walk (λ _. segmentAt s) k (n - k) [] from (record { value = seen; next = at }) w
+          ∙ ⊎-elim done fault none-more
         where
-          go : (b : Bool) → stop ≡ b → k < cond b (min n (first P st s n from + 1)) n
-          go true is = omega (arith, not-yet is)
-          go false is = more
+          done : k ≡ n → whole (λ _. segmentAt s) (n - k) seen at ≡ seen
+          done e = let zero : n - k ≡ 0 = omega arith in rw zero refl
 
-      pub reach-all : k ≡ n → k ≡ reach stop P st s n from
-      unfolding reach
-      reach-all all = go stop refl
-        where
-          go : (b : Bool) → stop ≡ b → k ≡ cond b (min n (first P st s n from + 1)) n
-          go true is = omega (arith, not-yet is)
-          go false is = all
+          fault : (j : ℕ) × (p : ℕ) × (segmentAt s at ≡ refused j p) → whole (λ _. segmentAt s) (n - k) seen at ≡ seen
+          fault (j, p, wrong) = stays (n - k)
+            where
+              stays : (m : ℕ) → whole (λ _. segmentAt s) m seen at ≡ seen
+              stays zero = refl
+              stays (suc m) = rw wrong refl
 
-    -- where the last of them is the first that ends, the run stops after it
-    pub reach-stopped : firstEnd (marksFrom P st seen) + 1 ≡ k → k ≡ reach true P st s n from
-    unfolding reach later
-    reach-stopped last = omega (arith, first-is, walk-few s from k seen at within w)
+      pub first-none : firstFrom P st s n from ≡ none
+      unfolding firstFrom
+      first-none =
+          ap (λ (T : Text). firstEnd (marksFrom P st T)) all-whole
+          ∙ no-ones P st seen (omega (arith, few, walk-length (λ _. segmentAt s) from k seen at w)) zeros
 
--- what a run that stops has read tells of all of them
-module _ (P : List ℕ) (st : ℕ) (s : List ℕ) (n from : ℕ) (small : length s < none) (within : from ≤ length s) where
-  reach-is : reach true P st s n from ≡ min n (first P st s n from + 1)
-  unfolding reach
-  reach-is = refl
-
-  -- an end is one of those that read whole
-  end-few : first P st s n from < none → first P st s n from < length (whole (λ _. segmentAt s) n [] from)
-  end-few l =
-      omega (
-        arith,
-        firstEnd-within (marksFrom P st (whole (λ _. segmentAt s) n [] from)) l,
-        marks-length P st
-            (whole (λ _. segmentAt s) n [] from),
-      )
-
-  -- a fault: nothing ends before it
-  pub stop-refused : (j p : ℕ) → many (λ _. segmentAt s) (reach true P st s n from) [] from ≡ refused j p
-      → (many (λ _. segmentAt s) n [] from ≡ refused j p) × (first P st s n from ≡ none)
-  stop-refused j p e =
-      let k = reach true P st s n from in
-      let rest : k + (n - k) ≡ n = omega (arith, reach-is) in
-      let short = rw rest at (whole-short (λ _. segmentAt s) k (n - k) [] from j p e) in
-      by-cases (decLt (first P st s n from) none)
-      (λ (l : first P st s n from < none). absurd (let z : ⊥ = omega (arith, reach-is, short, end-few l) in z))
-      (λ (l : ¬ (first P st s n from < none)).
-      let none-is : first P st s n from ≡ none = omega (arith, firstEnd-le (marksFrom P st (whole (λ _. segmentAt s) n [] from))) in
-      (ap (λ (i : ℕ). many (λ _. segmentAt s) i [] from) (sym rest) ∙ many-add (λ _. segmentAt s) k (n - k) [] from ∙ rw e refl, none-is))
-
-  module _ (t : Text) (at : ℕ)
-      (e : many (λ _. segmentAt s) (reach true P st s n from) [] from ≡ ok (record { value = t; next = at })) where
-    inside : reach true P st s n from ≤ n
-    inside = omega (arith, reach-is)
-
-    long : length t ≡ reach true P st s n from
-    long = walk-length (λ _. segmentAt s) from (reach true P st s n from) t at e
-
-    -- nothing ends: all of them were read
-    pub stop-clear : total (λ x. x) (marksFrom P st t) ≡ 0
-        → (many (λ _. segmentAt s) n [] from ≡ ok (record { value = t; next = at })) × (first P st s n from ≡ none)
-    stop-clear zeros =
-        let far = not-yet P st s n from small within (reach true P st s n from) t at e inside true (λ _. zeros) refl in
-        let all : reach true P st s n from ≡ n = omega (arith, reach-is, far) in
-        let most = whole-few (λ _. segmentAt s) n [] from in
-        by-cases (decLt (first P st s n from) none)
-        (λ (l : first P st s n from < none). absurd (let z : ⊥ = omega (arith, all, far, most, end-few l) in z))
-        (λ (l : ¬ (first P st s n from < none)).
-        let none-is : first P st s n from ≡ none = omega (arith, firstEnd-le (marksFrom P st (whole (λ _. segmentAt s) n [] from))) in
-        (rw all at e, none-is))
-
-    -- something ends: the last that was read is the first that ends
-    pub stop-ends : ¬ (total (λ x. x) (marksFrom P st t) ≡ 0) → (first P st s n from + 1 ≡ length t) × (first P st s n from < none)
-    stop-ends some =
-        let few = walk-few s from (reach true P st s n from) t at within e in
-        let own = some-ones P st t (omega (arith, long, few)) some in
-        let is = first-is P st s n from small within (reach true P st s n from) t at e inside in
-        (omega (arith, own, is, long, reach-is), omega (arith, own, is, long, few))
+      pub hit-nowhere : hittingFrom P st s n from ≡ after (segmentsOf s n from) (λ t. ok (clear (run P st t)))
+      unfolding hittingFrom
+      hit-nowhere = rw first-none refl
 
 -- a one after marks that have none
 pub first-last : (marks : List ℕ) (k : ℕ) → firstEnd marks ≡ none → length marks ≡ k → k < none → firstEnd (marks ++ (1 ∷ [])) ≡ k

@@ -12,11 +12,10 @@ use Rattle.text.specs.Text.{Segment, Text, total}
 use Rattle.text.specs.Occurrence.{EndsIn, CarriedOut}
 use Rattle.text.specs.Bits.{bit}
 use Rattle.text.specs.State.{isState, fresh, ends, run, marksFrom, marks}
-use Rattle.text.specs.Refusal.{Outcome, ok, refused, after}
+use Rattle.text.specs.Refusal.{Outcome, ok, refused, after, SoundPattern}
 use Rattle.text.specs.Strand.{opposite, onStrand}
 use Rattle.text.specs.declared.strand.Strand.{Strand}
 use Rattle.text.specs.declared.strand.Strand.the-variants.{Given, Opposite}
-use Rattle.text.proofs.Patterns.{SoundPattern}
 use Rattle.text.proofs.Strands.{opposite-length, strand-length, strand-sound}
 use Rattle.text.proofs.Outcomes.{ok-inj}
 use Rattle.text.proofs.Marks.{marks-length}
@@ -25,8 +24,8 @@ use Rattle.layout.specs.Bytes.{greatestStretch, over}
 use Rattle.layout.specs.Pieces.{mostInStretch}
 use Rattle.layout.specs.Bytes.{leftBy}
 use Rattle.layout.specs.Reading.{Taken, many, segmentAt, stretchOf}
-use Rattle.search.specs.Answers.{Next, sumsOf, searching, seeking, Seen, seenFrom, toldSearched}
-use Rattle.search.specs.Either.{eitherMarks, eitherSums, eitherFrom, seekingBoth, SeenBoth, seenBoth}
+use Rattle.search.specs.Answers.{Next, sumsOf, searching, seeking, seenFrom, toldSearched}
+use Rattle.search.specs.Either.{eitherMarks, eitherSums, eitherFrom, seekingBoth, seenBoth}
 use Rattle.search.specs.First.{endsIn, clear, firsting}
 use Rattle.search.specs.Chain.{segmentsText, feeds, markOf, stretchesText, Trail, seeks, asks}
 use Rattle.search.specs.declared.searching.Searched.{Searched}

@@ -1,14 +1,11 @@
--- Answers that are told alike are the same answer, and what they say in numbers is what they tell.
-use Prim.Native.Nat.{ℕ}
+-- Answers that are told alike are the same answer.
 use mathlib.Core.Path.{_≡_, sym, ap, ap₂}
-use Rattle.text.specs.Refusal.{Outcome, ok, refused, after, answer}
+use Rattle.text.specs.Refusal.{Outcome, refused}
 use Rattle.text.specs.declared.refusal.Refusal.{Refusal}
 use Rattle.text.proofs.Outcomes.{refused-ok, refused-inj, ok-inj}
-use Rattle.search.specs.Answers.{Next, zeroNext, toldFed, answerFed, Seen, zeroSeen, toldSought, answerSought}
-use Rattle.search.specs.Answers.{Sums, zeroSums, toldSearched, answerSearched}
-use Rattle.search.specs.Either.{SeenBoth, toldBoth, zeroBoth, answerBoth}
-use Rattle.search.specs.First.{Hit, toldFirst, answerFirst, stopOf, zeroStop}
-use Rattle.search.specs.declared.first.First.{First}
+use Rattle.search.specs.Answers.{Next, toldFed, Seen, toldSought}
+use Rattle.search.specs.Answers.{Sums, toldSearched}
+use Rattle.search.specs.Either.{SeenBoth, toldBoth}
 use Rattle.search.specs.declared.state.Fed.{Fed}
 use Rattle.search.specs.declared.state.Sought.{Sought}
 use Rattle.search.specs.declared.both.SoughtBoth.{SoughtBoth}
@@ -25,11 +22,6 @@ fed-once (Fed.Next s t) (Fed.Refused r) e = absurd (refused-ok (r .number) (r .p
 fed-once (Fed.Refused r) (Fed.Next s t) e = absurd (refused-ok (r .number) (r .place) _ e)
 fed-once (Fed.Refused r) (Fed.Refused s) e = ap Fed.Refused (same-refusal r s e)
 
-pub fed-both : (r : Fed) {o : Outcome Next} → toldFed r ≡ o → (toldFed r ≡ o) × (answerFed r ≡ answer zeroNext o)
-unfolding answerFed
-fed-both (Fed.Next s t) e = (e, ap (answer zeroNext) e)
-fed-both (Fed.Refused r) e = (e, ap (answer zeroNext) e)
-
 pub sought-once : (a b : Sought) → toldSought a ≡ toldSought b → a ≡ b
 sought-once (Sought.Marked n z m s) (Sought.Marked n′ z′ m′ s′) e =
     let p : n ≡ n′ = ap (λ (x : Seen). x .segments) (ok-inj e) in
@@ -40,12 +32,6 @@ sought-once (Sought.Marked n z m s) (Sought.Marked n′ z′ m′ s′) e =
 sought-once (Sought.Marked n z m s) (Sought.Refused r) e = absurd (refused-ok (r .number) (r .place) _ (sym e))
 sought-once (Sought.Refused r) (Sought.Marked n z m s) e = absurd (refused-ok (r .number) (r .place) _ e)
 sought-once (Sought.Refused r) (Sought.Refused s) e = ap Sought.Refused (same-refusal r s e)
-
-pub sought-both :
-    (r : Sought) {o : Outcome Seen} {B : Type 0} → (toldSought r ≡ o) × B → (toldSought r ≡ o) × ((answerSought r ≡ answer zeroSeen o) × B)
-unfolding answerSought
-sought-both (Sought.Marked n z m s) e = (e .0, (ap (answer zeroSeen) (e .0), e .1))
-sought-both (Sought.Refused r) e = (e .0, (ap (answer zeroSeen) (e .0), e .1))
 
 pub both-once : (a b : SoughtBoth) → toldBoth a ≡ toldBoth b → a ≡ b
 both-once (SoughtBoth.Marked n z m s) (SoughtBoth.Marked n′ z′ m′ s′) e =
@@ -59,13 +45,6 @@ both-once (SoughtBoth.Marked n z m s) (SoughtBoth.Refused r) e = absurd (refused
 both-once (SoughtBoth.Refused r) (SoughtBoth.Marked n z m s) e = absurd (refused-ok (r .number) (r .place) _ e)
 both-once (SoughtBoth.Refused r) (SoughtBoth.Refused s) e = ap SoughtBoth.Refused (same-refusal r s e)
 
-pub both-both :
-    (r : SoughtBoth) {o : Outcome SeenBoth} {B : Type 0} → (toldBoth r ≡ o) × B
-    → (toldBoth r ≡ o) × ((answerBoth r ≡ answer zeroBoth o) × B)
-unfolding answerBoth
-both-both (SoughtBoth.Marked n z m s) e = (e .0, (ap (answer zeroBoth) (e .0), e .1))
-both-both (SoughtBoth.Refused r) e = (e .0, (ap (answer zeroBoth) (e .0), e .1))
-
 pub searched-once : (a b : Searched) → toldSearched a ≡ toldSearched b → a ≡ b
 searched-once (Searched.Marked n z m) (Searched.Marked n′ z′ m′) e =
     let p : n ≡ n′ = ap (λ (x : Sums). x .segments) (ok-inj e) in
@@ -75,17 +54,3 @@ searched-once (Searched.Marked n z m) (Searched.Marked n′ z′ m′) e =
 searched-once (Searched.Marked n z m) (Searched.Refused r) e = absurd (refused-ok (r .number) (r .place) _ (sym e))
 searched-once (Searched.Refused r) (Searched.Marked n z m) e = absurd (refused-ok (r .number) (r .place) _ e)
 searched-once (Searched.Refused r) (Searched.Refused s) e = ap Searched.Refused (same-refusal r s e)
-
-pub searched-both :
-    (r : Searched) {o : Outcome Sums} {B : Type 0} → (toldSearched r ≡ o) × B →
-    (toldSearched r ≡ o) × ((answerSearched r ≡ answer zeroSums o) × B)
-unfolding answerSearched
-searched-both (Searched.Marked n z m) e = (e .0, (ap (answer zeroSums) (e .0), e .1))
-searched-both (Searched.Refused r) e = (e .0, (ap (answer zeroSums) (e .0), e .1))
-
-pub first-both : (r : First) {o : Outcome Hit} → toldFirst r ≡ o
-    → (toldFirst r ≡ o) × (answerFirst r ≡ answer zeroStop (after o (λ h. ok (stopOf h))))
-unfolding answerFirst
-first-both (First.Ends k) e = (e, ap (λ (o : Outcome Hit). answer zeroStop (after o (λ h. ok (stopOf h)))) e)
-first-both (First.None s) e = (e, ap (λ (o : Outcome Hit). answer zeroStop (after o (λ h. ok (stopOf h)))) e)
-first-both (First.Refused r) e = (e, ap (λ (o : Outcome Hit). answer zeroStop (after o (λ h. ok (stopOf h)))) e)

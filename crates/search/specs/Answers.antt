@@ -1,5 +1,5 @@
 -- What a search and a feed answer, in document 01's numbers and values.
-use Prim.Native.Nat.{ℕ, _+_, _-_, _*_, _/_, _≤_, min}
+use Prim.Native.Nat.{ℕ, _≤_}
 use mathlib.Core.Path.{_≡_}
 use mathlib.Core.Bool.{Bool, false, cond}
 use mathlib.Core.List.{List}
@@ -7,17 +7,14 @@ use lib.Dec.{leb}
 use lib.ListN.{length, take}
 use Rattle.text.specs.Text.{Text, total, size}
 use Rattle.text.specs.State.{isState, fresh, next, ends, run, marksFrom, marks}
-use Rattle.text.specs.Refusal.{Outcome, ok, refused, demand, after, pattern, Answer}
+use Rattle.text.specs.Refusal.{Outcome, ok, refused, demand, after, pattern, Answer, answer}
 use Rattle.text.specs.Strand.{onStrand}
 use Rattle.text.specs.declared.strand.Strand.{Strand}
-use Rattle.layout.specs.Bytes.{greatestStretch, over}
-use Rattle.layout.specs.Pieces.{fits}
-use Rattle.layout.specs.Reading.{Taken, loneSegment, stretchOf}
-use Rattle.search.specs.declared.entry.Entry.{Entry}
-use Rattle.search.specs.declared.entry.Entry.the-variants.{Open}
+use Rattle.layout.specs.Bytes.{word, over, leftBy}
+use Rattle.layout.specs.Pieces.{fits, mostInStretch}
+use Rattle.layout.specs.Reading.{loneSegment, wholeStretch, stretchOf}
+use Rattle.layout.specs.Walk.{begun, mostAhead}
 use Rattle.search.specs.declared.state.Fed.{Fed}
-use Rattle.search.specs.declared.run.Ran.{Ran}
-use Rattle.search.specs.declared.run.Ran.the-variants.{To}
 use Rattle.search.specs.declared.state.Sought.{Sought}
 use Rattle.search.specs.declared.searching.Searched.{Searched}
 use Rattle.search.specs.declared.searching.Searched.the-variants.{Marked}
@@ -26,10 +23,6 @@ use Rattle.search.specs.declared.searching.Searched.the-variants.{Marked
 unfoldable pub entering : {A : Type 0} → List ℕ → ℕ → List ℕ → Outcome A → Outcome A
 entering P st s o = pattern P (fits s (demand (isState (length P) st) 17 0 o))
 
-abbrev pub toldEntry : Entry → Outcome (Unit {0})
-toldEntry Open = ok tt
-toldEntry (Entry.Refused r) = refused (r .number) (r .place)
-
 -- a text whose marks go into a buffer of that many bytes: 10
 unfoldable pub into : ℕ → Outcome Text → Outcome Text
 into room o = after o λ t. demand (leb (length t) room) 10 0 (ok t)
@@ -37,6 +30,10 @@ into room o = after o λ t. demand (leb (length t) room) 10 0 (ok t)
 -- a stretch whose marks go into a buffer of that many bytes
 abbrev pub stretchInto : List ℕ → ℕ → Outcome Text
 stretchInto s room = into room (stretchOf s)
+
+-- the same of bytes whose length was asked before
+abbrev pub wholeInto : List ℕ → ℕ → Outcome Text
+wholeInto s room = into room (wholeStretch s)
 
 -- a search: 1, 2, 3, those of the stretch, then 10
 unfoldable pub searching : List ℕ → List ℕ → ℕ → Outcome Text
@@ -62,15 +59,6 @@ toldSought (Sought.Marked segments size ends state) =
     ok (record { segments = segments; size = size; ends = ends; state = state .bits })
 toldSought (Sought.Refused r) = refused (r .number) (r .place)
 
--- the same in numbers
-abbrev pub zeroSeen : Seen
-zeroSeen = record { segments = 0; size = 0; ends = 0; state = 0 }
-
-unfoldable pub answerSought : Sought → Answer Seen
-answerSought (Sought.Marked segments size ends state) =
-    record { number = 0; place = 0; value = record { segments = segments; size = size; ends = ends; state = state .bits } }
-answerSought (Sought.Refused r) = record { number = r .number; place = r .place; value = zeroSeen }
-
 -- what a search tells of a text, from the fresh state
 pub record Sums : Type 0 where
   pub segments : ℕ
@@ -91,10 +79,8 @@ toldSearched (Searched.Refused r) = refused (r .number) (r .place)
 abbrev pub zeroSums : Sums
 zeroSums = record { segments = 0; size = 0; ends = 0 }
 
-unfoldable pub answerSearched : Searched → Answer Sums
-answerSearched (Marked segments size ends) =
-    record { number = 0; place = 0; value = record { segments = segments; size = size; ends = ends } }
-answerSearched (Searched.Refused r) = record { number = r .number; place = r .place; value = zeroSums }
+abbrev pub answerSearched : Searched → Answer Sums
+answerSearched r = answer zeroSums (toldSearched r)
 
 -- a buffer that holds the marks of an accepted text in front, as f gives them; after a refusal it may hold anything
 abbrev pub MarksOf : (Text → List ℕ) → Outcome Text → List ℕ → Type 0
@@ -104,41 +90,22 @@ MarksOf f o buffer = (t : Text) → o ≡ ok t → take (length t) buffer ≡ f 
 abbrev pub handed : ℕ → List ℕ → List ℕ → List ℕ
 handed n found out = cond (leb n (length out)) (over out 0 (take n found)) out
 
--- what a run over segments tells: how many were read, the place after them, their size, the state there, and the number of ones
--- among their marks
-pub record Course : Type 0 where
-  pub segments : ℕ
-  pub next : ℕ
-  pub size : ℕ
-  pub state : ℕ
-  pub ends : ℕ
+-- what is told of segments that were marked, once their marks are handed over into a buffer of that many bytes: 10
+abbrev pub handing : {A : Type 0} → (A → ℕ) → ℕ → Outcome A → Outcome A
+handing count room o = after o λ x. demand (leb (count x) room) 10 0 (ok x)
 
-unfoldable pub courseOf : List ℕ → ℕ → Taken Text ℕ → Course
-courseOf P st x =
-    record {
-      segments = length (x .value);
-      next = x .next;
-      size = size (x .value);
-      state = run P st (x .value);
-      ends = total (λ x. x) (marksFrom P st (x .value));
-    }
+-- what is told of them and left in the caller's buffer, where o was told and the marks were found
+abbrev pub Handed : {A : Type 0} → (A → ℕ) → List ℕ → List ℕ → Outcome A → Outcome A → List ℕ → Type 0
+Handed count found out o told left =
+    (told ≡ handing count (length out) o) × (left ≡ leftBy (λ x. take (count x) found) (handing count (length out) o) out)
 
-abbrev pub toldRan : Ran → Outcome Course
-toldRan (To segments next size state ends) =
-    ok (record { segments = segments; next = next; size = size; state = state .bits; ends = ends })
-toldRan (Ran.Refused r) = refused (r .number) (r .place)
+-- a buffer that has a mark for each segment that is told of
+abbrev pub Enough : {A : Type 0} → (A → ℕ) → Outcome A → List ℕ → Type 0
+Enough {A} count o found = (x : A) → o ≡ ok x → count x ≤ length found
 
--- a buffer that holds the marks of accepted segments in front, as f gives them; after a refusal it may hold anything
-abbrev pub MarksFrom : (Text → List ℕ) → Outcome (Taken Text ℕ) → List ℕ → Type 0
-MarksFrom f o buffer = (x : Taken Text ℕ) → o ≡ ok x → take (length (x .value)) buffer ≡ f (x .value)
-
--- a buffer with a byte for each of n segments that stand from `at` on: a segment has at least 3 bytes
-abbrev pub RoomyFrom : List ℕ → ℕ → ℕ → List ℕ → Type 0
-RoomyFrom s at n buffer = min n ((length s - at) / 3) ≤ length buffer
-
--- a buffer with a byte for each segment that a stretch can have
-abbrev pub Roomy : List ℕ → List ℕ → Type 0
-Roomy s buffer = min (length s) greatestStretch ≤ 4 + 3 * length buffer
+-- a stretch that has no more segments than the greatest buffer has marks, by the count that it states or by its bytes
+abbrev pub Markable : List ℕ → Type 0
+Markable s = mostAhead s (begun (word s 0) 2) ≤ mostInStretch
 
 -- what a search writes of a text
 abbrev pub marked : List ℕ → Text → List ℕ
@@ -165,6 +132,5 @@ toldFed (Fed.Refused r) = refused (r .number) (r .place)
 abbrev pub zeroNext : Next
 zeroNext = record { state = 0; ends = false }
 
-unfoldable pub answerFed : Fed → Answer Next
-answerFed (Fed.Next state ends) = record { number = 0; place = 0; value = record { state = state .bits; ends = ends } }
-answerFed (Fed.Refused r) = record { number = r .number; place = r .place; value = zeroNext }
+abbrev pub answerFed : Fed → Answer Next
+answerFed r = answer zeroNext (toldFed r)

@@ -4,7 +4,7 @@ use mathlib.Core.Path.{_≡_}
 use mathlib.Core.Bool.{true}
 use mathlib.Core.List.{List, [], _∷_, _++_}
 use lib.ListN.{length, take, getD}
-use Rattle.text.specs.Letter.{base, every}
+use Rattle.text.specs.Refusal.{SoundPattern}
 use Rattle.text.specs.Occurrence.{Suffix}
 use Rattle.search.specs.Masks.{StateOf}
 
@@ -36,14 +36,8 @@ pub record Matched (P table : List ℕ) (k : ℕ) : Type 0 where
   pub short : length P ≤ 64
   pub filled : Filled P table k
 
--- a pattern of 1 to 64 bases
-pub record Sized (P : List ℕ) : Type 0 where
-  pub some : 0 < length P
-  pub short : length P ≤ 64
-  pub bases : every base P ≡ true
-
 -- what a step by borders rests on: a pattern of 1 to 64 bases with its table, and one of its states
 pub record Bordered (P table : List ℕ) (st : ℕ) : Type 0 where
-  pub sized : Sized P
+  pub sized : SoundPattern P
   pub holds : Borders P table
   pub state : StateOf P st

@@ -4,17 +4,14 @@ use mathlib.Core.List.{List, [], _∷_}
 use lib.ListN.{length, drop}
 use Rattle.text.specs.Text.{Text, total, size}
 use Rattle.text.specs.State.{isState, run, marksFrom, marks}
-use Rattle.text.specs.Refusal.{Outcome, ok, refused, demand, Answer}
+use Rattle.text.specs.Refusal.{Outcome, ok, refused, demand}
 use Rattle.text.specs.Strand.{opposite}
-use Rattle.layout.specs.Reading.{Taken}
 use Rattle.search.specs.Answers.{Sums, entering, stretchInto}
 use Rattle.search.specs.Method.{Founded, Tools}
 use Rattle.search.specs.declared.method.Method.the-variants.{Bits}
 use Rattle.search.specs.declared.segment.Passed.{Passed}
 use Rattle.search.specs.declared.both.SoughtBoth.{SoughtBoth}
 use Rattle.search.specs.declared.both.SoughtBoth.the-variants.{Marked}
-use Rattle.search.specs.declared.both.run.RanBoth.{RanBoth}
-use Rattle.search.specs.declared.both.run.RanBoth.the-variants.{To, Refused}
 use Rattle.search.specs.declared.both.segment.PassedBoth.{PassedBoth}
 
 -- two rows of marks united: 1 where either row has it
@@ -66,19 +63,6 @@ toldBoth (Marked segments size ends state) =
     ok (record { segments = segments; size = size; ends = ends; given = state .given; opposite = state .opposite })
 toldBoth (SoughtBoth.Refused r) = refused (r .number) (r .place)
 
--- the same in numbers
-abbrev pub zeroBoth : SeenBoth
-zeroBoth = record { segments = 0; size = 0; ends = 0; given = 0; opposite = 0 }
-
-unfoldable pub answerBoth : SoughtBoth → Answer SeenBoth
-answerBoth (Marked segments size ends state) =
-    record {
-      number = 0;
-      place = 0;
-      value = record { segments = segments; size = size; ends = ends; given = state .given; opposite = state .opposite };
-    }
-answerBoth (SoughtBoth.Refused r) = record { number = r .number; place = r .place; value = zeroBoth }
-
 -- without the states
 abbrev pub sumsBoth : SeenBoth → Sums
 sumsBoth x = record { segments = x .segments; size = x .size; ends = x .ends }
@@ -109,27 +93,3 @@ passedGiven (PassedBoth.Refused r) = Passed.Refused r
 abbrev pub passedOpposite : PassedBoth → Passed
 passedOpposite (PassedBoth.To next size state given opposite) = Passed.To next size (record { bits = state .opposite }) opposite
 passedOpposite (PassedBoth.Refused r) = Passed.Refused r
-
--- what a run over segments on both strands tells: the place after them, their size, the number of ones among their marks, and the
--- states there
-pub record CourseBoth : Type 0 where
-  pub next : ℕ
-  pub size : ℕ
-  pub ends : ℕ
-  pub given : ℕ
-  pub opposite : ℕ
-
-unfoldable pub eitherCourse : List ℕ → ℕ → ℕ → Taken Text ℕ → CourseBoth
-eitherCourse P st re x =
-    record {
-      next = x .next;
-      size = size (x .value);
-      ends = total (λ x. x) (eitherFrom P st re (x .value));
-      given = run P st (x .value);
-      opposite = run (opposite P) re (x .value);
-    }
-
-abbrev pub toldRanBoth : RanBoth → Outcome CourseBoth
-toldRanBoth (To next size ends state) =
-    ok (record { next = next; size = size; ends = ends; given = state .given; opposite = state .opposite })
-toldRanBoth (Refused r) = refused (r .number) (r .place)

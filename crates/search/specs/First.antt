@@ -1,16 +1,16 @@
 -- The first hit: the first segment in which an occurrence ends, of those that read whole before the first fault.
-use Prim.Native.Nat.{ℕ, zero, suc, _+_, _-_, _≤_, min}
-use mathlib.Core.Bool.{Bool, cond}
+use Prim.Native.Nat.{ℕ, zero, suc, _-_, _≤_}
+use mathlib.Core.Bool.{cond}
 use mathlib.Core.List.{List, [], _∷_, _++_}
 use lib.Dec.{eqb, ltb}
 use Rattle.text.specs.Text.{Text}
 use Rattle.text.specs.State.{run, marksFrom}
 use Rattle.text.specs.Card.{none, firstEnd}
-use Rattle.text.specs.Refusal.{Outcome, ok, refused, after, Answer}
+use Rattle.text.specs.Refusal.{Outcome, ok, refused, after}
 use Rattle.text.specs.Strand.{onStrand}
 use Rattle.text.specs.declared.strand.Strand.{Strand}
 use Rattle.layout.specs.Pieces.{openAt}
-use Rattle.layout.specs.Reading.{Taken, many, segmentAt, stretchOf}
+use Rattle.layout.specs.Reading.{Taken, segmentAt, segmentsOf, stretchOf}
 use Rattle.search.specs.Answers.{entering}
 use Rattle.search.specs.declared.first.First.{First}
 use Rattle.search.specs.declared.state.Sought.{Sought}
@@ -43,6 +43,15 @@ unfoldable pub hitting : List ℕ → ℕ → List ℕ → Outcome Hit
 hitting P st s =
     cond (ltb (firstIn P st s) none) (ok (endsIn (firstIn P st s))) (after (stretchOf s) λ t. ok (clear (run P st t)))
 
+-- the same of n segments from `from` on: the first end, and the first hit
+unfoldable pub firstFrom : List ℕ → ℕ → List ℕ → ℕ → ℕ → ℕ
+firstFrom P st s n from = firstEnd (marksFrom P st (whole (λ _. segmentAt s) n [] from))
+
+unfoldable pub hittingFrom : List ℕ → ℕ → List ℕ → ℕ → ℕ → Outcome Hit
+hittingFrom P st s n from =
+    cond (ltb (firstFrom P st s n from) none) (ok (endsIn (firstFrom P st s n from)))
+    (after (segmentsOf s n from) λ t. ok (clear (run P st t)))
+
 -- the first hit of the pattern as a strand reads it: 1, 2, 3 of the pattern as given, 4, 17, then as above
 unfoldable pub firsting : List ℕ → Strand → ℕ → List ℕ → Outcome Hit
 firsting P strand st s = entering P st s (hitting (onStrand strand P) st s)
@@ -60,22 +69,6 @@ pub record Stop : Type 0 where
 abbrev pub stopOf : Hit → Stop
 stopOf (endsIn k) = record { segment = k; state = 0 }
 stopOf (clear st) = record { segment = none; state = st }
-
-abbrev pub zeroStop : Stop
-zeroStop = record { segment = 0; state = 0 }
-
-unfoldable pub answerFirst : First → Answer Stop
-answerFirst (First.Ends k) = record { number = 0; place = 0; value = record { segment = k; state = 0 } }
-answerFirst (First.None state) = record { number = 0; place = 0; value = record { segment = none; state = state .bits } }
-answerFirst (First.Refused r) = record { number = r .number; place = r .place; value = zeroStop }
-
--- how many of n segments from `at` on a run reads: all; or, if it stops, those up to the first in which an occurrence ends
-unfoldable pub reach : Bool → List ℕ → ℕ → List ℕ → ℕ → ℕ → ℕ
-reach stop P st s n at = cond stop (min n (firstEnd (marksFrom P st (whole (λ _. segmentAt s) n [] at)) + 1)) n
-
--- and what it reads
-abbrev pub manyTo : Bool → List ℕ → ℕ → List ℕ → ℕ → ℕ → Outcome (Taken Text ℕ)
-manyTo stop P st s n at = many (λ _. segmentAt s) (reach stop P st s n at) [] at
 
 -- what a run that stops tells of the first hit: where there was an end, it is in the last segment that was read
 abbrev pub toldHit : Sought → Outcome Hit

@@ -25,3 +25,4 @@ pub use state::Carried;
 pub use state::Fed;
 pub use state::Sought;
 pub use state::State;
+pub use vectors::complements;

@@ -1,9 +1,12 @@
 // Marks reach the caller's buffer only once the whole stretch is accepted: a search runs into a buffer of its own, and copies.
 use crate::method::Method;
-use crate::run::run_stretch;
+use crate::run::run;
 use crate::state::Sought;
 use crate::state::State;
+use layout::walk::Opened;
+use layout::walk::Walk;
 use text::Refusal;
+use text::limits;
 use text::refusal;
 use text::spelling::classes;
 ghost use mathlib.Core.Path.{_≡_};
@@ -14,14 +17,14 @@ ghost use Rattle.text.specs.Refusal.{ok, after};
 ghost use Rattle.text.specs.State.{marksFrom};
 ghost use Rattle.layout.specs.Bytes.{over};
 ghost use Rattle.layout.specs.Bytes.{leftBy};
-ghost use Rattle.search.specs.Answers.{stretchInto, seenFrom, toldSought, Roomy, handed};
+ghost use Rattle.search.specs.Answers.{wholeInto, seenFrom, toldSought, Markable, handed, Enough, Handed};
 ghost use Rattle.search.specs.Masks.{StateOf};
 ghost use Rattle.search.specs.Method.{Founded};
 
 // A stretch of at most 1,024 bytes is small. It has at most 340 segments: each has at least 3 bytes, after the count's 2.
 pub const SMALL_STRETCH: usize = 1024;
 
-pub const MOST_IN_SMALL: usize = (SMALL_STRETCH - 2) / 3;
+pub const MOST_IN_SMALL: usize = (SMALL_STRETCH - layout::FIRST_SEGMENT) / layout::LEAST_SEGMENT;
 
 // Copies `from` over the front of `to`.
 fn copy(from: &[u8], to: &mut [u8])
@@ -48,40 +51,19 @@ pub fn handed(segments: usize, found: &[u8], marks: &mut [u8]) -> bool
     true
 }
 
-// Runs over the stretch into `found`, and copies what it found to the caller's marks once all is accepted: refusal 10.
-fn mark_by_way_of(
-    method: Method,
-    pattern: &[u8],
-    table: &[u64; 256],
-    state: State,
-    stretch: &[u8],
-    found: &mut [u8],
-    marks: &mut [u8],
-) -> Sought
-    requires { ⌜ Founded method (now pattern) (now table) × StateOf (now pattern) (state .bits) ⌝ }
-    requires { ⌜ Roomy (now stretch) (now found) ⌝ }
-    ensures { λ r. ⌜ toldSought r ≡ after (stretchInto (now (stretch .entry)) (length (now (marks .entry))))
-        (λ t. ok (seenFrom (now (pattern .entry)) (state .bits) t)) ⌝ }
-    ensures { λ r. ⌜ now (marks .exit) ≡ leftBy (marksFrom (now (pattern .entry)) (state .bits))
-        (stretchInto (now (stretch .entry)) (length (now (marks .entry)))) (now (marks .entry)) ⌝ }
+// Hands over the marks that a search found once all is accepted: refusal 10.
+fn hand(sought: Sought, found: &[u8], marks: &mut [u8]) -> Sought
+    requires { ⌜ Enough (λ x. x .segments) (toldSought sought) (now found) ⌝ }
+    ensures { λ r. ⌜ Handed (λ x. x .segments) (now (found .entry)) (now (marks .entry)) (toldSought sought)
+        (toldSought r) (now (marks .exit)) ⌝ }
 {
-    let letters = classes();
-    match run_stretch(
-        false,
-        method,
-        pattern,
-        table,
-        &letters,
-        state,
-        stretch,
-        &mut *found,
-    ) {
+    match sought {
         Sought::Refused(refused) => Sought::Refused(refused),
         Sought::Marked {
             segments,
             size,
             ends,
-            state: reached,
+            state,
         } => {
             if !handed(segments, found, &mut *marks) {
                 return Sought::Refused(Refusal {
@@ -93,14 +75,14 @@ fn mark_by_way_of(
                 segments,
                 size,
                 ends,
-                state: reached,
+                state,
             }
         }
     }
 }
 
-// Marks the segments of a stretch by a method and its table, from a state on: the refusals of the stretch, then 10. A small stretch
-// takes a small buffer, since clearing one for the most segments costs more than the search of some hundred bytes.
+// Marks the segments of a stretch by a method and its table, from a state on: the refusals of the stretch, its length apart, then 10. A
+// small stretch takes a small buffer, since clearing one for the most segments costs more than the search of some hundred bytes.
 pub fn mark(
     method: Method,
     pattern: &[u8],
@@ -109,32 +91,45 @@ pub fn mark(
     stretch: &[u8],
     marks: &mut [u8],
 ) -> Sought
-    requires { ⌜ Founded method (now pattern) (now table) × StateOf (now pattern) (state .bits) ⌝ }
-    ensures { λ r. ⌜ toldSought r ≡ after (stretchInto (now (stretch .entry)) (length (now (marks .entry))))
+    requires { ⌜ Founded method (now pattern) (now table) × StateOf (now pattern) (state .bits) × Markable (now stretch) ⌝ }
+    ensures { λ r. ⌜ toldSought r ≡ after (wholeInto (now (stretch .entry)) (length (now (marks .entry))))
         (λ t. ok (seenFrom (now (pattern .entry)) (state .bits) t)) ⌝ }
     ensures { λ r. ⌜ now (marks .exit) ≡ leftBy (marksFrom (now (pattern .entry)) (state .bits))
-        (stretchInto (now (stretch .entry)) (length (now (marks .entry)))) (now (marks .entry)) ⌝ }
+        (wholeInto (now (stretch .entry)) (length (now (marks .entry)))) (now (marks .entry)) ⌝ }
 {
+    let walk = match Walk::open(stretch) {
+        Opened::Refused(wrong) => {
+            return Sought::Refused(wrong);
+        }
+        Opened::At(walk) => walk,
+    };
+    let letters = classes();
     if stretch.len() <= SMALL_STRETCH {
         let mut found = [0u8; MOST_IN_SMALL];
-        return mark_by_way_of(
+        let sought = run(
+            false,
             method,
             pattern,
             table,
+            &letters,
             state,
             stretch,
+            walk,
             &mut found,
-            &mut *marks,
         );
+        return hand(sought, &found, &mut *marks);
     }
-    let mut found = [0u8; refusal::MOST_IN_STRETCH];
-    mark_by_way_of(
+    let mut found = [0u8; limits::MOST_IN_STRETCH];
+    let sought = run(
+        false,
         method,
         pattern,
         table,
+        &letters,
         state,
         stretch,
+        walk,
         &mut found,
-        &mut *marks,
-    )
+    );
+    hand(sought, &found, &mut *marks)
 }

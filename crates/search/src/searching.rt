@@ -1,20 +1,20 @@
 // The two searches of a pattern in one stretch, from the fresh state: by bit-vectors and by border tables.
 use crate::borders::border_table;
+use crate::entry::enter;
 use crate::marking::mark;
 use crate::method::Method;
 use crate::state::Sought;
 use crate::state::State;
 use text::Refusal;
-use text::pattern::PatternIs;
-use text::pattern::check;
+use text::Verdict;
 use text::strand::Strand;
 use text::strand::read_on;
 ghost use mathlib.Core.Path.{_≡_};
 ghost use lib.ListN.{length};
-ghost use Rattle.text.specs.Refusal.{ok, after, answer};
+ghost use Rattle.text.specs.Refusal.{ok, after};
 ghost use Rattle.text.specs.Strand.{onStrand};
 ghost use Rattle.layout.specs.Bytes.{leftBy};
-ghost use Rattle.search.specs.Answers.{searching, sumsOf, toldSearched, answerSearched, zeroSums, toldSought, sums, marked};
+ghost use Rattle.search.specs.Answers.{searching, sumsOf, toldSearched, toldSought, sums, marked};
 
 // The segment count, the size and the number of ones among the marks.
 pub enum Searched {
@@ -50,9 +50,6 @@ fn summed(sought: Sought) -> Searched
 pub fn by_bits(pattern: &[u8], strand: Strand, stretch: &[u8], marks: &mut [u8]) -> Searched
     ensures { λ r. ⌜ toldSearched r ≡ after (searching (now (pattern .entry)) (now (stretch .entry)) (length (now (marks .entry))))
         (λ t. ok (sumsOf (onStrand strand (now (pattern .entry))) t)) ⌝ }
-    ensures { λ r. ⌜ answerSearched r ≡ answer zeroSums
-        (after (searching (now (pattern .entry)) (now (stretch .entry)) (length (now (marks .entry))))
-        (λ t. ok (sumsOf (onStrand strand (now (pattern .entry))) t))) ⌝ }
     ensures { λ r. ⌜ now (marks .exit) ≡ leftBy (marked (onStrand strand (now (pattern .entry))))
         (searching (now (pattern .entry)) (now (stretch .entry)) (length (now (marks .entry)))) (now (marks .entry)) ⌝ }
 {
@@ -65,27 +62,18 @@ pub fn by_bits(pattern: &[u8], strand: Strand, stretch: &[u8], marks: &mut [u8])
 pub fn by_borders(pattern: &[u8], strand: Strand, stretch: &[u8], marks: &mut [u8]) -> Searched
     ensures { λ r. ⌜ toldSearched r ≡ after (searching (now (pattern .entry)) (now (stretch .entry)) (length (now (marks .entry))))
         (λ t. ok (sumsOf (onStrand strand (now (pattern .entry))) t)) ⌝ }
-    ensures { λ r. ⌜ answerSearched r ≡ answer zeroSums
-        (after (searching (now (pattern .entry)) (now (stretch .entry)) (length (now (marks .entry))))
-        (λ t. ok (sumsOf (onStrand strand (now (pattern .entry))) t))) ⌝ }
     ensures { λ r. ⌜ now (marks .exit) ≡ leftBy (marked (onStrand strand (now (pattern .entry))))
         (searching (now (pattern .entry)) (now (stretch .entry)) (length (now (marks .entry)))) (now (marks .entry)) ⌝ }
 {
-    match check(pattern) {
-        PatternIs::Refused(refused) => Searched::Refused(refused),
-        PatternIs::Sound => {
+    let fresh = State::FRESH;
+    match enter(pattern, fresh, stretch) {
+        Verdict::Refused(refused) => Searched::Refused(refused),
+        Verdict::Sound => {
             let m = pattern.len();
             let bytes = read_on(strand, pattern);
             let read = &bytes[..m];
             let table = border_table(read);
-            let sought = mark(
-                Method::Borders,
-                read,
-                &table,
-                State::FRESH,
-                stretch,
-                &mut *marks,
-            );
+            let sought = mark(Method::Borders, read, &table, fresh, stretch, &mut *marks);
             summed(sought)
         }
     }

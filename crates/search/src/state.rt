@@ -1,32 +1,24 @@
 // States: which lengths of a pattern end exactly at the end of the last segment. A search goes from segment to segment, and from
 // stretch to stretch, as a state handed in and handed back.
-use crate::entry::Entry;
 use crate::entry::enter;
 use crate::marking::mark;
 use crate::method::Method;
-use crate::run::Ran;
 use crate::run::run;
-use crate::vectors::masks;
-use layout::pieces::Verdict;
-use layout::pieces::closed;
+use crate::vectors::complements;
+use layout::walk::Walk;
 use text::Refusal;
+use text::Verdict;
 use text::spelling::classes;
 use text::strand::Strand;
 use text::strand::read_on;
 ghost use mathlib.Core.Path.{_≡_};
-ghost use mathlib.Core.List.{[]};
 ghost use lib.ListN.{length};
-ghost use Rattle.text.specs.Refusal.{ok, after, answer};
+ghost use Rattle.text.specs.Refusal.{ok, after};
 ghost use Rattle.text.specs.State.{marksFrom};
 ghost use Rattle.text.specs.Strand.{onStrand};
-ghost use Rattle.layout.specs.Reading.{segmentAt, many};
-ghost use Prim.Native.Nat.{_≤_};
-ghost use Rattle.layout.specs.Bytes.{greatestStretch};
 ghost use Rattle.layout.specs.Bytes.{leftBy};
-ghost use Rattle.search.specs.Masks.{StateOf};
-ghost use Rattle.search.specs.Border.{Sized};
-ghost use Rattle.search.specs.Answers.{feeding, toldFed, answerFed, zeroNext, courseOf, toldRan};
-ghost use Rattle.search.specs.Answers.{seeking, seenFrom, toldSought, answerSought, zeroSeen};
+ghost use Rattle.search.specs.Answers.{feeding, toldFed};
+ghost use Rattle.search.specs.Answers.{seeking, seenFrom, toldSought};
 ghost use Rattle.search.specs.Carried.{carriedBy};
 
 // Bit r is set when length r is carried, 1 to 63. Bit 0 is no length: an occurrence may start afresh.
@@ -65,25 +57,35 @@ impl State {
     // The state after a lone segment, of the pattern as the strand reads it: refusals 1, 2, 3, 4, 17, then 5 to 9.
     pub fn feed(self, pattern: &[u8], strand: Strand, segment: &[u8]) -> Fed
         ensures { λ r. ⌜ toldFed r ≡ feeding (now (pattern .entry)) strand (self .bits) (now (segment .entry)) ⌝ }
-        ensures { λ r. ⌜ answerFed r ≡ answer zeroNext (feeding (now (pattern .entry)) strand (self .bits) (now (segment .entry))) ⌝ }
     {
-        if let Entry::Refused(refused) = enter(pattern, self, segment) {
+        if let Verdict::Refused(refused) = enter(pattern, self, segment) {
             return Fed::Refused(refused);
         }
         let m = pattern.len();
         let bytes = read_on(strand, pattern);
-        match alone(&bytes[..m], self, segment) {
-            Ran::Refused(refused) => Fed::Refused(refused),
-            Ran::To {
+        let read = &bytes[..m];
+        let table = complements(read);
+        let letters = classes();
+        let walk = Walk::lone();
+        let mut mark = [0u8; 1];
+        match run(
+            false,
+            Method::Bits,
+            read,
+            &table,
+            &letters,
+            self,
+            segment,
+            walk,
+            &mut mark,
+        ) {
+            Sought::Refused(refused) => Fed::Refused(refused),
+            Sought::Marked {
                 segments: _,
-                next,
                 size: _,
-                state,
                 ends,
+                state,
             } => {
-                if let Verdict::Refused(refused) = closed(segment, next, 1) {
-                    return Fed::Refused(refused);
-                }
                 let hit = ends != 0;
                 Fed::Next { state, ends: hit }
             }
@@ -97,19 +99,16 @@ impl State {
         ensures { λ r. ⌜ toldSought r
             ≡ after (seeking (now (pattern .entry)) (self .bits) (now (stretch .entry)) (length (now (marks .entry))))
             (λ t. ok (seenFrom (onStrand strand (now (pattern .entry))) (self .bits) t)) ⌝ }
-        ensures { λ r. ⌜ answerSought r ≡ answer zeroSeen
-            (after (seeking (now (pattern .entry)) (self .bits) (now (stretch .entry)) (length (now (marks .entry))))
-            (λ t. ok (seenFrom (onStrand strand (now (pattern .entry))) (self .bits) t))) ⌝ }
         ensures { λ r. ⌜ now (marks .exit) ≡ leftBy (marksFrom (onStrand strand (now (pattern .entry))) (self .bits))
             (seeking (now (pattern .entry)) (self .bits) (now (stretch .entry)) (length (now (marks .entry)))) (now (marks .entry)) ⌝ }
     {
         match enter(pattern, self, stretch) {
-            Entry::Refused(refused) => Sought::Refused(refused),
-            Entry::Open => {
+            Verdict::Refused(refused) => Sought::Refused(refused),
+            Verdict::Sound => {
                 let m = pattern.len();
                 let bytes = read_on(strand, pattern);
                 let read = &bytes[..m];
-                let table = masks(read);
+                let table = complements(read);
                 mark(Method::Bits, read, &table, self, stretch, &mut *marks)
             }
         }
@@ -130,27 +129,4 @@ impl State {
         let shortest = u64::trailing_zeros(lengths);
         Carried { count, shortest }
     }
-}
-
-// The run over a lone segment. What it marks is told by the number of ones.
-fn alone(pattern: &[u8], state: State, segment: &[u8]) -> Ran
-    requires { ⌜ Sized (now pattern) × StateOf (now pattern) (state .bits) × (length (now segment) ≤ greatestStretch) ⌝ }
-    ensures { λ r. ⌜ toldRan r
-        ≡ after (many (λ _. segmentAt (now (segment .entry))) 1 [] 0) (λ x. ok (courseOf (now (pattern .entry)) (state .bits) x)) ⌝ }
-{
-    let table = masks(pattern);
-    let letters = classes();
-    let mut mark = [0u8; 1];
-    run(
-        false,
-        Method::Bits,
-        pattern,
-        &table,
-        &letters,
-        state,
-        segment,
-        0,
-        1,
-        &mut mark,
-    )
 }

@@ -1,6 +1,6 @@
 // The tables of the search by bit-vectors, filled once for each call and lent to the loops. The loops keep words complemented,
-// so the letter vectors that they are lent are complemented too; the public ones stand in letter_vectors.rt.
-use text::refusal;
+// so the letter vectors that they are lent are complemented too; plain ones stand in letter_vectors.rt.
+use text::limits;
 ghost use Rattle.search.specs.Masks.{bases, Filled, Others};
 
 // A table of blank words, in which bit k of what base k of the pattern is has been flipped. Of a pattern over 64 bytes the first 64
@@ -9,8 +9,8 @@ pub fn filled(pattern: &[u8], blank: u64) -> [u64; 256]
     ensures { λ r. ⌜ Filled blank (bases (now (pattern .entry))) r ⌝ }
 {
     let all = pattern.len();
-    let m = if refusal::GREATEST_PATTERN < all {
-        refusal::GREATEST_PATTERN
+    let m = if limits::GREATEST_PATTERN < all {
+        limits::GREATEST_PATTERN
     } else {
         all
     };
@@ -29,8 +29,8 @@ pub fn filled(pattern: &[u8], blank: u64) -> [u64; 256]
     table
 }
 
-// The other bits of the letter vector of what each byte means: bit k is clear where base k of the pattern is that letter.
-pub fn masks(pattern: &[u8]) -> [u64; 256]
+// The complement of the letter vector of what each byte means: bit k is clear where base k of the pattern is that letter.
+pub fn complements(pattern: &[u8]) -> [u64; 256]
     ensures { λ r. ⌜ Others (bases (now (pattern .entry))) r ⌝ }
 {
     filled(pattern, 0xffff_ffff_ffff_ffff)

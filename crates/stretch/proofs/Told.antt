@@ -1,16 +1,16 @@
--- Answers that are told alike are the same answer, and what they say in numbers is what they tell.
+-- Answers that are told alike are the same answer.
 use Prim.Native.Nat.{ℕ}
 use mathlib.Core.Path.{_≡_, sym, ap, ap₂}
-use Rattle.text.specs.Refusal.{Outcome, ok, refused, answer}
+use Rattle.text.specs.Refusal.{Outcome, ok, refused}
 use Rattle.text.proofs.Outcomes.{refused-ok, refused-inj, ok-inj}
 use Rattle.stretch.specs.Places.{Found, found, end, Reading}
-use Rattle.stretch.specs.Answers.{Sum, zeroSum, toldChecked, answerChecked}
-use Rattle.stretch.specs.Answers.{toldGot, answerGot, answerReading}
+use Rattle.stretch.specs.Answers.{Sum, toldChecked}
+use Rattle.stretch.specs.Answers.{toldGot}
 use Rattle.stretch.specs.declared.checking.Checked.{Checked}
 use Rattle.stretch.specs.declared.checking.Checked.the-variants.{Sound}
 use Rattle.stretch.specs.declared.reading.Got.{Got}
 use Rattle.stretch.specs.declared.reading.Got.the-variants.{End}
-use Rattle.stretch.specs.Answers.{toldWritten, answerWritten}
+use Rattle.stretch.specs.Answers.{toldWritten}
 use Rattle.stretch.specs.declared.writing.Written.{Written}
 use Rattle.stretch.specs.declared.writing.Written.the-variants.{Bytes}
 
@@ -23,12 +23,6 @@ checked-once (Checked.Refused r) (Checked.Refused s) e =
     let n : r .number ≡ s .number = cc in
     let p : r .place ≡ s .place = cc in
     ap₂ (λ (a b : ℕ). Checked.Refused (record { number = a; place = b })) n p
-
-pub checked-both :
-    (r : Checked) {o : Outcome Sum} → toldChecked r ≡ o → (toldChecked r ≡ o) × (answerChecked r ≡ answer zeroSum o)
-unfolding answerChecked
-checked-both (Sound n z) e = (e, ap (answer zeroSum) e)
-checked-both (Checked.Refused r) e = (e, ap (answer zeroSum) e)
 
 pub got-once : (a b : Got) → toldGot a ≡ toldGot b → a ≡ b
 got-once (Got.Variant i k j v) (Got.Variant i′ k′ j′ v′) e =
@@ -63,12 +57,6 @@ got-once (Got.Refused r j′ v′) (Got.Variant i k j v) e =
 got-once (End j v) (Got.Refused r j′ v′) e = absurd (refused-ok (r .number) (r .place) end (sym (ap (λ (x : Reading). x .answer) e)))
 got-once (Got.Refused r j′ v′) (End j v) e = absurd (refused-ok (r .number) (r .place) end (ap (λ (x : Reading). x .answer) e))
 
-pub got-both : (r : Got) {x : Reading} → toldGot r ≡ x → (toldGot r ≡ x) × (answerGot r ≡ answerReading x)
-unfolding answerGot
-got-both (Got.Variant i k j v) e = (e, ap answerReading e)
-got-both (End j v) e = (e, ap answerReading e)
-got-both (Got.Refused r j v) e = (e, ap answerReading e)
-
 pub written-once : (a b : Written) → toldWritten a ≡ toldWritten b → a ≡ b
 written-once (Bytes n) (Bytes m) e = ap Bytes (ok-inj e)
 written-once (Bytes n) (Written.Refused r) e = cc
@@ -77,9 +65,3 @@ written-once (Written.Refused r) (Written.Refused s) e =
     let n : r .number ≡ s .number = cc in
     let p : r .place ≡ s .place = cc in
     ap₂ (λ (a b : ℕ). Written.Refused (record { number = a; place = b })) n p
-
-pub written-both :
-    (r : Written) {o : Outcome ℕ} {B : Type 0} → (toldWritten r ≡ o) × B → (toldWritten r ≡ o) × ((answerWritten r ≡ answer 0 o) × B)
-unfolding answerWritten
-written-both (Bytes n) e = (e .0, (ap (answer 0) (e .0), e .1))
-written-both (Written.Refused r) e = (e .0, (ap (answer 0) (e .0), e .1))

@@ -8,6 +8,7 @@ use Rattle.text.specs.Text.{Text, total, weight, size}
 use Rattle.text.specs.Refusal.{Outcome, ok, refused, after, Answer, answer}
 use Rattle.layout.specs.Reading.{Taken, segmentAt, stretchOf}
 use Rattle.layout.specs.Bytes.{word}
+use Rattle.layout.specs.Sizes.{firstVariant, firstLetter}
 use Rattle.stretch.specs.Places.{Found, found, end, Reading}
 use Rattle.layout.specs.Skips.{behindVariants}
 use Rattle.stretch.specs.declared.segment.Walked.{Walked}
@@ -40,9 +41,8 @@ toldChecked (Checked.Refused r) = refused (r .number) (r .place)
 abbrev pub zeroSum : Sum
 zeroSum = record { segments = 0; size = 0 }
 
-unfoldable pub answerChecked : Checked → Answer Sum
-answerChecked (Sound segments size) = record { number = 0; place = 0; value = record { segments = segments; size = size } }
-answerChecked (Checked.Refused r) = record { number = r .number; place = r .place; value = zeroSum }
+abbrev pub answerChecked : Checked → Answer Sum
+answerChecked r = answer zeroSum (toldChecked r)
 
 unfoldable pub checking : List ℕ → Outcome Sum
 checking s = after (stretchOf s) λ t. ok (record { segments = length t; size = size t })
@@ -75,19 +75,18 @@ handedOut end j v = record { start = 0; len = 0; ended = true; segment = j; vari
 abbrev pub zeroHanded : ℕ → ℕ → Handed
 zeroHanded j v = record { start = 0; len = 0; ended = false; segment = j; variant = v }
 
-unfoldable pub answerGot : Got → Answer Handed
-answerGot (Got.Variant start len j v) = record { number = 0; place = 0; value = handedOut (found start len) j v }
-answerGot (End j v) = record { number = 0; place = 0; value = handedOut end j v }
-answerGot (Got.Refused r j v) = record { number = r .number; place = r .place; value = zeroHanded j v }
-
 abbrev pub answerReading : Reading → Answer Handed
 answerReading x =
     answer (zeroHanded (x .segment) (x .variant)) (after (x .answer) λ f. ok (handedOut f (x .segment) (x .variant)))
 
+abbrev pub answerGot : Got → Answer Handed
+answerGot r = answerReading (toldGot r)
+
 -- variant v of segment j, whose count stands at `at`
 abbrev pub handedAt : List ℕ → ℕ → ℕ → ℕ → Reading
 handedAt s at j v =
-    record { answer = ok (found (behindVariants s v (at + 1) + 2) (word s (behindVariants s v (at + 1)))); segment = j; variant = v + 1 }
+    let place : ℕ = behindVariants s v (at + firstVariant) in
+    record { answer = ok (found (place + firstLetter) (word s place)); segment = j; variant = v + 1 }
 
 -- the bytes that a write has written
 abbrev pub toldWritten : Written → Outcome ℕ
@@ -95,6 +94,5 @@ toldWritten (Bytes n) = ok n
 toldWritten (Written.Refused r) = refused (r .number) (r .place)
 
 -- the same in numbers
-unfoldable pub answerWritten : Written → Answer ℕ
-answerWritten (Bytes n) = record { number = 0; place = 0; value = n }
-answerWritten (Written.Refused r) = record { number = r .number; place = r .place; value = 0 }
+abbrev pub answerWritten : Written → Answer ℕ
+answerWritten r = answer 0 (toldWritten r)

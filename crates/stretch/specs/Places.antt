@@ -9,6 +9,7 @@ use Rattle.text.specs.Refusal.{Outcome, ok, refused}
 use Rattle.layout.specs.Bytes.{part}
 use Rattle.layout.specs.Encoding.{encodeVariant, encodeSegment}
 use Rattle.layout.specs.Reading.{stretchOf}
+use Rattle.layout.specs.Sizes.{firstSegment, firstVariant, firstLetter}
 
 -- variant v of segment j
 abbrev pub variant : Text → ℕ → ℕ → Variant
@@ -17,9 +18,9 @@ variant T j v = getD (segment T j) v []
 -- where the letters of variant v of segment j stand in the text's bytes
 unfoldable pub startOf : Text → ℕ → ℕ → ℕ
 startOf T j v =
-    2 + total (λ g. length (encodeSegment g)) (take j T)
-    + (1 + total (λ s. length (encodeVariant s)) (take v (segment T j)))
-    + 2
+    firstSegment + total (λ g. length (encodeSegment g)) (take j T)
+    + (firstVariant + total (λ s. length (encodeVariant s)) (take v (segment T j)))
+    + firstLetter
 
 -- what is found: a variant's letters, from where and how many, or the end
 pub data Found : Type 0 where

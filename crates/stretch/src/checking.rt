@@ -1,16 +1,14 @@
 // The check of a whole stretch, in one walk.
 use crate::segment::Walked;
 use crate::segment::segment_at;
-use layout::pieces::FIRST_SEGMENT;
-use layout::pieces::Opened;
-use layout::pieces::Verdict;
-use layout::pieces::closed;
-use layout::pieces::open;
+use layout::pieces::fits;
+use layout::walk::Opened;
+use layout::walk::Walk;
 use text::Refusal;
+use text::Verdict;
 use text::spelling::classes;
 ghost use mathlib.Core.Path.{_≡_};
-ghost use Rattle.text.specs.Refusal.{answer};
-ghost use Rattle.stretch.specs.Answers.{toldChecked, answerChecked, zeroSum, checking};
+ghost use Rattle.stretch.specs.Answers.{toldChecked, checking};
 
 // The segment count and the size of a sound stretch.
 pub enum Checked {
@@ -21,32 +19,32 @@ pub enum Checked {
 // Refusals 4, the first of 5 to 8 in byte order, 9 and 16.
 pub fn check(stretch: &[u8]) -> Checked
     ensures { λ r. ⌜ toldChecked r ≡ checking (now (stretch .entry)) ⌝ }
-    ensures { λ r. ⌜ answerChecked r ≡ answer zeroSum (checking (now (stretch .entry))) ⌝ }
 {
-    let segments = match open(stretch) {
+    if let Verdict::Refused(wrong) = fits(stretch) {
+        return Checked::Refused(wrong);
+    }
+    let mut walk = match Walk::open(stretch) {
         Opened::Refused(wrong) => {
             return Checked::Refused(wrong);
         }
-        Opened::Segments(segments) => segments,
+        Opened::At(walk) => walk,
     };
     let letters = classes();
-    let mut at = FIRST_SEGMENT;
-    let mut size = 0;
-    let mut k = 0;
-    while k < segments {
-        match segment_at(&letters, stretch, at) {
+    while walk.passed < walk.count {
+        match segment_at(&letters, stretch, walk.at) {
             Walked::Refused(wrong) => {
                 return Checked::Refused(wrong);
             }
-            Walked::To { next, size: more } => {
-                size += more;
-                at = next;
-                k += 1;
+            Walked::To { next, size } => {
+                walk = walk.past(next, size);
             }
         }
     }
-    match closed(stretch, at, segments) {
+    match walk.end(stretch) {
         Verdict::Refused(wrong) => Checked::Refused(wrong),
-        Verdict::Sound => Checked::Sound { segments, size },
+        Verdict::Sound => Checked::Sound {
+            segments: walk.count,
+            size: walk.size,
+        },
     }
 }

@@ -1,8 +1,9 @@
 // Places in a stretch that was checked: its segments and variants are stepped over, not read again.
+use layout::FIRST_LETTER;
+use layout::FIRST_SEGMENT;
+use layout::FIRST_VARIANT;
 use layout::number::wide;
 use layout::number::word_at;
-use layout::pieces::FIRST_SEGMENT;
-use layout::pieces::FIRST_VARIANT;
 ghost use Prim.Native.Nat.{_≤_};
 ghost use mathlib.Core.Path.{_≡_};
 ghost use lib.ListN.{length};
@@ -17,7 +18,7 @@ pub fn behind_variants(stretch: &[u8], k: usize, first: usize) -> usize
     let mut i = 0;
     while i < k {
         let letters = word_at(stretch, at);
-        at = at + 2 + letters;
+        at = at + FIRST_LETTER + letters;
         i += 1;
     }
     at

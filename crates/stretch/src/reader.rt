@@ -4,7 +4,7 @@ use crate::reading::letters;
 use crate::reading::read;
 ghost use mathlib.Core.Path.{_≡_};
 ghost use Rattle.stretch.specs.Places.{reading, partOf};
-ghost use Rattle.stretch.specs.Answers.{toldGot, answerGot, answerReading};
+ghost use Rattle.stretch.specs.Answers.{toldGot};
 
 // A stretch and a place in it. Any bytes and any two numbers are fine, as for `read`.
 pub struct Reader<'a> {
@@ -27,8 +27,7 @@ impl<'a> Reader<'a> {
 
     // The first variant at or after its place.
     pub fn read(self) -> Got
-        ensures { λ r. ⌜ (toldGot r ≡ reading (now (self .entry .stretch)) (self .entry .segment) (self .entry .variant))
-            × (answerGot r ≡ answerReading (reading (now (self .entry .stretch)) (self .entry .segment) (self .entry .variant))) ⌝ }
+        ensures { λ r. ⌜ toldGot r ≡ reading (now (self .entry .stretch)) (self .entry .segment) (self .entry .variant) ⌝ }
     {
         read(self.stretch, self.segment, self.variant)
     }
@@ -55,8 +54,7 @@ impl<'a> Reader<'a> {
 
 // What a reader answers at a place, said of the plain stretch: whoever calls this needs to know nothing of readers.
 pub fn read_from(stretch: &[u8], segment: usize, variant: usize) -> Got
-    ensures { λ r. ⌜ (toldGot r ≡ reading (now (stretch .entry)) segment variant)
-        × (answerGot r ≡ answerReading (reading (now (stretch .entry)) segment variant)) ⌝ }
+    ensures { λ r. ⌜ toldGot r ≡ reading (now (stretch .entry)) segment variant ⌝ }
 {
     Reader::new(stretch).moved(segment, variant).read()
 }

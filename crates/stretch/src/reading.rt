@@ -4,9 +4,10 @@ use crate::checking::Checked;
 use crate::checking::check;
 use crate::places::behind_variants;
 use crate::places::segment_place;
+use layout::FIRST_LETTER;
+use layout::FIRST_VARIANT;
 use layout::number::wide;
 use layout::number::word_at;
-use layout::pieces::FIRST_VARIANT;
 use text::Refusal;
 ghost use Prim.Native.Nat.{_+_, _<_, _≤_};
 ghost use mathlib.Core.Path.{_≡_};
@@ -14,7 +15,7 @@ ghost use lib.ListN.{length};
 ghost use Rattle.layout.specs.Pieces.{nextOf};
 ghost use Rattle.layout.specs.Skips.{behindVariants};
 ghost use Rattle.stretch.specs.Places.{reading, partOf};
-ghost use Rattle.stretch.specs.Answers.{Accepted, toldGot, answerGot, answerReading, handedAt};
+ghost use Rattle.stretch.specs.Answers.{Accepted, toldGot, handedAt};
 
 // What a read finds, and the place that goes with it.
 pub enum Got {
@@ -45,7 +46,7 @@ fn handed(stretch: &[u8], at: usize, segment: usize, variant: usize) -> Got
 {
     let place = behind_variants(stretch, variant, at + FIRST_VARIANT);
     Got::Variant {
-        start: place + 2,
+        start: place + FIRST_LETTER,
         len: word_at(stretch, place),
         segment,
         variant: variant + 1,
@@ -74,8 +75,7 @@ fn from_place(stretch: &[u8], segments: usize, segment: usize, variant: usize) -
 
 // The first variant at or after a place. Refusals 4, 5 to 9 and 16.
 pub fn read(stretch: &[u8], segment: usize, variant: usize) -> Got
-    ensures { λ r. ⌜ (toldGot r ≡ reading (now (stretch .entry)) segment variant)
-        × (answerGot r ≡ answerReading (reading (now (stretch .entry)) segment variant)) ⌝ }
+    ensures { λ r. ⌜ toldGot r ≡ reading (now (stretch .entry)) segment variant ⌝ }
 {
     match check(stretch) {
         Checked::Refused(refusal) => Got::Refused {

@@ -2,8 +2,8 @@
 use layout::cursor::Cursor;
 use layout::cursor::Entered;
 use layout::pieces::Part;
-use layout::pieces::Verdict;
 use text::Refusal;
+use text::Verdict;
 use text::spelling::any_wrong_by;
 ghost use mathlib.Core.Path.{_≡_};
 ghost use Rattle.text.specs.Letter.{Classes};

@@ -13,26 +13,26 @@ use test_tally::Tally;
 use test_tally::report;
 
 // Where a line starts and ends, and its group.
-pub struct Line {
+pub struct ExampleLine {
     pub start: usize,
     pub end: usize,
     pub group: usize,
 }
 
-impl Line {
+impl ExampleLine {
     // Before the first line: its end is the place before place 0, and its group that before group 0, both counted modulo their number.
-    pub const NONE: Line = Line {
+    pub const NONE: ExampleLine = ExampleLine {
         start: 0,
         end: 18446744073709551615,
         group: GROUPS - 1,
     };
 
     // The line after it, or an empty one after the last.
-    pub fn next(self, input: &[u8]) -> Line {
+    pub fn next(self, input: &[u8]) -> ExampleLine {
         let start = wrapping_add_usize(self.end, 1);
         let end = find(input, start, b'\n');
         let heads = (number_at(input, start) == 61) as usize;
-        Line {
+        ExampleLine {
             start,
             end,
             group: wrapping_add_usize(self.group, heads),
@@ -66,7 +66,7 @@ fn put_name(out: &mut [u8], at: usize, line: &[u8]) -> usize {
 
 // Puts the names of all headings, a line each.
 fn put_names(out: &mut [u8], input: &[u8]) {
-    let mut line = Line::NONE;
+    let mut line = ExampleLine::NONE;
     let mut at = 0;
     let mut k = 0;
     while k < input.len() {

@@ -7,6 +7,6 @@ pub mod notation;
 pub use given::pattern;
 pub use given::strand;
 pub use given::wanted;
-pub use headings::Line;
+pub use headings::ExampleLine;
 pub use headings::call;
 pub use headings::tell;

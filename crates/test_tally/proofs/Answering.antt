@@ -8,16 +8,13 @@ use borrow.Author.Tests.{eq-eqb, ne-eqb}
 use Rattle.text.specs.Compare.{same}
 use Rattle.text.proofs.Strings.{same-eq, eq-same}
 use Rattle.text.proofs.Truth.{not-true-false}
-use Rattle.stretch.specs.Answers.{answerGot}
 use Rattle.stretch.specs.declared.reading.Got.{Got}
-use Rattle.search.specs.Answers.{answerFed}
 use Rattle.search.specs.declared.state.State.{State}
 use Rattle.search.specs.declared.state.Fed.{Fed}
 use Rattle.test_tally.specs.Answers.{refusedAs, toldAs, heldAs, gotAs, fedAs}
 use Rattle.test_tally.specs.declared.answers.Answer.{Answer}
 
 pub fed-told : (r : Fed) (s : State) (b : Bool) → r ≡ Fed.Next s b → toldAs (s .bits) (boolByte b) 0 ≡ fedAs r
-unfolding answerFed
 fed-told r s true e = sym (ap fedAs e)
 fed-told r s false e = sym (ap fedAs e)
 
@@ -26,7 +23,6 @@ module _ (r : Got) (letters start len j v : ℕ) (e : r ≡ Got.Variant start le
   got-other h = rw (e, ne-eqb len letters h)
 
   pub got-part : len ≡ letters → toldAs start j v ≡ gotAs r letters
-  unfolding answerGot
   got-part h = rw (e, eq-eqb len letters h)
 
 module _ (a : Answer) (buffer wanted : List ℕ) (t : Bool) (f : (t ≡ true → buffer ≡ wanted) × (buffer ≡ wanted → t ≡ true)) where

@@ -2,7 +2,7 @@
 // after = or ! what it is to answer. Prints how many there were of each group, the first that differs, and the counts.
 mod windows;
 
-use test_examples::Line;
+use test_examples::ExampleLine;
 use test_examples::call;
 use test_examples::tell;
 use test_examples::wanted;
@@ -30,7 +30,7 @@ fn judge(tally: Tally, group: usize, line: &[u8]) -> Tally {
 // Every line of the input, known by its number from 1 on.
 fn judged(input: &[u8]) -> Tally {
     let mut tally = Tally::NONE;
-    let mut line = Line::NONE;
+    let mut line = ExampleLine::NONE;
     let mut k = 0;
     while k < input.len() {
         line = line.next(input);

@@ -4,6 +4,7 @@ pub mod Theorems
 pub mod Truth
 pub mod Tests
 pub mod Each
+pub mod PartsOfLists
 pub mod Outcomes
 pub mod Letters
 pub mod Meanings

@@ -7,14 +7,8 @@ use mathlib.Core.List.{List}
 use borrow.Author.Tests.{ltb-true, leb-true, lt-ltb, le-leb, lt-leb, not-true, not-false}
 use lib.ListN.{length}
 use Rattle.text.specs.Letter.{base, every, firstNot}
-use Rattle.text.specs.Refusal.{Outcome, ok, refused, after, pattern}
+use Rattle.text.specs.Refusal.{Outcome, ok, refused, after, pattern, SoundPattern}
 use Rattle.text.proofs.Outcomes.{demand-met, after-demand}
-
--- 1 to 64 bases
-pub record SoundPattern (P : List ℕ) : Type 0 where
-  pub some : 0 < length P
-  pub short : length P ≤ 64
-  pub bases : every base P ≡ true
 
 module _ (P : List ℕ) where
   -- what is asked of a pattern is asked first

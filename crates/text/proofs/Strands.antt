@@ -11,14 +11,14 @@ use borrow.Author.Tests.{ne-eqb, le-leb, lt-leb}
 use lib.ListN.{length, getD, take, set}
 use Rattle.text.specs.Letter.{base, every}
 use Rattle.text.specs.Text.{Segment, Text}
-use Rattle.text.specs.Refusal.{Outcome, ok, refused, after, pattern}
+use Rattle.text.specs.Refusal.{Outcome, ok, refused, after, pattern, SoundPattern}
 use Rattle.text.specs.Card.{padded}
 use Rattle.text.specs.Strand.{complement, opposite, oppositeSegment, oppositeText, onStrand, readOn}
 use Rattle.text.specs.declared.strand.Strand.{Strand}
 use Rattle.text.specs.declared.strand.Strand.the-variants.{Given, Opposite}
 use Rattle.text.proofs.Truth.{and-comm}
 use Rattle.text.proofs.Letters.{every-snoc}
-use Rattle.text.proofs.Patterns.{SoundPattern, pattern-after, pattern-sound, sound-pattern}
+use Rattle.text.proofs.Patterns.{pattern-after, pattern-sound, sound-pattern}
 use Rattle.text.proofs.Cards.{take-padded}
 use Rattle.text.proofs.Padding.{Padding, padding-more, padding-all}
 use Rattle.text.proofs.Turned.{turned-cons, turned-append, turned-length, turned-twice, turned-at}

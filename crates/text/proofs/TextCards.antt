@@ -16,11 +16,10 @@ use Rattle.text.specs.Text.{Text}
 use Rattle.text.specs.Occurrence.{EndsIn, Passes, Finishes}
 use Rattle.text.specs.Bits.{bit}
 use Rattle.text.specs.State.{isState, run, marksFrom}
-use Rattle.text.specs.Refusal.{ok, greatestPattern}
+use Rattle.text.specs.Refusal.{ok, greatestPattern, SoundPattern}
 use Rattle.text.specs.Card.{Row, none, dead, row, later, firstEnd, ran, rowsOf, cardOf, emptyCard, follow, onward, through, joined}
 use Rattle.text.specs.Card.{join, ask, padded, mostSegments}
 use Rattle.text.proofs.Truth.{and-right}
-use Rattle.text.proofs.Patterns.{SoundPattern}
 use Rattle.text.proofs.Bits.{bit-single, lone-bit}
 use Rattle.text.proofs.Steps.{Carries, afresh, carrying}
 use Rattle.text.proofs.Runs.{Begun, run-open, run-lt, run-is, is-run}

@@ -10,12 +10,11 @@ use Rattle.text.specs.Text.{Text}
 use Rattle.text.specs.Occurrence.{Inside, Spells, EndsIn, Occurs, BeginsIn, CarriedOut, Passes, Finishes}
 use Rattle.text.specs.Bits.{bit}
 use Rattle.text.specs.State.{isState, fresh, run, marksFrom, marks}
-use Rattle.text.specs.Refusal.{Outcome, ok, after, greatestPattern, pattern}
+use Rattle.text.specs.Refusal.{Outcome, ok, after, greatestPattern, pattern, SoundPattern}
 use Rattle.text.specs.Card.{Card, mostSegments, row, padded, ran, cardOf, emptyCard, wellFormed, joined, samePattern, join, ask}
 use Rattle.text.specs.Strand.{opposite, oppositeText, facing, onStrand, readOn}
 use Rattle.text.specs.declared.strand.Strand.{Strand}
 use Rattle.text.proofs.Outcomes.{SameFate}
-use Rattle.text.proofs.Patterns.{SoundPattern}
 use Rattle.text.proofs.Runs.{Begun}
 use Rattle.text.proofs.Marks
 use Rattle.text.proofs.Occurrences

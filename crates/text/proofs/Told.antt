@@ -1,15 +1,25 @@
 -- Answers that are told alike are the same answer.
 use Prim.Native.Nat.{ℕ}
-use mathlib.Core.Path.{_≡_, refl, ap₂}
-use Rattle.text.specs.Refusal.{toldPattern}
-use Rattle.text.specs.declared.pattern.PatternIs.{PatternIs}
-use Rattle.text.specs.declared.pattern.PatternIs.the-variants.{Sound, Refused}
+use mathlib.Core.Path.{_≡_, refl, sym, ap}
+use Rattle.text.specs.Refusal.{Outcome, refused, toldVerdict, toldAmount}
+use Rattle.text.specs.declared.refusal.Refusal.{Refusal}
+use Rattle.text.specs.declared.verdict.Verdict.{Verdict}
+use Rattle.text.specs.declared.verdict.Amount.{Amount}
+use Rattle.text.proofs.Outcomes.{refused-ok, refused-inj, ok-inj}
 
-pub pattern-once : (a b : PatternIs) → toldPattern a ≡ toldPattern b → a ≡ b
-pattern-once Sound Sound e = refl
-pattern-once Sound (Refused r) e = cc
-pattern-once (Refused r) Sound e = cc
-pattern-once (Refused r) (Refused s) e =
-    let n : r .number ≡ s .number = cc in
-    let p : r .place ≡ s .place = cc in
-    ap₂ (λ (a b : ℕ). Refused (record { number = a; place = b })) n p
+-- a refusal is its number and its place
+pub same-refusal :
+    {A : Type 0} (r s : Refusal) → _≡_ {A = Outcome A} (refused (r .number) (r .place)) (refused (s .number) (s .place)) → r ≡ s
+same-refusal r s e = let i = refused-inj e in λ k. record { number = i .0 k; place = i .1 k }
+
+pub verdict-once : (a b : Verdict) → toldVerdict a ≡ toldVerdict b → a ≡ b
+verdict-once Verdict.Sound Verdict.Sound e = refl
+verdict-once Verdict.Sound (Verdict.Refused r) e = absurd (refused-ok (r .number) (r .place) tt (sym e))
+verdict-once (Verdict.Refused r) Verdict.Sound e = absurd (refused-ok (r .number) (r .place) tt e)
+verdict-once (Verdict.Refused r) (Verdict.Refused s) e = ap Verdict.Refused (same-refusal r s e)
+
+pub amount-once : (a b : Amount) → toldAmount a ≡ toldAmount b → a ≡ b
+amount-once (Amount.Is n) (Amount.Is m) e = ap Amount.Is (ok-inj e)
+amount-once (Amount.Is n) (Amount.Refused r) e = absurd (refused-ok (r .number) (r .place) n (sym e))
+amount-once (Amount.Refused r) (Amount.Is n) e = absurd (refused-ok (r .number) (r .place) n e)
+amount-once (Amount.Refused r) (Amount.Refused s) e = ap Amount.Refused (same-refusal r s e)

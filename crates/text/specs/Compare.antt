@@ -1,4 +1,4 @@
--- Tests on strings, by recursion, so that examples compute.
+-- Tests on strings, by recursion, so that examples compute; and a part of one.
 use Prim.Native.Nat.{ℕ, _-_}
 use mathlib.Core.Bool.{Bool, true, false, _||_, _&&_}
 use mathlib.Core.List.{List, [], _∷_}
@@ -29,3 +29,7 @@ suffix p s = same p (drop (length s - length p) s)
 unfoldable pub inside : List ℕ → List ℕ → Bool
 inside p [] = prefix p []
 inside p (c ∷ s) = prefix p (c ∷ s) || inside p s
+
+-- the bytes from one place up to another, as far as they are there
+abbrev pub fromTo : List ℕ → ℕ → ℕ → List ℕ
+fromTo l start end = take (end - start) (drop start l)

@@ -1,12 +1,15 @@
 -- Answers that may refuse, and the order of refusals as a chain of demands.
-use Prim.Native.Nat.{ℕ}
+use Prim.Native.Nat.{ℕ, _<_, _≤_}
+use mathlib.Core.Path.{_≡_}
 use mathlib.Core.Bool.{Bool, true, false}
 use mathlib.Core.List.{List}
 use lib.Dec.{leb, ltb}
 use lib.ListN.{length}
 use Rattle.text.specs.Letter.{base, every, firstNot}
-use Rattle.text.specs.declared.pattern.PatternIs.{PatternIs}
-use Rattle.text.specs.declared.pattern.PatternIs.the-variants.{Sound, Refused}
+use Rattle.text.specs.declared.verdict.Verdict.{Verdict}
+use Rattle.text.specs.declared.verdict.Verdict.the-variants.{Sound}
+use Rattle.text.specs.declared.verdict.Amount.{Amount}
+use Rattle.text.specs.declared.verdict.Amount.the-variants.{Is}
 
 -- a value, or document 01's number and place
 pub data Outcome (A : Type 0) : Type 0 where
@@ -45,7 +48,17 @@ pattern P o =
     (demand (every base P) 3 (firstNot base P)
     o))
 
--- what the answer of a pattern's check says
-abbrev pub toldPattern : PatternIs → Outcome (Unit {0})
-toldPattern Sound = ok tt
-toldPattern (Refused r) = refused (r .number) (r .place)
+-- such a pattern
+pub record SoundPattern (P : List ℕ) : Type 0 where
+  pub some : 0 < length P
+  pub short : length P ≤ greatestPattern
+  pub bases : every base P ≡ true
+
+-- what a verdict and an amount tell
+abbrev pub toldVerdict : Verdict → Outcome (Unit {0})
+toldVerdict Sound = ok tt
+toldVerdict (Verdict.Refused r) = refused (r .number) (r .place)
+
+abbrev pub toldAmount : Amount → Outcome ℕ
+toldAmount (Is n) = ok n
+toldAmount (Amount.Refused r) = refused (r .number) (r .place)

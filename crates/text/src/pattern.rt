@@ -2,16 +2,12 @@
 ghost use mathlib.Core.Path.{_≡_};
 ghost use mathlib.Core.Bool.{not};
 ghost use Rattle.text.specs.Letter.{base, every, firstNot};
-ghost use Rattle.text.specs.Refusal.{ok, pattern, toldPattern};
+ghost use Rattle.text.specs.Refusal.{ok, pattern, toldVerdict};
 use crate::letter::is_base;
+use crate::limits;
 use crate::refusal;
 use crate::refusal::Refusal;
-
-// Whether bytes are a pattern.
-pub enum PatternIs {
-    Sound,
-    Refused(Refusal),
-}
+use crate::verdict::Verdict;
 
 // The place of the first byte that is no base; the length where every byte is one.
 fn first_other(bytes: &[u8]) -> usize
@@ -50,27 +46,27 @@ fn any_other(bytes: &[u8]) -> bool
 }
 
 // Refusals 1, 2 and 3, asked in this order.
-pub fn check(bytes: &[u8]) -> PatternIs
-    ensures { λ r. ⌜ toldPattern r ≡ pattern (now (bytes .entry)) (ok tt) ⌝ }
+pub fn check(bytes: &[u8]) -> Verdict
+    ensures { λ r. ⌜ toldVerdict r ≡ pattern (now (bytes .entry)) (ok tt) ⌝ }
 {
     let m = bytes.len();
     if m == 0 {
-        return PatternIs::Refused(Refusal {
+        return Verdict::Refused(Refusal {
             number: refusal::PATTERN_EMPTY,
             place: 0,
         });
     }
-    if refusal::GREATEST_PATTERN < m {
-        return PatternIs::Refused(Refusal {
+    if limits::GREATEST_PATTERN < m {
+        return Verdict::Refused(Refusal {
             number: refusal::PATTERN_LONG,
             place: 0,
         });
     }
     if any_other(bytes) {
-        return PatternIs::Refused(Refusal {
+        return Verdict::Refused(Refusal {
             number: refusal::PATTERN_BYTE,
             place: first_other(bytes),
         });
     }
-    PatternIs::Sound
+    Verdict::Sound
 }

@@ -1,5 +1,4 @@
-// Refusals: the documents' numbers, the place that goes with a number, and the limits that they speak of. Accepted is number 0 at
-// place 0.
+// Refusals: the documents' numbers, and the place that goes with a number. Accepted is number 0 at place 0.
 pub struct Refusal {
     pub number: u64,
     pub place: usize,
@@ -49,14 +48,3 @@ pub const LIST_LONG: u64 = 20;
 pub const WATCHED_WRONG: u64 = 21;
 // A window begins at position 0, or has a base beyond the last position.
 pub const WINDOW_PLACE: u64 = 28;
-
-// The most bases of a pattern.
-pub const GREATEST_PATTERN: usize = 64;
-// The most bytes of a stretch or a lone segment.
-pub const GREATEST_STRETCH: usize = 32768;
-// The most segments of a stretch.
-pub const MOST_IN_STRETCH: usize = 10922;
-// The most records of a watch list.
-pub const MOST_WATCHED: usize = 32;
-// What stands for a segment's number where nothing ends.
-pub const NO_SEGMENT: usize = 4294967295;

@@ -5,7 +5,7 @@ ghost use lib.ListN.{length};
 ghost use Rattle.text.specs.Refusal.{greatestPattern};
 ghost use Rattle.text.specs.Card.{padded};
 ghost use Rattle.text.specs.Strand.{complement, opposite, readOn};
-use crate::refusal;
+use crate::limits;
 
 // The strand on which a pattern is read.
 pub enum Strand {
@@ -27,12 +27,12 @@ pub fn complement(c: u8) -> u8
 }
 
 // The pattern as a strand reads it, then zeros; of over 64 bytes the first 64, as they stand.
-pub fn read_on(strand: Strand, pattern: &[u8]) -> [u8; refusal::GREATEST_PATTERN]
+pub fn read_on(strand: Strand, pattern: &[u8]) -> [u8; limits::GREATEST_PATTERN]
     ensures { λ r. ⌜ r ≡ readOn strand (now (pattern .entry)) ⌝ }
 {
     let m = pattern.len();
-    if refusal::GREATEST_PATTERN < m {
-        let end = refusal::GREATEST_PATTERN;
+    if limits::GREATEST_PATTERN < m {
+        let end = limits::GREATEST_PATTERN;
         return copied(&pattern[..end]);
     }
     match strand {
@@ -42,11 +42,11 @@ pub fn read_on(strand: Strand, pattern: &[u8]) -> [u8; refusal::GREATEST_PATTERN
 }
 
 // Up to 64 bytes as they stand, then zeros.
-fn copied(part: &[u8]) -> [u8; refusal::GREATEST_PATTERN]
+fn copied(part: &[u8]) -> [u8; limits::GREATEST_PATTERN]
     requires { ⌜ length (now part) ≤ greatestPattern ⌝ }
     ensures { λ r. ⌜ r ≡ padded (now (part .entry)) ⌝ }
 {
-    let mut bytes = [0u8; refusal::GREATEST_PATTERN];
+    let mut bytes = [0u8; limits::GREATEST_PATTERN];
     let mut i = 0;
     while i < part.len() {
         bytes[i] = part[i];
@@ -56,11 +56,11 @@ fn copied(part: &[u8]) -> [u8; refusal::GREATEST_PATTERN]
 }
 
 // The reverse complement of up to 64 bytes, then zeros.
-fn turned(part: &[u8]) -> [u8; refusal::GREATEST_PATTERN]
+fn turned(part: &[u8]) -> [u8; limits::GREATEST_PATTERN]
     requires { ⌜ length (now part) ≤ greatestPattern ⌝ }
     ensures { λ r. ⌜ r ≡ padded (opposite (now (part .entry))) ⌝ }
 {
-    let mut bytes = [0u8; refusal::GREATEST_PATTERN];
+    let mut bytes = [0u8; limits::GREATEST_PATTERN];
     let mut i = 0;
     while i < part.len() {
         let from = part.len() - 1 - i;

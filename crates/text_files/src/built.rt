@@ -1,16 +1,15 @@
 // What of a text is written so far, with the manifest's lines in a buffer: they are written last, after their head.
-use desk_list::part;
 use files::folder;
 use files::write_aside;
 use files::write_new;
-use layout::pieces::Opened;
-use layout::pieces::open;
+use layout::walk::stated;
 use lines::is_numbered;
 use lines::put_bytes;
 use lines::put_numbered;
 use manifest::put_end;
 use manifest::put_head;
 use manifest::put_stretch;
+use text::part;
 
 // The head is put in front of the lines when these are all there: its first line, and what it says of the text's making.
 const HEAD: usize = 16384;
@@ -63,20 +62,12 @@ pub fn is_nameable(out: &[u8]) -> bool {
     false
 }
 
-// The number of segments that a stretch begins with.
-fn segments_of(stretch: &[u8]) -> u64 {
-    match open(stretch) {
-        Opened::Segments(n) => n as u64,
-        Opened::Refused(_) => 0,
-    }
-}
-
 // With the stretch of this name, which is written, and its line.
 fn with_line(built: Built, stretch: &[u8], name: &[u8], text: &mut [u8]) -> Built {
     let end = put_stretch(stretch, name, &mut *text, built.end);
     Built {
         stretches: std::num::wrapping_add_u64(built.stretches, 1),
-        segments: std::num::wrapping_add_u64(built.segments, segments_of(stretch)),
+        segments: std::num::wrapping_add_u64(built.segments, stated(stretch) as u64),
         bytes: std::num::wrapping_add_u64(built.bytes, stretch.len() as u64),
         end,
         whole: built.whole,

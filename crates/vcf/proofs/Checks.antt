@@ -22,8 +22,8 @@ use Rattle.vcf.specs.Building.{textFrom, windowText, building}
 use Rattle.vcf.specs.Tallies.{nothing, tallyText}
 use Rattle.vcf.specs.Steps.{Starting, scanFrom, scanning}
 use Rattle.vcf.specs.Surveys.{Readable, Built, Unbuilt}
-use Rattle.vcf.specs.declared.survey.tally.Tally.{Tally}
-use Rattle.vcf.specs.declared.survey.tally.Tally.the-variants.{Fits, Repeated, Long}
+use Rattle.vcf.specs.declared.survey.needed.Needed.{Needed}
+use Rattle.vcf.specs.declared.survey.needed.Needed.the-variants.{Fits, Repeated, Long}
 use Rattle.vcf.proofs.Verdicts.{told-long, told-repeated, told-fits, Fitting}
 
 module _ (file window : List ℕ) (p : ℕ) (name : List ℕ) where
@@ -66,18 +66,18 @@ module _ (file window : List ℕ) (p : ℕ) (name : List ℕ) where
             = told-refused (records name w p 1 0 (lines file)) (λ rs. tallyText nothing (textFrom w p 0 rs)) 19 k e in
             record { always = λ room. from-records room ∙ rw h }
 
-        module _ (t : Tally) (e : scanning name w p file ≡ ok t) where
-          -- the records, and the tally of their text
+        module _ (t : Needed) (e : scanning name w p file ≡ ok t) where
+          -- the records, and the needed of their text
           pub record Tallied : Type 0 where
             pub kept : List (List ℕ)
             pub accepted : records name w p 1 0 (lines file) ≡ ok kept
-            pub tally : tallyText nothing (textFrom w p 0 kept) ≡ t
+            pub needed : tallyText nothing (textFrom w p 0 kept) ≡ t
 
           keeps : Tallied
           unfolding scanning scanFrom
           keeps =
               let m = told-met (records name w p 1 0 (lines file)) (λ rs. tallyText nothing (textFrom w p 0 rs)) t e in
-              record { kept = m .0; accepted = m .1; tally = m .2 }
+              record { kept = m .0; accepted = m .1; needed = m .2 }
 
           abbrev T : Text
           T = textFrom w p 0 (keeps .kept)
@@ -86,10 +86,10 @@ module _ (file window : List ℕ) (p : ℕ) (name : List ℕ) where
           from-text room = from-records room ∙ rw (keeps .accepted)
 
           pub survey-long : t ≡ Long → Unbuilt file window p name 4 0
-          survey-long f = record { always = λ room. from-text room ∙ told-long T room (keeps .tally ∙ f) }
+          survey-long f = record { always = λ room. from-text room ∙ told-long T room (keeps .needed ∙ f) }
 
           pub survey-repeated : (b k : ℕ) → t ≡ Repeated b k → Unbuilt file window p name 8 k
-          survey-repeated b k f = record { always = λ room. from-text room ∙ told-repeated T room b k (keeps .tally ∙ f) }
+          survey-repeated b k f = record { always = λ room. from-text room ∙ told-repeated T room b k (keeps .needed ∙ f) }
 
           -- the records are the lines that have a base in the window
           of-lines : keeps .kept ≡ touching w p (lines file)
@@ -97,7 +97,7 @@ module _ (file window : List ℕ) (p : ℕ) (name : List ℕ) where
 
           module _ (b g v : ℕ) (f : t ≡ Fits b g v) where
             fit : (room : ℕ) → Fitting T room b g
-            fit room = told-fits T room b g v (keeps .tally ∙ f)
+            fit room = told-fits T room b g v (keeps .needed ∙ f)
 
             short : (room : ℕ) → room < b → answer room ≡ refused 15 0
             short room m = from-text room ∙ fit room .asks ∙ rw (lt-leb b room m)

@@ -1,12 +1,12 @@
 -- Laws of the second pass: pieces of the text are put one after another.
-use Prim.Native.Nat.{ℕ, suc, _+_, _-_, _%_, _<_, _≤_}
+use Prim.Native.Nat.{ℕ, suc, _+_, _-_, _<_, _≤_}
 use native.Mathlib.Omega.{arith}
 use mathlib.Core.Path.{_≡_, refl, sym, ap, _∙_}
 use mathlib.Core.Logic.{by-cases}
 use native.Mathlib.Decide.{decLt}
 use mathlib.Core.Bool.{true, false}
 use mathlib.Core.List.{List, [], _∷_, _++_, append-nil}
-use lib.ListN.{length, drop, set, length-append, length-take, length-drop, length-set}
+use lib.ListN.{length, drop, length-append, length-take, length-drop}
 use borrow.Author.Tests.{le-ltb, lt-ltb}
 use Rattle.text.specs.Text.{Variant}
 use Rattle.text.specs.Letter.{meant}
@@ -15,8 +15,9 @@ use Rattle.layout.specs.Bytes.{over, put, part}
 use Rattle.layout.proofs.Raised.{part-meant}
 use Rattle.layout.proofs.Lengths.{length-variant}
 use Rattle.layout.specs.Encoding.{bytesOf, encodeVariant, encodeSegment}
+use Rattle.layout.specs.Sizes.{segmentBytes, afterVariant, countBytes}
 use Rattle.layout.proofs.Overs.{Emitted, emitted-none, emitted-length, emitted-room, emitted-more, emitted-end}
-use Rattle.layout.proofs.Overs.{over-none, over-set, over-over, put-over}
+use Rattle.layout.proofs.Overs.{over-none, length-over, over-over, put-over, count-over}
 use Rattle.vcf.specs.Pieces.{pieces, endOf, Ends}
 use Rattle.vcf.specs.Records.{none, alternates}
 use Rattle.vcf.specs.Emission.{gapOf}
@@ -48,19 +49,21 @@ module _ (v : List ℕ) (d : List ℕ) (at : ℕ) where
         rw (meant-length v, lt-ltb 0 (length v) (omega (arith, some)))
         (ap (λ (x : List ℕ). 1 ∷ x) (append-nil (own ++ []) ∙ append-nil own))
 
-    pub gap-size : length bytes ≡ 3 + length v
+    pub gap-size : length bytes ≡ segmentBytes (length v) 1
     gap-size = ap length gap-is ∙ omega (arith, length-variant (meant v), meant-length v)
 
     pub gap-put :
-        at + length bytes ≤ length d → (x : List ℕ) → x ≡ put (set d at 1) (at + 1) (encodeVariant (meant v)) → x ≡ over d at bytes
-    gap-put l x e =
+        at + length bytes ≤ length d → (y x : List ℕ) → y ≡ put d at (countBytes 1) → x ≡ put y (at + 1) (encodeVariant (meant v)) →
+        x ≡ over d at bytes
+    gap-put l y x c e =
         let one : List ℕ = 1 ∷ [] in
         let own : List ℕ = encodeVariant (meant v) in
-        let room : at < length d = omega (arith, gap-size) in
+        let here : at < length d = omega (arith, gap-size) in
         let rest : at + length one ≤ length d = omega (arith, gap-size) in
-        let fits : at + 1 + length own ≤ length (set d at 1) =
-        rw length-set (omega (arith, gap-size, length-variant (meant v), meant-length v)) in
-        e ∙ put-over (set d at 1) (at + 1) own fits ∙ rw (over-set d at 1 room, gap-is) (over-over d at one rest own)
+        let counted : y ≡ over d at one = count-over d at (omega arith) here c in
+        let kept : length y ≡ length d = ap length counted ∙ length-over d at one rest in
+        let fits : at + 1 + length own ≤ length y = omega (arith, gap-size, length-variant (meant v), meant-length v) in
+        e ∙ put-over y (at + 1) own fits ∙ rw (counted, gap-is) (over-over d at one rest own)
 
 -- the alleles of ALT, as they are meant
 pub record Alleles (d : List ℕ) (at : ℕ) (a out : List ℕ) (next from : ℕ) : Type 0 where
@@ -110,7 +113,7 @@ module _ {d : List ℕ} {at : ℕ} {a out : List ℕ} {next from end : ℕ} (h :
       let n : end ≡ length a = omega arith in
       omega (arith, ap length (alleles-last n), length-append (encodeVariant here) []))
 
-  pub alleles-room : next + 2 + (end - from) ≤ length out
+  pub alleles-room : afterVariant next (end - from) ≤ length out
   alleles-room = omega (arith, emitted-room (h .emitted), alleles-size, length-variant here, here-size)
 
   pub alleles-kept : length out ≡ length d
@@ -122,20 +125,20 @@ module _ {d : List ℕ} {at : ℕ} {a out : List ℕ} {next from end : ℕ} (h :
         let fits : next + length (encodeVariant here) ≤ length out = omega (arith, alleles-room, length-variant here, here-size) in
         w ∙ rw (part-meant a from (end - from)) (put-over out next (encodeVariant here) fits)
 
-    step : next + (2 + (end - from)) ≡ next + length (encodeVariant here)
-    step = omega (arith, length-variant here, here-size)
+    module _ {then : ℕ} (p : then ≡ afterVariant next (end - from)) where
+      step : then ≡ next + length (encodeVariant here)
+      step = p ∙ omega (arith, length-variant here, here-size)
 
-    pub alleles-more : (end ≡ length a → ⊥) → Alleles d at a after (next + (2 + (end - from))) (end + 1)
-    alleles-more n =
-        let rest : List ℕ = more (pieces 0x2C (drop (end + 1) (meant a))) in
-        record { inside = omega (arith, n); emitted = emitted-more (h .emitted) (encodeVariant here) rest (alleles-next n) written step }
+      pub alleles-more : (end ≡ length a → ⊥) → Alleles d at a after then (end + 1)
+      alleles-more n =
+          let rest : List ℕ = more (pieces 0x2C (drop (end + 1) (meant a))) in
+          record { inside = omega (arith, n); emitted = emitted-more (h .emitted) (encodeVariant here) rest (alleles-next n) written step }
 
-    pub alleles-end :
-        end ≡ length a →
-        (next + (2 + (end - from)) ≡ at + length (more (pieces 0x2C (meant a)))) × (after ≡ over d at (more (pieces 0x2C (meant a))))
-    alleles-end n =
-        let e = emitted-more (h .emitted) (encodeVariant here) [] (alleles-last n) written step in
-        (emitted-place e refl, emitted-end e refl)
+      pub alleles-end :
+          end ≡ length a → (then ≡ at + length (more (pieces 0x2C (meant a)))) × (after ≡ over d at (more (pieces 0x2C (meant a))))
+      alleles-end n =
+          let e = emitted-more (h .emitted) (encodeVariant here) [] (alleles-last n) written step in
+          (emitted-place e refl, emitted-end e refl)
 
 -- a record's segment: its REF and the alleles of its ALT, as they are meant
 abbrev pub segmentOf : List ℕ → List ℕ → List ℕ
@@ -157,32 +160,35 @@ module _ (ref a : List ℕ) where
   unfolding encodeSegment bytesOf own
   segment-is = refl
 
-  pub segment-size : length (segmentOf ref a) ≡ 3 + length ref + length (allelesOf a)
+  pub segment-size : length (segmentOf ref a) ≡ segmentBytes (length ref) 1 + length (allelesOf a)
   segment-size = ap length segment-is ∙ omega (arith, length-append own (allelesOf a), own-size)
 
   -- put piece by piece
   module _ (d : List ℕ) (at : ℕ) (room : at + length (segmentOf ref a) ≤ length d) (k : ℕ) (count : k ≡ suc (length (alternates (meant a))))
-      (x : List ℕ) (first : x ≡ put (set d at k) (at + 1) (encodeVariant (meant ref))) where
+      (few : k ≤ 255) (y : List ℕ) (head : y ≡ put d at (countBytes k)) (x : List ℕ)
+      (first : x ≡ put y (at + 1) (encodeVariant (meant ref))) where
     begun : x ≡ over d at ((k ∷ []) ++ own)
     unfolding own
     begun =
         let one : List ℕ = k ∷ [] in
-        let r : at < length d = omega (arith, segment-size) in
-        let s : at + length one ≤ length d = omega (arith, segment-size) in
-        let fits : at + 1 + length own ≤ length (set d at k) = rw length-set (omega (arith, segment-size, own-size)) in
-        first ∙ put-over (set d at k) (at + 1) own fits ∙ rw (over-set d at k r) (over-over d at one s own)
+        let here : at < length d = omega (arith, segment-size) in
+        let rest : at + length one ≤ length d = omega (arith, segment-size) in
+        let counted : y ≡ over d at one = count-over d at few here head in
+        let kept : length y ≡ length d = ap length counted ∙ length-over d at one rest in
+        let fits : at + 1 + length own ≤ length y = omega (arith, segment-size, own-size) in
+        first ∙ put-over y (at + 1) own fits ∙ rw counted (over-over d at one rest own)
 
-    pub segment-put : (y : List ℕ) → y ≡ over x (at + 3 + length ref) (allelesOf a) → y ≡ over d at (segmentOf ref a)
-    segment-put y e =
+    pub segment-put :
+        (z : List ℕ) → z ≡ over x (afterVariant (at + 1) (length ref)) (allelesOf a) → z ≡ over d at (segmentOf ref a)
+    segment-put z e =
         let front : List ℕ = (k ∷ []) ++ own in
-        let size : length front ≡ 3 + length ref = omega (arith, own-size) in
-        let place : at + 3 + length ref ≡ at + length front = omega arith in
-        let s : at + length front ≤ length d = omega (arith, segment-size) in
+        let place : afterVariant (at + 1) (length ref) ≡ at + length front = omega (arith, own-size) in
+        let s : at + length front ≤ length d = omega (arith, segment-size, own-size) in
         e ∙ rw (begun, place, segment-is, ← count) (over-over d at front s (allelesOf a))
 
     pub segment-put-none : none a ≡ true → x ≡ over d at (segmentOf ref a)
     unfolding alternates bytesOf
-    segment-put-none n = segment-put x (rw (none-meant a, n) (sym (over-none x (at + 3 + length ref))))
+    segment-put-none n = segment-put x (rw (none-meant a, n) (sym (over-none x (afterVariant (at + 1) (length ref)))))
 
 pub some-alternates : (a : List ℕ) → none a ≡ false → alternates (meant a) ≡ pieces 0x2C (meant a)
 unfolding alternates
@@ -192,10 +198,7 @@ no-alternates : (a : List ℕ) → none a ≡ true → alternates (meant a) ≡ 
 unfolding alternates
 no-alternates a e = rw (none-meant a, e)
 
-byte-of : (n : ℕ) → n ≤ 254 → (1 + n) % 256 ≡ suc n
-byte-of n l = omega arith
-
-pub none-size : (ref a : List ℕ) → none a ≡ true → length (segmentOf ref a) ≡ 3 + length ref
+pub none-size : (ref a : List ℕ) → none a ≡ true → length (segmentOf ref a) ≡ segmentBytes (length ref) 1
 unfolding bytesOf
 none-size ref a e =
     let z : length (allelesOf a) ≡ 0 = rw (no-alternates a e) in
@@ -207,10 +210,9 @@ one-more a e = rw (no-alternates a e)
 pub few-pieces : (a : List ℕ) → none a ≡ false → length (alternates (meant a)) ≤ 254 → length (pieces 0x2C a) ≤ 254
 few-pieces a e l = rw (some-alternates a e, comma-count a) at l
 
-pub counted-byte :
-    (a : List ℕ) → none a ≡ false → length (alternates (meant a)) ≤ 254 → (n : ℕ) → n ≡ length (pieces 0x2C a) →
-    (1 + n) % 256 ≡ suc (length (alternates (meant a)))
-counted-byte a e l n f = rw (some-alternates a e, comma-count a, ← f) (byte-of n (omega (arith, few-pieces a e l)))
+pub counted-all :
+    (a : List ℕ) → none a ≡ false → (n : ℕ) → n ≡ length (pieces 0x2C a) → 1 + n ≡ suc (length (alternates (meant a)))
+counted-all a e n f = rw (some-alternates a e, comma-count a, ← f) (omega arith)
 
 pub alleles-bytes : (a : List ℕ) → none a ≡ false → bytesOf encodeVariant (pieces 0x2C (meant a)) ≡ allelesOf a
 alleles-bytes a e = rw (some-alternates a e)

@@ -1,16 +1,17 @@
--- Laws of the definitions in specs/, and the theorems about the call.
+-- Laws of the definitions in specs/, and the theorems about the calls.
+pub mod Told
 pub mod Marks
 pub mod Meant
 pub mod Digits
 pub mod Alleles
 pub mod Windows
 pub mod Kept
-pub mod RecordsTheorems
-pub mod SurveyTheorems
 pub mod Tallying
 pub mod Scanning
 pub mod Verdicts
 pub mod Checks
+pub mod Alone
+pub mod AloneBuilt
 pub mod Theorems
 pub mod Emitting
 pub mod Lines

@@ -17,6 +17,7 @@ use Rattle.text.proofs.Outcomes.{ok-inj, demand-met, after-met}
 use Rattle.text.proofs.Truth.{and-left, and-right}
 use Rattle.layout.specs.Bytes.{wordBytes, over, part}
 use Rattle.layout.specs.Encoding.{all, bytesOf, encodeSegment, encode}
+use Rattle.layout.specs.Sizes.{firstSegment}
 use Rattle.layout.proofs.Rows.{bytes-append}
 use Rattle.layout.proofs.Overs.{Emitted, emitted-none, emitted-length, emitted-room, emitted-more, emitted-end, over-none, over-over}
 use Rattle.vcf.specs.Pieces.{pieces, lines, Ends, nextLine}
@@ -238,17 +239,17 @@ pub record Putting (w : List ℕ) (p : ℕ) (file d out : List ℕ) (base place 
   pub left : List (List ℕ)
   pub rest : records name w p number from (lines (drop at file)) ≡ ok left
   pub many : count ≡ length left
-  pub emitted : Emitted d 2 (bytes (windowText w p file)) out place (bytes (textFrom w p base left))
+  pub emitted : Emitted d firstSegment (bytes (windowText w p file)) out place (bytes (textFrom w p base left))
 
 module _ {w : List ℕ} {p : ℕ} {file : List ℕ} {start left segments room : ℕ} (r : Readable w p file start left segments room) where
-  size : length (encode (windowText w p file)) ≡ 2 + length (bytes (windowText w p file))
+  size : length (encode (windowText w p file)) ≡ firstSegment + length (bytes (windowText w p file))
   unfolding encode wordBytes
   size = length-append (wordBytes (length (windowText w p file))) (bytes (windowText w p file))
 
-  pub readable-room : 2 ≤ room
+  pub readable-room : firstSegment ≤ room
   readable-room = omega (arith, size, r .fits)
 
-  pub putting-none : (d : List ℕ) → length d ≡ room → Putting w p file d d 0 2 left start
+  pub putting-none : (d : List ℕ) → length d ≡ room → Putting w p file d d 0 firstSegment left start
   putting-none d e =
       record {
         put = r .put;
@@ -261,7 +262,7 @@ module _ {w : List ℕ} {p : ℕ} {file : List ℕ} {start left segments room : 
         left = touching w p (lines file);
         rest = r .accepted;
         many = r .many;
-        emitted = emitted-none d 2 (bytes (windowText w p file)) (omega (arith, size, r .fits));
+        emitted = emitted-none d firstSegment (bytes (windowText w p file)) (omega (arith, size, r .fits));
       }
 
 module _ {w : List ℕ} {p : ℕ} {file d out : List ℕ} {base place count at : ℕ} (h : Putting w p file d out base place count at) where
@@ -353,7 +354,7 @@ module _ {w : List ℕ} {p : ℕ} {file d out : List ℕ} {base place count at :
     unfolding encode wordBytes
     putting-end entry {segments = segments} r f after x =
         let T : Text = windowText w p file in
-        let whole : after ≡ over d 2 (bytes T) = emitted-end (emitted-more (h .emitted) last [] last-bytes x refl) refl in
-        let both : over (over entry 0 (wordBytes segments)) 2 (bytes T) ≡ over entry 0 (wordBytes segments ++ bytes T)
+        let whole : after ≡ over d firstSegment (bytes T) = emitted-end (emitted-more (h .emitted) last [] last-bytes x refl) refl in
+        let both : over (over entry 0 (wordBytes segments)) firstSegment (bytes T) ≡ over entry 0 (wordBytes segments ++ bytes T)
         = over-over entry 0 (wordBytes segments) (readable-room r) (bytes T) in
         whole ∙ rw f (both ∙ rw (r .count))

@@ -22,9 +22,9 @@ use Rattle.vcf.specs.Records.{placed}
 use Rattle.vcf.specs.Building.{gap, textFrom}
 use Rattle.vcf.specs.Tallies.{nothing, opened, tallied, tallyIn, tallyText}
 use Rattle.vcf.specs.Steps.{overRecord, behindRecord, lineStep, Reach, Starting, scanFrom, scanning}
-use Rattle.vcf.specs.declared.survey.tally.Tally.{Tally}
+use Rattle.vcf.specs.declared.survey.needed.Needed.{Needed}
 use Rattle.vcf.specs.declared.survey.scan.Reached.{Reached}
-use Rattle.vcf.specs.declared.survey.scan.Line.the-variants.{Passed, Wrong}
+use Rattle.vcf.specs.declared.survey.scan.Onward.the-variants.{Passed, Wrong}
 use Rattle.vcf.proofs.Marks.{lines-next, lines-none, next-behind}
 use Rattle.vcf.proofs.Meant.{alternates-meant}
 use Rattle.vcf.proofs.Digits.{position-small}
@@ -89,7 +89,7 @@ module _ (name w : List ℕ) (p : ℕ) (s : Reached) (l : List ℕ) where
           unfolding fitting
           fit c e = rw (sound, over, le-leb (s .from) (position l) (omega (arith, at))) (ap (λ (x : Bool). b || x) (rw (at, ← refd, e)))
 
-        pub step-over : true ≡ outside w p r end → Passed (record { from = end; base = s .base; kept = s .kept; tally = s .tally })
+        pub step-over : true ≡ outside w p r end → Passed (record { from = end; base = s .base; kept = s .kept; needed = s .needed })
             ≡ lineStep name w p s l
         unfolding lineStep
         step-over out = rw (plain, fit true out (agrees w p r ref) refl, over true out, ending)
@@ -109,17 +109,17 @@ module _ (name w : List ℕ) (p : ℕ) (s : Reached) (l : List ℕ) where
             step-bounds h = (lies .0, omega (arith, lies), omega (arith, lies, small))
 
             pub step-in :
-                (alt : List ℕ) → alt ≡ meant (field l 4) → (t u : Tally) →
-                t ≡ cond (ltb 0 (r - p - s .base)) (tallied (opened (s .tally)) (r - p - s .base) false) (s .tally) →
+                (alt : List ℕ) → alt ≡ meant (field l 4) → (t u : Needed) →
+                t ≡ cond (ltb 0 (r - p - s .base)) (tallied (opened (s .needed)) (r - p - s .base) false) (s .needed) →
                 u ≡ tallyIn (opened t) [] (ref ∷ alternates alt) →
-                Passed (record { from = end; base = end - p; kept = s .kept + 1; tally = u }) ≡ lineStep name w p s l
+                Passed (record { from = end; base = end - p; kept = s .kept + 1; needed = u }) ≡ lineStep name w p s l
             unfolding lineStep
             step-in alt a t u f g =
                 let whole : end ≡ behind l =
                 ending ∙ (let h : min beyond (behind l) ≡ behind l = omega (arith, lies, small, at, ap length refd) in h) in
                 let room : r - p ≤ length w = omega (arith, lies) in
-                let gapped : t ≡ tallyText (s .tally) (gap w (s .base) (r - p)) = f ∙ sym (gap-tally (s .tally) w (s .base) (r - p) room) in
-                let told : u ≡ tallyIn (opened (tallyText (s .tally) (gap w (s .base) (position l - p)))) [] (reference l ∷ alts l) =
+                let gapped : t ≡ tallyText (s .needed) (gap w (s .base) (r - p)) = f ∙ sym (gap-tally (s .needed) w (s .base) (r - p) room) in
+                let told : u ≡ tallyIn (opened (tallyText (s .needed) (gap w (s .base) (position l - p)))) [] (reference l ∷ alts l) =
                 g ∙ rw (gapped, refd, a, at, alternates-meant (field l 4)) in
                 let based : end - p ≡ behind l - p = ap (λ (x : ℕ). x - p) whole in
                 rw (plain, fit false out true e, over false out, told, based, ending)
@@ -158,10 +158,10 @@ fitting-capped name w p from g l e =
     (λ (h : from ≤ position l). omega (arith, position-small (field l 1))))
 
 module _ (name w : List ℕ) (p : ℕ) (s : Reached) (l : List ℕ) (n g : ℕ) (capped : s .from ≡ min beyond g) (ls : List (List ℕ)) where
-  abbrev whole : Outcome Tally
-  whole = scanFrom name w p n g (s .base) (s .tally) (l ∷ ls)
+  abbrev whole : Outcome Needed
+  whole = scanFrom name w p n g (s .base) (s .needed) (l ∷ ls)
 
-  turn-comment : comment l ≡ true → whole ≡ scanFrom name w p (suc n) g (s .base) (s .tally) ls
+  turn-comment : comment l ≡ true → whole ≡ scanFrom name w p (suc n) g (s .base) (s .needed) ls
   unfolding scanFrom records
   turn-comment e = rw e
 
@@ -174,23 +174,23 @@ module _ (name w : List ℕ) (p : ℕ) (s : Reached) (l : List ℕ) (n g : ℕ) 
       abbrev rest : Outcome (List (List ℕ))
       rest = records name w p (suc n) (behind l) ls
 
-      abbrev told : List (List ℕ) → Outcome Tally
-      told rs = ok (tallyText (s .tally) (textFrom w p (s .base) rs))
+      abbrev told : List (List ℕ) → Outcome Needed
+      told rs = ok (tallyText (s .needed) (textFrom w p (s .base) rs))
 
-      turn-over : passedOver w p l ≡ true → whole ≡ scanFrom name w p (suc n) (behind l) (s .base) (s .tally) ls
+      turn-over : passedOver w p l ≡ true → whole ≡ scanFrom name w p (suc n) (behind l) (s .base) (s .needed) ls
       unfolding scanFrom records
       turn-over e = rw (plain, fitting-capped name w p (s .from) g l capped, fits, e) (after-after rest (λ rs. ok rs) told)
 
       turn-in :
           passedOver w p l ≡ false →
-          whole ≡ scanFrom name w p (suc n) (behind l) (behind l - p) (behindRecord w p s l .tally) ls
+          whole ≡ scanFrom name w p (suc n) (behind l) (behind l - p) (behindRecord w p s l .needed) ls
       unfolding scanFrom records textFrom tallyText
       turn-in e =
           rw (plain, fitting-capped name w p (s .from) g l capped, fits, e)
           (after-after rest (λ rs. ok (l ∷ rs)) told
-          ∙ after-same rest (λ rs. told (l ∷ rs)) (λ rs. ok (tallyText (behindRecord w p s l .tally) (textFrom w p (behind l - p) rs)))
+          ∙ after-same rest (λ rs. told (l ∷ rs)) (λ rs. ok (tallyText (behindRecord w p s l .needed) (textFrom w p (behind l - p) rs)))
           (λ rs. ap ok (tally-append (gap w (s .base) (position l - p)) ((reference l ∷ alts l) ∷ textFrom w p (behind l - p) rs)
-          (s .tally))))
+          (s .needed))))
 
   -- what a line that passes adds to the records
   more-comment : comment l ≡ true → records name w p n g (l ∷ ls) ≡ after (records name w p (suc n) g ls) λ rs. ok rs
@@ -211,7 +211,7 @@ module _ (name w : List ℕ) (p : ℕ) (s : Reached) (l : List ℕ) (n g : ℕ) 
     pub from : ℕ
     pub cut : s′ .from ≡ min beyond from
     pub reach : Reach w p s′
-    pub rest : whole ≡ scanFrom name w p (suc n) from (s′ .base) (s′ .tally) ls
+    pub rest : whole ≡ scanFrom name w p (suc n) from (s′ .base) (s′ .needed) ls
     pub own : List (List ℕ)
     pub counted : s′ .kept ≡ s .kept + length own
     pub more : records name w p n g (l ∷ ls) ≡ after (records name w p (suc n) from ls) λ rs. ok (own ++ rs)
@@ -256,7 +256,7 @@ module _ (name w : List ℕ) (p : ℕ) (s : Reached) (l : List ℕ) (n g : ℕ) 
         let T = gap w (s .base) (position l - p) in
         record {
           put = r .put;
-          sane = sane-in g (opened (tallyText (s .tally) T)) [] (sane-opened (tallyText (s .tally) T) (sane-text T (s .tally) (r .sane)));
+          sane = sane-in g (opened (tallyText (s .needed) T)) [] (sane-opened (tallyText (s .needed) T) (sane-text T (s .needed) (r .sane)));
           passed = omega (arith, lies, small);
           inside = omega (arith, lies);
           few = omega (arith, lies, late, r .few, r .passed, some-reference name l recorded);
@@ -330,7 +330,7 @@ pub record Scanning (name w : List ℕ) (p : ℕ) (file : List ℕ) (at start pa
   pub reach : Reach w p s
   pub from : ℕ
   pub cut : s .from ≡ min beyond from
-  pub rest : scanning name w p file ≡ scanFrom name w p (suc passed) from (s .base) (s .tally) (lines (drop at file))
+  pub rest : scanning name w p file ≡ scanFrom name w p (suc passed) from (s .base) (s .needed) (lines (drop at file))
   pub seen : List (List ℕ)
   pub counted : s .kept ≡ length seen
   pub more : records name w p 1 0 (lines file) ≡ after (records name w p (suc passed) from (lines (drop at file))) λ rs. ok (seen ++ rs)
@@ -341,7 +341,7 @@ pub record Scanning (name w : List ℕ) (p : ℕ) (file : List ℕ) (at start pa
 
 pub scanning-none :
     (name w : List ℕ) (p : ℕ) (file : List ℕ) → placed w p ≡ true →
-    Scanning name w p file 0 0 0 (record { from = 0; base = 0; kept = 0; tally = nothing })
+    Scanning name w p file 0 0 0 (record { from = 0; base = 0; kept = 0; needed = nothing })
 unfolding scanning
 scanning-none name w p file e =
     record {
@@ -374,7 +374,7 @@ module _ {name w : List ℕ} {p : ℕ} {file : List ℕ} {at start passed : ℕ}
     abbrev left : List (List ℕ)
     left = lines (drop (nextLine file end) file)
 
-    here : scanning name w p file ≡ scanFrom name w p (suc passed) (h .from) (s .base) (s .tally) (line ∷ left)
+    here : scanning name w p file ≡ scanFrom name w p (suc passed) (h .from) (s .base) (s .needed) (line ∷ left)
     here = h .rest ∙ rw (lines-next file at end l e)
 
     pub scanning-wrong : lineStep name w p s line ≡ Wrong → refused 19 (passed + 1) ≡ scanning name w p file
@@ -449,12 +449,12 @@ module _ {name w : List ℕ} {p : ℕ} {file : List ℕ} {at start passed : ℕ}
 
   module _ (l : length file ≤ at) where
     pub scanning-end :
-        (t : Tally) → t ≡ cond (ltb 0 (length w - s .base)) (tallied (opened (s .tally)) (length w - s .base) false) (s .tally) →
+        (t : Needed) → t ≡ cond (ltb 0 (length w - s .base)) (tallied (opened (s .needed)) (length w - s .base) false) (s .needed) →
         ok t ≡ scanning name w p file
     unfolding scanFrom records textFrom
     scanning-end t e =
-        let g : t ≡ tallyText (s .tally) (gap w (s .base) (length w)) =
-        e ∙ sym (gap-tally (s .tally) w (s .base) (length w) (omega arith)) in
+        let g : t ≡ tallyText (s .needed) (gap w (s .base) (length w)) =
+        e ∙ sym (gap-tally (s .needed) w (s .base) (length w) (omega arith)) in
         sym (h .rest ∙ rw (lines-none file at l, g))
 
     pub scanning-starts : Starting name w p file start (s .kept)

@@ -18,13 +18,14 @@ use Rattle.text.proofs.Likes.{meant-length}
 use Rattle.text.proofs.Truth.{same-truth, or-false}
 use Rattle.layout.specs.Bytes.{greatestStretch, part}
 use Rattle.layout.specs.Reading.{among}
+use Rattle.layout.specs.Sizes.{firstVariant, firstLetter}
 use Rattle.layout.proofs.Raised.{part-meant, alike-part}
 use Rattle.vcf.specs.Pieces.{pieces, endOf, Ends}
 use Rattle.vcf.specs.Records.{none, alternates}
 use Rattle.vcf.specs.Building.{gap}
 use Rattle.vcf.specs.Tallies.{within, opened, tallied, tallyIn, tallyText, Sane}
-use Rattle.vcf.specs.declared.survey.tally.Tally.{Tally}
-use Rattle.vcf.specs.declared.survey.tally.Tally.the-variants.{Fits, Repeated, Long}
+use Rattle.vcf.specs.declared.survey.needed.Needed.{Needed}
+use Rattle.vcf.specs.declared.survey.needed.Needed.the-variants.{Fits, Repeated, Long}
 use Rattle.vcf.proofs.Marks.{cut-next, cut-last}
 use Rattle.vcf.proofs.Meant.{comma-ends, none-meant}
 
@@ -37,101 +38,101 @@ fits-is b n l =
     (λ (e : leb n (greatestStretch - b) ≡ true). le-leb (b + n) greatestStretch (omega (arith, leb-true n (greatestStretch - b) e)))
     (λ (e : within (b + n) ≡ true). le-leb n (greatestStretch - b) (omega (arith, leb-true (b + n) greatestStretch e)))
 
--- the cases of a tally, as the code meets them
-module _ {t : Tally} {b g v : ℕ} (e : t ≡ Fits b g v) where
+-- the cases of a needed, as the code meets them
+module _ {t : Needed} {b g v : ℕ} (e : t ≡ Fits b g v) where
   pub fits-sane : Sane t → (g ≤ b) × (v ≤ b) × (b ≤ greatestStretch)
   fits-sane s = rw e at s
 
-  pub open-fits : within (b + 1) ≡ true → Fits (b + 1) (g + 1) v ≡ opened t
+  pub open-fits : within (b + firstVariant) ≡ true → Fits (b + firstVariant) (g + 1) v ≡ opened t
   open-fits h = rw (e, h)
 
-  pub open-long : within (b + 1) ≡ false → Long ≡ opened t
+  pub open-long : within (b + firstVariant) ≡ false → Long ≡ opened t
   open-long h = rw (e, h)
 
   module _ (n : ℕ) (again : Bool) where
-    pub variant-long : within (b + (n + 2)) ≡ false → Long ≡ tallied t n again
+    pub variant-long : within (b + (n + firstLetter)) ≡ false → Long ≡ tallied t n again
     variant-long h = rw (e, h)
 
-    pub variant-again : within (b + (n + 2)) ≡ true → again ≡ true → Repeated (b + (n + 2)) v ≡ tallied t n again
+    pub variant-again : within (b + (n + firstLetter)) ≡ true → again ≡ true → Repeated (b + (n + firstLetter)) v ≡ tallied t n again
     variant-again h a = rw (e, h, a)
 
-    pub variant-fits : within (b + (n + 2)) ≡ true → again ≡ false → Fits (b + (n + 2)) g (v + 1) ≡ tallied t n again
+    pub variant-fits : within (b + (n + firstLetter)) ≡ true → again ≡ false → Fits (b + (n + firstLetter)) g (v + 1) ≡ tallied t n again
     variant-fits h a = rw (e, h, a)
 
-module _ {t : Tally} {b k : ℕ} (e : t ≡ Repeated b k) where
+module _ {t : Needed} {b k : ℕ} (e : t ≡ Repeated b k) where
   pub repeated-sane : Sane t → b ≤ greatestStretch
   repeated-sane s = rw e at s
 
-  pub open-repeated : within (b + 1) ≡ true → Repeated (b + 1) k ≡ opened t
+  pub open-repeated : within (b + firstVariant) ≡ true → Repeated (b + firstVariant) k ≡ opened t
   open-repeated h = rw (e, h)
 
-  pub open-repeated-long : within (b + 1) ≡ false → Long ≡ opened t
+  pub open-repeated-long : within (b + firstVariant) ≡ false → Long ≡ opened t
   open-repeated-long h = rw (e, h)
 
   module _ (n : ℕ) (again : Bool) where
-    pub variant-repeated : within (b + (n + 2)) ≡ true → Repeated (b + (n + 2)) k ≡ tallied t n again
+    pub variant-repeated : within (b + (n + firstLetter)) ≡ true → Repeated (b + (n + firstLetter)) k ≡ tallied t n again
     variant-repeated h = rw (e, h)
 
-    pub variant-repeated-long : within (b + (n + 2)) ≡ false → Long ≡ tallied t n again
+    pub variant-repeated-long : within (b + (n + firstLetter)) ≡ false → Long ≡ tallied t n again
     variant-repeated-long h = rw (e, h)
 
-pub open-at-long : {t : Tally} → t ≡ Long → Long ≡ opened t
+pub open-at-long : {t : Needed} → t ≡ Long → Long ≡ opened t
 open-at-long e = rw e
 
-pub variant-at-long : {t : Tally} (n : ℕ) (again : Bool) → t ≡ Long → Long ≡ tallied t n again
+pub variant-at-long : {t : Needed} (n : ℕ) (again : Bool) → t ≡ Long → Long ≡ tallied t n again
 variant-at-long n again e = rw e
 
-pub variant-huge : (t : Tally) (n : ℕ) (again : Bool) → greatestStretch < n → Long ≡ tallied t n again
-variant-huge (Fits b g v) n again l = rw (lt-leb (b + (n + 2)) greatestStretch (omega arith))
-variant-huge (Repeated b k) n again l = rw (lt-leb (b + (n + 2)) greatestStretch (omega arith))
+pub variant-huge : (t : Needed) (n : ℕ) (again : Bool) → greatestStretch < n → Long ≡ tallied t n again
+variant-huge (Fits b g v) n again l = rw (lt-leb (b + (n + firstLetter)) greatestStretch (omega arith))
+variant-huge (Repeated b k) n again l = rw (lt-leb (b + (n + firstLetter)) greatestStretch (omega arith))
 variant-huge Long n again l = refl
 
 -- tallies stay sane
-pub sane-opened : (t : Tally) → Sane t → Sane (opened t)
-sane-opened (Fits b g v) s = step (within (b + 1)) (leb-true (b + 1) greatestStretch)
+pub sane-opened : (t : Needed) → Sane t → Sane (opened t)
+sane-opened (Fits b g v) s = step (within (b + firstVariant)) (leb-true (b + firstVariant) greatestStretch)
   where
-    step : (r : Bool) → (r ≡ true → b + 1 ≤ greatestStretch) → Sane (cond r (Fits (b + 1) (g + 1) v) Long)
-    step true h = let l : b + 1 ≤ greatestStretch = h refl in (omega arith, omega arith, l)
+    step : (r : Bool) → (r ≡ true → b + firstVariant ≤ greatestStretch) → Sane (cond r (Fits (b + firstVariant) (g + 1) v) Long)
+    step true h = let l : b + firstVariant ≤ greatestStretch = h refl in (omega arith, omega arith, l)
     step false h = tt
-sane-opened (Repeated b k) s = step (within (b + 1)) (leb-true (b + 1) greatestStretch)
+sane-opened (Repeated b k) s = step (within (b + firstVariant)) (leb-true (b + firstVariant) greatestStretch)
   where
-    step : (r : Bool) → (r ≡ true → b + 1 ≤ greatestStretch) → Sane (cond r (Repeated (b + 1) k) Long)
+    step : (r : Bool) → (r ≡ true → b + firstVariant ≤ greatestStretch) → Sane (cond r (Repeated (b + firstVariant) k) Long)
     step true h = h refl
     step false h = tt
 sane-opened Long s = tt
 
-pub sane-tallied : (t : Tally) (n : ℕ) (again : Bool) → Sane t → Sane (tallied t n again)
-sane-tallied (Fits b g v) n again s = step (within (b + (n + 2))) again (leb-true (b + (n + 2)) greatestStretch)
+pub sane-tallied : (t : Needed) (n : ℕ) (again : Bool) → Sane t → Sane (tallied t n again)
+sane-tallied (Fits b g v) n again s = step (within (b + (n + firstLetter))) again (leb-true (b + (n + firstLetter)) greatestStretch)
   where
     step :
-        (r a : Bool) → (r ≡ true → b + (n + 2) ≤ greatestStretch) →
-        Sane (cond r (cond a (Repeated (b + (n + 2)) v) (Fits (b + (n + 2)) g (v + 1))) Long)
+        (r a : Bool) → (r ≡ true → b + (n + firstLetter) ≤ greatestStretch) →
+        Sane (cond r (cond a (Repeated (b + (n + firstLetter)) v) (Fits (b + (n + firstLetter)) g (v + 1))) Long)
     step true true h = h refl
-    step true false h = let l : b + (n + 2) ≤ greatestStretch = h refl in (omega arith, omega arith, l)
+    step true false h = let l : b + (n + firstLetter) ≤ greatestStretch = h refl in (omega arith, omega arith, l)
     step false a h = tt
-sane-tallied (Repeated b k) n again s = step (within (b + (n + 2))) (leb-true (b + (n + 2)) greatestStretch)
+sane-tallied (Repeated b k) n again s = step (within (b + (n + firstLetter))) (leb-true (b + (n + firstLetter)) greatestStretch)
   where
-    step : (r : Bool) → (r ≡ true → b + (n + 2) ≤ greatestStretch) → Sane (cond r (Repeated (b + (n + 2)) k) Long)
+    step : (r : Bool) → (r ≡ true → b + (n + firstLetter) ≤ greatestStretch) → Sane (cond r (Repeated (b + (n + firstLetter)) k) Long)
     step true h = h refl
     step false h = tt
 sane-tallied Long n again s = tt
 
-pub sane-in : (g : Segment) (t : Tally) (seen : Segment) → Sane t → Sane (tallyIn t seen g)
+pub sane-in : (g : Segment) (t : Needed) (seen : Segment) → Sane t → Sane (tallyIn t seen g)
 unfolding tallyIn
 sane-in [] t seen s = s
 sane-in (v ∷ g) t seen s = sane-in g (tallied t (length v) (among v seen)) (seen ++ (v ∷ [])) (sane-tallied t (length v) (among v seen) s)
 
 -- bases between records
-pub gap-none : (t : Tally) (n : ℕ) → n ≡ 0 → t ≡ cond (ltb 0 n) (tallied (opened t) n false) t
+pub gap-none : (t : Needed) (n : ℕ) → n ≡ 0 → t ≡ cond (ltb 0 n) (tallied (opened t) n false) t
 gap-none t n e = rw e
 
-pub gap-some : (t u r : Tally) (n : ℕ) → (n ≡ 0 → ⊥) → u ≡ opened t → r ≡ tallied u n false → r ≡ cond (ltb 0 n)
+pub gap-some : (t u r : Needed) (n : ℕ) → (n ≡ 0 → ⊥) → u ≡ opened t → r ≡ tallied u n false → r ≡ cond (ltb 0 n)
     (tallied (opened t) n false) t
 gap-some t u r n m e f = rw (lt-ltb 0 n (omega (arith, m)), ← e) f
 
 -- they are a segment of the text
 pub gap-tally :
-    (t : Tally) (w : List ℕ) (a b : ℕ) → b ≤ length w → tallyText t (gap w a b) ≡ cond (ltb 0 (b - a)) (tallied (opened t) (b - a) false) t
+    (t : Needed) (w : List ℕ) (a b : ℕ) → b ≤ length w → tallyText t (gap w a b) ≡ cond (ltb 0 (b - a)) (tallied (opened t) (b - a) false) t
 unfolding gap tallyText tallyIn among anyOf
 gap-tally t w a b l =
     by-cases (decLt a b)
@@ -142,24 +143,24 @@ gap-tally t w a b l =
     let z : b - a ≡ 0 = omega arith in
     rw (le-ltb a b (omega arith), z))
 
-pub tally-append : (T U : Text) (t : Tally) → tallyText t (T ++ U) ≡ tallyText (tallyText t T) U
+pub tally-append : (T U : Text) (t : Needed) → tallyText t (T ++ U) ≡ tallyText (tallyText t T) U
 unfolding tallyText
 tally-append [] U t = refl
 tally-append (g ∷ T) U t = tally-append T U (tallyIn (opened t) [] g)
 
-pub sane-text : (T : Text) (t : Tally) → Sane t → Sane (tallyText t T)
+pub sane-text : (T : Text) (t : Needed) → Sane t → Sane (tallyText t T)
 unfolding tallyText
 sane-text [] t s = s
 sane-text (g ∷ T) t s = sane-text T (tallyIn (opened t) [] g) (sane-in g (opened t) [] (sane-opened t s))
 
 -- the segment of a record
-module _ (t : Tally) (ref a : List ℕ) (u : Tally) (e : u ≡ tallied (opened t) (length ref) false) where
+module _ (t : Needed) (ref a : List ℕ) (u : Needed) (e : u ≡ tallied (opened t) (length ref) false) where
   pub record-none : none a ≡ true → u ≡ tallyIn (opened t) [] (meant ref ∷ alternates (meant a))
   unfolding tallyIn alternates among anyOf
   record-none n = rw (none-meant a, n, meant-length ref) e
 
   pub record-some :
-      none a ≡ false → (r : Tally) → r ≡ tallyIn u (meant ref ∷ []) (pieces 0x2C (meant a)) →
+      none a ≡ false → (r : Needed) → r ≡ tallyIn u (meant ref ∷ []) (pieces 0x2C (meant a)) →
       r ≡ tallyIn (opened t) [] (meant ref ∷ alternates (meant a))
   unfolding tallyIn alternates among anyOf
   record-some n r f = rw (none-meant a, n) (f ∙ rw (e, ← meant-length ref))
@@ -228,7 +229,7 @@ module _ {v a : List ℕ} {k from i : ℕ} (h : Compared v a k from i) where
   compared-end l = let z : k - i ≡ 0 = omega arith in h .rest ∙ rw z
 
 -- the alleles of ALT are tallied after REF: the first k of them are, and the others come next
-pub record Behind (t₀ : Tally) (ref a : List ℕ) (t : Tally) (from k : ℕ) : Type 0 where
+pub record Behind (t₀ : Needed) (ref a : List ℕ) (t : Needed) (from k : ℕ) : Type 0 where
   pub inside : from ≤ length a
   pub few : k ≤ from
   pub sane : Sane t
@@ -237,13 +238,13 @@ pub record Behind (t₀ : Tally) (ref a : List ℕ) (t : Tally) (from k : ℕ) :
   pub are : pieces 0x2C (meant a) ≡ seen ++ pieces 0x2C (drop from (meant a))
   pub rest : tallyIn t₀ (meant ref ∷ []) (pieces 0x2C (meant a)) ≡ tallyIn t (meant ref ∷ seen) (pieces 0x2C (drop from (meant a)))
 
-pub behind-none : (t : Tally) (ref a : List ℕ) → Sane t → Behind t ref a t 0 0
+pub behind-none : (t : Needed) (ref a : List ℕ) → Sane t → Behind t ref a t 0 0
 behind-none t ref a s =
     record { inside = omega arith; few = omega arith; sane = s; seen = []; count = refl; are = refl; rest = refl }
 
-module _ {t₀ : Tally} {ref a : List ℕ} {t : Tally} {from k end : ℕ} (h : Behind t₀ ref a t from k) (e : Ends 0x2C a from end)
+module _ {t₀ : Needed} {ref a : List ℕ} {t : Needed} {from k end : ℕ} (h : Behind t₀ ref a t from k) (e : Ends 0x2C a from end)
     {again : Bool} (f : again ≡ among (meant (part a from (end - from))) (meant ref ∷ take k (pieces 0x2C (meant a))))
-    {u : Tally} (g : u ≡ tallied t (length (part a from (end - from))) again) where
+    {u : Needed} (g : u ≡ tallied t (length (part a from (end - from))) again) where
   next-end : Ends 0x2C (meant a) from end
   next-end = comma-ends e
 
@@ -286,7 +287,7 @@ module _ {t₀ : Tally} {ref a : List ℕ} {t : Tally} {from k end : ℕ} (h : B
       let more : pieces 0x2C (drop from (meant a)) ≡ own ∷ [] = rw (next-end .is) (cut-last 0x2C (meant a) from inside n) in
       sym (h .rest ∙ rw (more, ← next))
 
-pub sane-gap : (t : Tally) (n : ℕ) → Sane t → Sane (cond (ltb 0 n) (tallied (opened t) n false) t)
+pub sane-gap : (t : Needed) (n : ℕ) → Sane t → Sane (cond (ltb 0 n) (tallied (opened t) n false) t)
 sane-gap t n s = step (ltb 0 n)
   where
     step : (b : Bool) → Sane (cond b (tallied (opened t) n false) t)

@@ -1,5 +1,6 @@
--- What is proved about `build`, by name. Its contract says what it answers by the definition `building` of specs/; here stands what that
--- comes to. A hypothesis that begins with `told`, or says what a buffer holds, is the call's contract word by word.
+-- What is proved about this crate's calls, by name. The contracts say what they answer by definitions of specs/: `build` by `building`,
+-- `measure` by `measuring`, `position` by `positionOf`; here stands what these come to. A hypothesis that begins with `told`, or says
+-- what a buffer holds, is the call's contract word by word.
 use Prim.Native.Nat.{ℕ, _+_, _≤_, _<_}
 use native.Mathlib.Omega.{arith}
 use mathlib.Core.Path.{_≡_, refl, sym, ap, _∙_}
@@ -34,14 +35,22 @@ use Rattle.stretch.proofs.ReadsOnward.{reads-as}
 use Rattle.writer.proofs.RoundTrips.{as-written, putting-writable}
 use Rattle.layout.proofs.Theorems.{writable-accepted}
 use Rattle.vcf.specs.Pieces.{lines}
-use Rattle.vcf.specs.Records.{records, touching, noted}
+use Rattle.vcf.specs.Records.{positionOf, lastPosition, records, touching, noted}
 use Rattle.vcf.specs.Records.{heading, placed}
 use Rattle.vcf.specs.Building.{textFrom, windowText, building}
 use Rattle.vcf.specs.Haplotypes.{Haplotype}
+use Rattle.vcf.proofs.Digits.{position-small}
 use Rattle.vcf.proofs.Kept.{Kept, kept, kept-records, records-refused}
 use Rattle.vcf.proofs.Formed.{text-formed, formed-filled}
 use Rattle.vcf.proofs.Haplotypes.{spelt, reference-spelt}
 use Rattle.vcf.proofs.EmptyWindows.{Sound, sound-only, nothing-encoded, nothing-put, some-placed}
+-- A record measured by itself is what is built of a window of its REF, from a file that has no other record: where there is room its
+-- segment alone, which has the bytes that were measured; and one that is refused is refused there by the same number.
+pub use Rattle.vcf.proofs.AloneBuilt.{measured-built, measured-refused}
+
+-- No field states a position beyond the last: what is larger, or no number, is told as 0.
+pub position-within : (s : List ℕ) → positionOf s ≤ lastPosition
+position-within = position-small
 
 -- The text that is built: bases of the window, and the records that have a base in it.
 abbrev pub builtText : List ℕ → List ℕ → ℕ → Text

@@ -6,12 +6,9 @@ use mathlib.Core.List.{List, [], _∷_, _++_}
 use lib.Dec.{ltb}
 use lib.ListN.{length, drop}
 use Rattle.text.specs.Text.{Variant, Text}
-use Rattle.text.specs.Refusal.{ok}
-use Rattle.layout.specs.Encoding.{encode}
-use Rattle.vcf.specs.Pieces.{lines}
-use Rattle.vcf.specs.Records.{position, reference, alts, behind, idle, records, touching}
+use Rattle.vcf.specs.Records.{position, reference, alts, behind, idle, records}
 use Rattle.vcf.specs.Records.{placed}
-use Rattle.vcf.specs.Building.{gap, windowText}
+use Rattle.vcf.specs.Building.{gap}
 
 -- bases as a segment of one variant, if there are any
 unfoldable pub gapOf : Variant → Text

@@ -7,3 +7,4 @@ pub mod Steps
 pub mod Surveys
 pub mod Haplotypes
 pub mod Emission
+pub mod Measures

@@ -10,16 +10,16 @@ use Rattle.vcf.specs.Records.{beyond, position, reference, alts, behind,
 use Rattle.vcf.specs.Records.{placed}
 use Rattle.vcf.specs.Building.{gap, textFrom}
 use Rattle.vcf.specs.Tallies.{nothing, opened, tallyIn, tallyText, Sane}
-use Rattle.vcf.specs.declared.survey.tally.Tally.{Tally}
+use Rattle.vcf.specs.declared.survey.needed.Needed.{Needed}
 use Rattle.vcf.specs.declared.survey.scan.Reached.{Reached}
-use Rattle.vcf.specs.declared.survey.scan.Line.{Line}
-use Rattle.vcf.specs.declared.survey.scan.Line.the-variants.{Passed, Wrong}
-use Rattle.vcf.specs.declared.survey.scan.Scanned.{Scanned}
-use Rattle.vcf.specs.declared.survey.scan.Scanned.the-variants.{Needs}
+use Rattle.vcf.specs.declared.survey.scan.Onward.{Onward}
+use Rattle.vcf.specs.declared.survey.scan.Onward.the-variants.{Passed, Wrong}
+use Rattle.vcf.specs.declared.survey.scan.Gathered.{Gathered}
+use Rattle.vcf.specs.declared.survey.scan.Gathered.the-variants.{Needs}
 
 -- after a record outside the window, and after one in it
 abbrev pub overRecord : Reached → List ℕ → Reached
-overRecord s l = record { from = min beyond (behind l); base = s .base; kept = s .kept; tally = s .tally }
+overRecord s l = record { from = min beyond (behind l); base = s .base; kept = s .kept; needed = s .needed }
 
 abbrev pub behindRecord : List ℕ → ℕ → Reached → List ℕ → Reached
 behindRecord w p s l =
@@ -27,11 +27,11 @@ behindRecord w p s l =
       from = min beyond (behind l);
       base = behind l - p;
       kept = s .kept + 1;
-      tally = tallyIn (opened (tallyText (s .tally) (gap w (s .base) (position l - p)))) [] (reference l ∷ alts l);
+      needed = tallyIn (opened (tallyText (s .needed) (gap w (s .base) (position l - p)))) [] (reference l ∷ alts l);
     }
 
 -- one line more
-unfoldable pub lineStep : List ℕ → List ℕ → ℕ → Reached → List ℕ → Line
+unfoldable pub lineStep : List ℕ → List ℕ → ℕ → Reached → List ℕ → Onward
 lineStep name w p s l =
     cond (comment l) (Passed s)
     (cond (fitting name w p (s .from) l)
@@ -41,15 +41,15 @@ lineStep name w p s l =
 -- what every line leaves: the base is not after the last record, nor after the window, and each record has moved it
 pub record Reach (w : List ℕ) (p : ℕ) (s : Reached) : Type 0 where
   pub put : placed w p ≡ true
-  pub sane : Sane (s .tally)
+  pub sane : Sane (s .needed)
   pub passed : s .base ≤ s .from - p
   pub inside : s .base ≤ length w
   pub few : s .kept ≤ s .base
 
--- the tally of the text, or 19 at the first wrong line
-abbrev pub toldScanned : Scanned → Outcome Tally
-toldScanned (Needs t start n) = ok t
-toldScanned (Scanned.Wrong k) = refused 19 k
+-- the needed of the text, or 19 at the first wrong line
+abbrev pub toldGathered : Gathered → Outcome Needed
+toldGathered (Needs t start n) = ok t
+toldGathered (Gathered.Wrong k) = refused 19 k
 
 -- the lines from place `start` on say what all lines say, and n of them are records in the window
 pub record Starting (name w : List ℕ) (p : ℕ) (file : List ℕ) (start n : ℕ) : Type 0 where
@@ -59,13 +59,13 @@ pub record Starting (name w : List ℕ) (p : ℕ) (file : List ℕ) (start n : �
   pub begins : records name w p 1 0 (lines file) ≡ records name w p number from (lines (drop start file))
   pub count : (rs : List (List ℕ)) → records name w p 1 0 (lines file) ≡ ok rs → n ≡ length rs
 
-abbrev pub Starts : List ℕ → List ℕ → ℕ → List ℕ → Scanned → Type 0
+abbrev pub Starts : List ℕ → List ℕ → ℕ → List ℕ → Gathered → Type 0
 Starts name w p file (Needs t start n) = Starting name w p file start n
-Starts name w p file (Scanned.Wrong k) = Unit {0}
+Starts name w p file (Gathered.Wrong k) = Unit {0}
 
--- the tally of the text of the lines from number n on, after what was reached
-unfoldable pub scanFrom : List ℕ → List ℕ → ℕ → ℕ → ℕ → ℕ → Tally → List (List ℕ) → Outcome Tally
+-- the needed of the text of the lines from number n on, after what was reached
+unfoldable pub scanFrom : List ℕ → List ℕ → ℕ → ℕ → ℕ → ℕ → Needed → List (List ℕ) → Outcome Needed
 scanFrom name w p n from base t ls = after (records name w p n from ls) λ rs. ok (tallyText t (textFrom w p base rs))
 
-unfoldable pub scanning : List ℕ → List ℕ → ℕ → List ℕ → Outcome Tally
+unfoldable pub scanning : List ℕ → List ℕ → ℕ → List ℕ → Outcome Needed
 scanning name w p file = scanFrom name w p 1 0 0 nothing (lines file)

@@ -8,9 +8,9 @@ use text::Refusal;
 use text::refusal;
 ghost use mathlib.Core.Path.{_≡_};
 ghost use lib.ListN.{length};
-ghost use Rattle.text.specs.Refusal.{refused, answer};
+ghost use Rattle.text.specs.Refusal.{refused};
 ghost use Rattle.layout.specs.Encoding.{encode};
-ghost use Rattle.stretch.specs.Answers.{toldWritten, answerWritten};
+ghost use Rattle.stretch.specs.Answers.{toldWritten};
 ghost use Rattle.writer.specs.Answers.{written};
 ghost use Rattle.layout.specs.Bytes.{leftBy};
 ghost use Rattle.vcf.specs.Building.{building};
@@ -26,8 +26,6 @@ fn refused(number: u64, place: usize) -> Written
 pub fn build(file: &[u8], window: &[u8], first: usize, name: &[u8], out: &mut [u8]) -> Written
     ensures answer { λ r. ⌜ toldWritten r ≡ written
         (building (now (file .entry)) (now (window .entry)) first (now (name .entry)) (length (now (out .entry)))) ⌝ }
-    ensures numbers { λ r. ⌜ answerWritten r ≡ answer 0 (written
-        (building (now (file .entry)) (now (window .entry)) first (now (name .entry)) (length (now (out .entry))))) ⌝ }
     ensures buffer { λ r. ⌜ now (out .exit) ≡ leftBy encode
         (building (now (file .entry)) (now (window .entry)) first (now (name .entry)) (length (now (out .entry))))
         (now (out .entry)) ⌝ }

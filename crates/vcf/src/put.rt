@@ -10,8 +10,13 @@ use crate::records::record::is_comment;
 use crate::records::record::is_none;
 use crate::records::window::behind;
 use crate::records::window::is_outside;
-use layout::number::put_word;
+use layout::FIRST_SEGMENT;
+use layout::FIRST_VARIANT;
+use layout::after_variant;
+use layout::put_segments;
 use layout::put_variant;
+use layout::put_variants;
+use layout::segment_bytes;
 ghost use mathlib.Core.Path.{_≡_};
 ghost use mathlib.Core.List.{_∷_};
 ghost use Prim.Native.Nat.{_+_, _≤_};
@@ -35,9 +40,9 @@ fn put_gap(bases: &[u8], out: &mut [u8], at: usize) -> usize
     if n == 0 {
         return at;
     }
-    out[at] = 1;
-    put_variant(bases, &mut *out, at + 1);
-    at + 3 + n
+    put_variants(1, &mut *out, at);
+    put_variant(bases, &mut *out, at + FIRST_VARIANT);
+    at + segment_bytes(n, 1)
 }
 
 // The alleles of ALT, one after another. The place after them.
@@ -51,7 +56,7 @@ fn put_alleles(alt: &[u8], out: &mut [u8], at: usize) -> usize
     loop {
         let end = end_of(alt, COMMA, from);
         put_variant(&alt[from..end], &mut *out, next);
-        next += 2 + (end - from);
+        next = after_variant(next, end - from);
         if end == alt.len() {
             return next;
         }
@@ -84,15 +89,16 @@ fn put_record(reference: &[u8], alt: &[u8], out: &mut [u8], at: usize) -> usize
     ensures { λ r. ⌜ now (out .exit) ≡ over (now (out .entry)) at
         (encodeSegment (meant (now (reference .entry)) ∷ alternates (meant (now (alt .entry))))) ⌝ }
 {
-    let next = at + 3 + reference.len();
+    let start = at + FIRST_VARIANT;
+    let next = after_variant(start, reference.len());
     if is_none(alt) {
-        out[at] = 1;
-        put_variant(reference, &mut *out, at + 1);
+        put_variants(1, &mut *out, at);
+        put_variant(reference, &mut *out, start);
         return next;
     }
     let alleles = count(alt, COMMA);
-    out[at] = ((1 + alleles) % 256) as u8;
-    put_variant(reference, &mut *out, at + 1);
+    put_variants(1 + alleles, &mut *out, at);
+    put_variant(reference, &mut *out, start);
     put_alleles(alt, &mut *out, next)
 }
 
@@ -154,10 +160,10 @@ pub fn put_text(
     ensures { λ r. ⌜ now (out .exit) ≡ over (now (out .entry)) 0
         (encode (windowText (meant (now (window .entry))) first (now (file .entry)))) ⌝ }
 {
-    put_word(segments, &mut *out, 0);
+    put_segments(segments, &mut *out);
     let mut put = Put {
         base: 0,
-        at: 2,
+        at: FIRST_SEGMENT,
         left: records,
     };
     let mut at = start;

@@ -11,17 +11,14 @@ use lib.Dec.{leb, ltb}
 use lib.ListN.{length, getD, List·getD-map, length-map}
 use Rattle.text.specs.Text.{Text}
 use Rattle.text.specs.State.{marks, fresh}
-use Rattle.text.specs.Occurrence.{EndsIn}
 use Rattle.text.specs.Card.{none, firstEnd}
-use Rattle.text.specs.Refusal.{ok, demand}
+use Rattle.text.specs.Refusal.{ok, demand, SoundPattern}
 use Rattle.text.proofs.Outcomes.{demand-met}
-use Rattle.text.proofs.Patterns.{SoundPattern}
 use Rattle.text.proofs.Marks.{marks-length}
-use Rattle.text.proofs.Occurrences.{marks-ends}
 use Rattle.text.proofs.Ends.{firstEnd-le, firstEnd-least, firstEnd-within, firstEnd-mark}
 use Rattle.layout.specs.Reading.{stretchOf}
 use Rattle.layout.proofs.Stretches.{stretch-most}
-use Rattle.watch.specs.Watching.{mostWatched, basesOf, sound, allSound, firstWrong, listing, firstOf, endsIn, Sighting, seen, clear}
+use Rattle.watch.specs.Watching.{mostWatched, basesOf, sound, allSound, firstWrong, listing, firstOf, endsIn, seen, clear}
 use Rattle.watch.specs.Watching.{firstSeen, marksOf}
 use Rattle.watch.specs.Rounds.{blank}
 use Rattle.watch.specs.declared.watched.Watched.{Watched}

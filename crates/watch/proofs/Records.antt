@@ -8,9 +8,9 @@ use borrow.Author.Tests.{le-leb, lt-leb, leb-true}
 use lib.Dec.{leb}
 use lib.ListN.{length, take}
 use lib.Seq.{length-take-le}
-use Rattle.text.specs.Refusal.{Outcome, ok, refused, pattern}
+use Rattle.text.specs.Refusal.{Outcome, ok, refused, pattern, SoundPattern}
 use Rattle.text.proofs.Truth.{and-left, and-right}
-use Rattle.text.proofs.Patterns.{SoundPattern, pattern-sound}
+use Rattle.text.proofs.Patterns.{pattern-sound}
 use Rattle.watch.specs.Watching.{basesOf, isOk, sound}
 use Rattle.watch.specs.declared.watched.Watched.{Watched}
 

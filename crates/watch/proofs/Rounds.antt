@@ -13,7 +13,8 @@ use Rattle.text.specs.Text.{Text}
 use Rattle.text.specs.Refusal.{Outcome, ok, refused, demand, after}
 use Rattle.text.proofs.Truth.{and-left, and-right}
 use Rattle.layout.specs.Bytes.{over}
-use Rattle.layout.specs.Reading.{stretchOf}
+use Rattle.layout.specs.Reading.{wholeStretch, stretchOf}
+use Rattle.layout.proofs.Frames.{stretch-whole}
 use Rattle.layout.specs.Bytes.{leftBy}
 use Rattle.text.specs.declared.refusal.Refusal.{Refusal}
 use Rattle.watch.specs.Watching.{mostWatched, sound, allSound, firstWrong, firstOf, endsIn, Sighting, seen, clear, firstSeen, marksOf}
@@ -182,7 +183,10 @@ all-spell (w ∷ ws) e (suc k) l = all-spell ws (and-right (sound w) (allSound w
 
 text-of : (s : List ℕ) (t : Text) → stretchOf s ≡ ok t → textOf s ≡ t
 unfolding textOf
-text-of s t e = rw e refl
+text-of s t e = rw (stretch-whole s t e .1) refl
+
+means : (s : List ℕ) (t : Text) → stretchOf s ≡ ok t → wholeStretch s ≡ ok (textOf s)
+means s t e = stretch-whole s t e .1 ∙ ap ok (sym (text-of s t e))
 
 -- the second round may begin after the first
 pub ready-begun : (s : List ℕ) (ws : List Watched) → ReadyAll s ws 0 (begunOf (length ws))
@@ -196,8 +200,8 @@ ready-begun s ws = begun (leb (length ws) mostWatched)
 ready-opened : (s : List ℕ) (ws : List Watched) (all : Bool) (o : Outcome Text) → stretchOf s ≡ o → allSound ws ≡ true
     → length ws ≤ mostWatched
     → ReadyAll s ws 0 (openedBy o all)
-ready-opened s ws true (ok t) e y few = (record { means = e ∙ ap ok (sym (text-of s t e)); spell = all-spell ws y; few = few }, omega arith)
-ready-opened s ws false (ok t) e y few = record { means = e ∙ ap ok (sym (text-of s t e)); spell = all-spell ws y; few = few }
+ready-opened s ws true (ok t) e y few = (record { means = means s t e; spell = all-spell ws y; few = few }, omega arith)
+ready-opened s ws false (ok t) e y few = record { means = means s t e; spell = all-spell ws y; few = few }
 ready-opened s ws all (refused n p) e y few = tt
 
 pub ready-turned : (s : List ℕ) (ws : List Watched) (all : Bool)

@@ -1,63 +1,43 @@
 -- The walk of a record over a sound stretch: letter by letter, variant by variant, segment by segment, up to the first end.
 use Prim.Native.Nat.{ℕ, _+_, _-_, _*_, _%_, _^_, _≤_, _<_}
 use native.Mathlib.Omega.{arith}
-use native.Mathlib.Decide.{ℕ-discrete}
 use mathlib.Core.Path.{_≡_, refl, sym, ap, _∙_}
-use mathlib.Core.Logic.{by-cases}
 use mathlib.Core.Bool.{Bool, true, false, cond}
 use mathlib.Core.List.{List, [], _∷_, _++_}
 use lib.Bits.{bitAnd, bitOr}
 use lib.Dec.{ltb, eqb}
-use lib.ListN.{length, getD, take, set, replicate, length-set, length-replicate}
+use lib.ListN.{length, getD, take}
 use lib.Pow.{pow-mono}
-use lib.Seq.{getD-set-same, getD-set-other, take-all}
-use Rattle.text.specs.Letter.{letter, meant, raised, Classes}
+use lib.Seq.{take-all}
+use Rattle.text.specs.Letter.{letter, meant, Classes}
 use Rattle.text.specs.Text.{Variant, Segment, Text}
 use Rattle.text.specs.State.{fresh, next, ends, run, marksFrom, marks}
 use Rattle.text.specs.Card.{none, later, firstEnd, tabulate}
-use Rattle.text.specs.Refusal.{ok, refused}
+use Rattle.text.specs.Refusal.{ok}
+use Rattle.text.specs.declared.refusal.Refusal.{Refusal}
 use Rattle.text.proofs.Outcomes.{ok-inj, refused-ok}
 use Rattle.text.proofs.Ends.{later-none, later-zero, later-add, firstEnd-le}
 use Rattle.text.proofs.Rows.{length-tabulate, getD-tabulate}
-use Rattle.layout.specs.Pieces.{openAt, mostInStretch}
-use Rattle.layout.specs.Reading.{Taken, segmentAt, stretchOf}
-use Rattle.layout.proofs.Frames.{open-met}
+use Rattle.layout.specs.Pieces.{mostInStretch}
+use Rattle.layout.specs.Reading.{Taken, segmentAt, wholeStretch, Readable}
+use Rattle.layout.specs.Walk.{openedAt, passedTo, toldWalk}
+use Rattle.layout.specs.declared.walk.Walk.{Walk}
+use Rattle.layout.specs.declared.walk.Opened.{Opened}
+use Rattle.layout.proofs.Going.{Opening, open-not, passed-on}
 use Rattle.layout.specs.declared.cursor.Cursor.{Cursor}
 use Rattle.layout.proofs.Walking.{walk-done}
 use Rattle.layout.proofs.Rows.{Row}
-use Rattle.layout.proofs.Decoding.{stretch-read}
-use Rattle.layout.proofs.Stretches.{stretch-most}
-use Rattle.search.specs.Masks.{maskOf, bases, Masks, others, Others, StateOf, Ready}
+use Rattle.layout.proofs.Decoding.{whole-read}
+use Rattle.layout.proofs.Stretches.{whole-most}
+use Rattle.search.specs.Masks.{bases, others, Others, StateOf, Ready}
 use Rattle.search.specs.Words.{Turned}
 use Rattle.search.proofs.BitScans.{Turning, turning-none, turning-more, turning-all}
 use Rattle.search.proofs.Words.{Sweeping, sweeping-taken}
 use Rattle.search.proofs.Searches.{run-state}
 use Rattle.watch.specs.Watching.{basesOf, sound, firstOf}
-use Rattle.watch.specs.Sight.{Vectors, Armed, Readable, Stepped}
+use Rattle.watch.specs.Sight.{Vectors, Armed, Stepped}
 use Rattle.watch.specs.declared.watched.Watched.{Watched}
 use Rattle.watch.proofs.Records.{sound-spells}
-
--- the letter vectors, complemented one after another
-pub record Turn (P vectors turned : List ℕ) (c : ℕ) : Type 0 where
-  pub full : length turned ≡ 256
-  pub each : (b : ℕ) → b < c → getD turned b 0 ≡ others (maskOf P (raised b))
-
-pub turn-none : (P vectors : List ℕ) → Turn P vectors (replicate 256 0) 0
-turn-none P vectors = record { full = length-replicate {A = ℕ} 256 0; each = λ b l. absurd (let z : ⊥ = omega (arith, l) in z) }
-
-pub turn-more : (P vectors turned : List ℕ) (c : ℕ) → Masks P vectors → Turn P vectors turned c → c < 256
-    → Turn P vectors (set turned c (others (getD vectors c 0))) (c + 1)
-turn-more P vectors turned c y t l =
-    record {
-      full = length-set turned c _ ∙ t .full;
-      each = λ b near. by-cases (ℕ-discrete b c)
-          (λ (e : b ≡ c). rw e (getD-set-same turned c _ 0 (let z : c < length turned = omega (arith, l, t .full) in z)
-          ∙ ap others (y .each c l)))
-          (λ (e : ¬ (b ≡ c)). getD-set-other turned c b _ 0 e ∙ t .each b (omega (arith, near, e)));
-    }
-
-pub turn-all : (P vectors turned : List ℕ) (c : ℕ) → Turn P vectors turned c → 256 ≤ c → Others P turned
-turn-all P vectors turned c t l = record { full = t .full; each = λ b near. t .each b (omega (arith, near, l)) }
 
 -- a table of letters, which the search looks into beside the letter vectors and this walk does not
 unfoldable classTable : List ℕ
@@ -102,36 +82,37 @@ sweep-all w vectors y none high is =
     let t = sweeping-taken w (y .tables .some) (y .tables .short) high is in
     record { segment = t .seen; read = walk-done (t .walk) none; reached = t .reached; ended = t .ended }
 
--- a sound stretch has its count
-pub open-there : (s : List ℕ) (t : Text) → stretchOf s ≡ ok t → (n p : ℕ) → openAt s ≡ refused n p → ⊥
-unfolding stretchOf
-open-there s t e n p is = refused-ok n p t (rw is at e)
+-- a sound stretch opens
+pub open-there : (s : List ℕ) (t : Text) → wholeStretch s ≡ ok t → {r : Opened} → toldWalk r ≡ openedAt s → {f : Refusal}
+    → r ≡ Opened.Refused f → ⊥
+open-there s t e told {f} is = refused-ok (f .number) (f .place) t (sym (open-not s told is .1) ∙ e)
 
--- k of the segments of a text are walked over, and none ends; the first end of the text is that of what is left
-pub record Unended (P : List ℕ) (s : List ℕ) (t : Text) (all bits at k : ℕ) : Type 0 where
+-- the walk stands after some of the segments of a text, and none ends; the first end of the text is that of what is left
+pub record Unended (P : List ℕ) (s : List ℕ) (t : Text) (bits : ℕ) (w : Walk) : Type 0 where
   pub seen : Text
   pub left : Text
-  pub row : Row (λ _. segmentAt s) seen at left (length s)
-  pub count : k + length left ≡ all
-  pub few : all ≤ mostInStretch
+  pub row : Row (λ _. segmentAt s) seen (w .at) left (length s)
+  pub count : w .passed + length left ≡ w .count
+  pub few : w .count ≤ mostInStretch
   pub state : StateOf P bits
-  pub rest : firstEnd (marks P t) ≡ later k (firstEnd (marksFrom P bits left))
+  pub rest : firstEnd (marks P t) ≡ later (w .passed) (firstEnd (marksFrom P bits left))
 
-pub unended-none : (P vectors s : List ℕ) (t : Text) (all : ℕ) → Vectors P vectors → stretchOf s ≡ ok t → openAt s ≡ ok all
-    → Unended P s t all fresh 2 0
+pub unended-none : (P vectors s : List ℕ) (t : Text) → Vectors P vectors → wholeStretch s ≡ ok t → {w : Walk} → Opening s w
+    → Unended P s t fresh w
 unfolding marks
-unended-none P vectors s t all y e o =
-    let r = stretch-read s t e in
-    let n : all ≡ length t = open-met s all o .count ∙ r .count in
+unended-none P vectors s t y e {w} o =
+    let r = whole-read s t e in
+    let n : w .count ≡ length t = o .states ∙ r .count in
     let more : 2 ^ 1 ≤ 2 ^ length P = pow-mono (y .some) in
+    let start = later-zero (firstEnd (marksFrom P fresh t)) (firstEnd-le (marksFrom P fresh t)) in
     record {
       seen = [];
       left = t;
-      row = r .row;
-      count = omega (arith, n);
-      few = omega (arith, n, stretch-most s t e);
+      row = rw (o .first) (r .row);
+      count = omega (arith, n, o .begins .none);
+      few = omega (arith, n, whole-most s t e);
       state = record { small = omega (arith, more); odd = refl };
-      rest = sym (later-zero (firstEnd (marksFrom P fresh t)) (firstEnd-le (marksFrom P fresh t)));
+      rest = rw (o .begins .none) (sym start);
     }
 
 -- the first end of a text is in its first segment, or that of the others
@@ -144,70 +125,72 @@ front : (P : List ℕ) (bits state : ℕ) (g : Segment) (T : Text) (end : Bool) 
 unfolding marksFrom firstEnd
 front P bits state g T end e r = rw (e, r) (marked (ends P bits g) (firstEnd (marksFrom P (next P bits g) T)))
 
-module _ (P s : List ℕ) (t : Text) (all bits at k : ℕ) (w : Unended P s t all bits at k) where
+module _ {P s : List ℕ} {t : Text} {bits : ℕ} {w : Walk} (q : Unended P s t bits w) where
   -- the next segment
   record Ahead (left : Text) : Type 0 where
     segment : Segment
     place : ℕ
     more : Text
     is : left ≡ segment ∷ more
-    read : segmentAt s at ≡ ok (record { value = segment; next = place })
-    row : Row (λ _. segmentAt s) (w .seen ++ (segment ∷ [])) place more (length s)
+    read : segmentAt s (w .at) ≡ ok (record { value = segment; next = place })
+    row : Row (λ _. segmentAt s) (q .seen ++ (segment ∷ [])) place more (length s)
 
-  ahead : (left : Text) → Row (λ _. segmentAt s) (w .seen) at left (length s) → 0 < length left → Ahead left
+  ahead : (left : Text) → Row (λ _. segmentAt s) (q .seen) (w .at) left (length s) → 0 < length left → Ahead left
   unfolding Row
   ahead [] r l = absurd (let z : ⊥ = omega (arith, l) in z)
   ahead (g ∷ l) r _ = record { segment = g; place = r .0; more = l; is = refl; read = r .1; row = r .2 }
 
-  module _ (l : k < all) where
-    here : Ahead (w .left)
-    here = ahead (w .left) (w .row) (omega (arith, l, w .count))
+  module _ (l : w .passed < w .count) where
+    here : Ahead (q .left)
+    here = ahead (q .left) (q .row) (omega (arith, l, q .count))
 
-    pub unended-readable : Readable s at
+    pub unended-readable : Readable s (w .at)
     unended-readable = record { read = record { value = here .segment; next = here .place }; is = here .read }
 
-    module _ (behind state : ℕ) (end : Bool) (p : Stepped P bits s at behind state end) where
+    module _ (behind state : ℕ) (end : Bool) (p : Stepped P bits s (w .at) behind state end) where
       same : here .segment ≡ p .segment
       same = ap (λ (x : Taken Segment ℕ). x .value) (ok-inj (sym (here .read) ∙ p .read))
 
       place : here .place ≡ behind
       place = ap (λ (x : Taken Segment ℕ). x .next) (ok-inj (sym (here .read) ∙ p .read))
 
-      split : firstEnd (marksFrom P bits (w .left)) ≡ cond end 0 (later 1 (firstEnd (marksFrom P state (here .more))))
+      split : firstEnd (marksFrom P bits (q .left)) ≡ cond end 0 (later 1 (firstEnd (marksFrom P state (here .more))))
       split =
           ap (λ (u : Text). firstEnd (marksFrom P bits u)) (here .is)
           ∙ front P bits state (here .segment) (here .more) end (p .ended ∙ ap (ends P bits) (sym same)) (p .reached
           ∙ ap (next P bits) (sym same))
 
-      pub unended-ends : end ≡ true → k ≡ firstEnd (marks P t)
+      pub unended-ends : end ≡ true → w .passed ≡ firstEnd (marks P t)
       unfolding later
       unended-ends hit =
-          let one : firstEnd (marks P t) ≡ later k 0 = w .rest ∙ ap (later k) (split
+          let one : firstEnd (marks P t) ≡ later (w .passed) 0 = q .rest ∙ ap (later (w .passed)) (split
           ∙ ap (λ (b : Bool). cond b 0 (later 1 (firstEnd (marksFrom P state (here .more))))) hit) in
-          omega (arith, one, l, w .few)
+          omega (arith, one, l, q .few)
 
-      pub unended-more : 0 < length P → end ≡ false → Unended P s t all state behind (k + 1)
+      pub unended-more : 0 < length P → end ≡ false → (size : ℕ) {v : Walk} → v ≡ passedTo w behind size → Unended P s t state v
       unfolding run
-      unended-more some miss =
+      unended-more some miss size e =
+          let on = passed-on w behind size (omega (arith, l, q .few)) e in
           record {
-            seen = w .seen ++ (here .segment ∷ []);
+            seen = q .seen ++ (here .segment ∷ []);
             left = here .more;
-            row = rw place at (here .row);
-            count = omega (arith, w .count, ap length (here .is));
-            few = w .few;
-            state = rw (p .reached) (run-state P bits (p .segment ∷ []) some (w .state));
+            row = rw (on .2, ← place) (here .row);
+            count = omega (arith, q .count, ap length (here .is), on .0, on .1);
+            few = omega (arith, q .few, on .0);
+            state = rw (p .reached) (run-state P bits (p .segment ∷ []) some (q .state));
             rest =
-                w .rest ∙ ap (later k) (split ∙ ap (λ (b : Bool). cond b 0 (later 1 (firstEnd (marksFrom P state (here .more))))) miss)
-                ∙ sym (later-add k 1 (firstEnd (marksFrom P state (here .more))));
+                q .rest ∙ ap (later (w .passed)) (split ∙ ap (λ (b : Bool). cond b 0 (later 1 (firstEnd (marksFrom P state (here .more))))) miss)
+                ∙ sym (later-add (w .passed) 1 (firstEnd (marksFrom P state (here .more))))
+                ∙ ap (λ (i : ℕ). later i (firstEnd (marksFrom P state (here .more)))) (sym (on .1));
           }
 
-  pub unended-all : all ≤ k → none ≡ firstEnd (marks P t)
+  pub unended-all : w .count ≤ w .passed → none ≡ firstEnd (marks P t)
   unfolding marksFrom firstEnd
-  unended-all l = last (w .left) (omega (arith, l, w .count)) (w .rest)
+  unended-all l = last (q .left) (omega (arith, l, q .count)) (q .rest)
     where
-      last : (left : Text) → length left ≤ 0 → firstEnd (marks P t) ≡ later k (firstEnd (marksFrom P bits left))
+      last : (left : Text) → length left ≤ 0 → firstEnd (marks P t) ≡ later (w .passed) (firstEnd (marksFrom P bits left))
           → none ≡ firstEnd (marks P t)
-      last [] z e = sym (e ∙ later-none k)
+      last [] z e = sym (e ∙ later-none (w .passed))
       last (g ∷ l) z e = absurd (let y : ⊥ = omega (arith, z) in y)
 
 -- the tables of a record, and what is seen of it

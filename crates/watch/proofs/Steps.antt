@@ -13,7 +13,7 @@ use lib.Pow.{pow-lt}
 use lib.Seq.{drop-drop, getD-drop}
 use Rattle.text.specs.Text.{Text}
 use Rattle.text.specs.Card.{none}
-use Rattle.text.specs.Refusal.{ok, refused}
+use Rattle.text.specs.Refusal.{refused}
 use Rattle.text.specs.declared.refusal.Refusal.{Refusal}
 use Rattle.text.proofs.Outcomes.{told-met, told-refused}
 use Rattle.layout.specs.Bytes.{over}
@@ -22,7 +22,7 @@ use Rattle.layout.specs.Reading.{stretchOf}
 use Rattle.stretch.specs.declared.checking.Checked.{Checked}
 use Rattle.layout.proofs.Overs.{Copied, emitted-length, copied-none, copied-room, copied-more, copied-end}
 use Rattle.watch.specs.Watching.{sound, firstOf, endsIn}
-use Rattle.watch.specs.Rounds.{stopped, begunOf, askedOf, foundBy, markedBy, openedBy, openedOf, digits, listedOf, leftIn}
+use Rattle.watch.specs.Rounds.{stopped, begunOf, askedOf, foundBy, markedBy, openedOf, digits, listedOf, leftIn}
 use Rattle.watch.specs.declared.watched.Watched.{Watched}
 use Rattle.watch.specs.declared.round.Listed.{Listed}
 use Rattle.watch.specs.declared.round.Round.{Round}

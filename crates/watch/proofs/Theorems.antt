@@ -12,9 +12,9 @@ use lib.ListN.{length, getD, drop, List·getD-append}
 use Rattle.text.specs.Text.{Text}
 use Rattle.text.specs.Occurrence.{EndsIn}
 use Rattle.text.specs.State.{marks}
-use Rattle.text.specs.Refusal.{Outcome, ok, refused, demand, after}
+use Rattle.text.specs.Refusal.{ok, refused, demand, after}
 use Rattle.text.specs.declared.strand.Strand.the-variants.{Given}
-use Rattle.text.proofs.Outcomes.{ok-inj, after-met, demand-met, told-met}
+use Rattle.text.proofs.Outcomes.{ok-inj, after-met, demand-met}
 use Rattle.text.proofs.Occurrences.{marks-ends}
 use Rattle.layout.specs.Bytes.{over}
 use Rattle.layout.specs.Reading.{stretchOf}
@@ -22,12 +22,12 @@ use Rattle.layout.specs.Bytes.{leftBy}
 use Rattle.search.specs.Answers.{searching}
 use Rattle.search.specs.declared.searching.Searched.{Searched}
 use Rattle.search.proofs.Theorems.{Promised, search-marks}
-use Rattle.watch.specs.Watching.{mostWatched, basesOf, sound, allSound, firstWrong, listing, endsIn, firstOf, seen, clear, firstSeen}
+use Rattle.watch.specs.Watching.{mostWatched, basesOf, allSound, firstWrong, listing, endsIn, firstOf, seen, clear, firstSeen}
 use Rattle.watch.specs.Watching.{watching, marksOf, marking}
 use Rattle.watch.specs.Rounds.{blank}
 use Rattle.watch.specs.declared.watched.Watched.{Watched}
 use Rattle.watch.proofs.Lists.{Taken, listing-met, taken-sound, taken-few, mark-at, marks-count, mark-one, ends-marked, before-first}
-use Rattle.watch.proofs.Lists.{marked-ends, Earliest, earliest, none-ends, ends-none}
+use Rattle.watch.proofs.Lists.{marked-ends, earliest, none-ends, ends-none}
 
 -- the byte that `mark` leaves for record i in the buffer d
 abbrev pub markOf : List Watched → List ℕ → List ℕ → ℕ → ℕ

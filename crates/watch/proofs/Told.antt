@@ -1,12 +1,11 @@
--- Answers that are told alike are the same answer, and what they say in numbers is what they tell.
+-- Answers that are told alike are the same answer.
 use Prim.Native.Nat.{ℕ}
 use native.Mathlib.Omega.{arith}
 use mathlib.Core.Path.{_≡_, refl, sym, ap, ap₂}
-use Rattle.text.specs.Refusal.{Outcome, ok, refused, after, answer}
+use Rattle.text.specs.Refusal.{Outcome, refused}
 use Rattle.text.specs.declared.refusal.Refusal.{Refusal}
 use Rattle.text.proofs.Outcomes.{refused-ok, refused-inj, ok-inj}
-use Rattle.watch.specs.Watching.{Sighting, seen, clear, Pointed, toldFound, answerFound, pointedAt, zeroPointed, toldListed}
-use Rattle.watch.specs.Watching.{answerListed}
+use Rattle.watch.specs.Watching.{seen, clear, toldFound, toldListed}
 use Rattle.watch.specs.declared.round.Found.{Found}
 use Rattle.watch.specs.declared.round.Listed.{Listed}
 
@@ -31,23 +30,8 @@ found-once (Found.Refused r) (Found.Ends l k) e = absurd (refused-ok (r .number)
 found-once (Found.Refused r) Found.None e = absurd (refused-ok (r .number) (r .place) _ e)
 found-once (Found.Refused r) (Found.Refused s) e = ap Found.Refused (same-refusal r s e)
 
-abbrev pointed : Outcome Sighting → Outcome Pointed
-pointed o = after o (λ x. ok (pointedAt x))
-
-pub found-both : (r : Found) {o : Outcome Sighting} → toldFound r ≡ o
-    → (toldFound r ≡ o) × (answerFound r ≡ answer zeroPointed (after o (λ x. ok (pointedAt x))))
-unfolding answerFound
-found-both (Found.Ends l k) e = (e, ap (λ (o : Outcome Sighting). answer zeroPointed (pointed o)) e)
-found-both Found.None e = (e, ap (λ (o : Outcome Sighting). answer zeroPointed (pointed o)) e)
-found-both (Found.Refused r) e = (e, ap (λ (o : Outcome Sighting). answer zeroPointed (pointed o)) e)
-
 pub listed-once : (a b : Listed) → toldListed a ≡ toldListed b → a ≡ b
 listed-once Listed.Marked Listed.Marked e = refl
 listed-once Listed.Marked (Listed.Refused r) e = absurd (refused-ok (r .number) (r .place) _ (sym e))
 listed-once (Listed.Refused r) Listed.Marked e = absurd (refused-ok (r .number) (r .place) _ e)
 listed-once (Listed.Refused r) (Listed.Refused s) e = ap Listed.Refused (same-refusal r s e)
-
-pub listed-both : (r : Listed) {o : Outcome (Unit {0})} → toldListed r ≡ o → (toldListed r ≡ o) × (answerListed r ≡ answer tt o)
-unfolding answerListed
-listed-both Listed.Marked e = (e, ap (answer tt) e)
-listed-both (Listed.Refused r) e = (e, ap (answer tt) e)

@@ -7,9 +7,8 @@ use lib.Dec.{leb}
 use lib.ListN.{length, getD}
 use Rattle.text.specs.Text.{Text}
 use Rattle.text.specs.Refusal.{Outcome, ok, refused}
-use Rattle.text.specs.declared.refusal.Refusal.{Refusal}
 use Rattle.layout.specs.Bytes.{over}
-use Rattle.layout.specs.Reading.{stretchOf}
+use Rattle.layout.specs.Reading.{wholeStretch, stretchOf}
 use Rattle.search.specs.First.{unless}
 use Rattle.watch.specs.Watching.{mostWatched, sound, firstOf, endsIn}
 use Rattle.watch.specs.declared.watched.Watched.{Watched}
@@ -20,7 +19,7 @@ use Rattle.watch.specs.declared.round.Listed.{Listed}
 
 -- the text of a sound stretch
 unfoldable pub textOf : List ℕ → Text
-textOf s = unless (stretchOf s) [] (λ t. t)
+textOf s = unless (wholeStretch s) [] (λ t. t)
 
 -- a refusal
 abbrev pub stopped : ℕ → ℕ → Round
@@ -106,7 +105,7 @@ leftIn n (Marking b) d = cond (leb n (length d)) (over d 0 (digits n b)) d
 
 -- a record that may be looked for in a stretch: both were found sound
 pub record Sought (s : List ℕ) (w : Watched) : Type 0 where
-  pub means : stretchOf s ≡ ok (textOf s)
+  pub means : wholeStretch s ≡ ok (textOf s)
   pub spells : sound w ≡ true
 
 -- what a step with record i asks
@@ -123,7 +122,7 @@ blank = record { pattern = []; m = 0; label = 0 }
 
 -- a list that may be looked for in a stretch
 pub record SoughtAll (s : List ℕ) (ws : List Watched) : Type 0 where
-  pub means : stretchOf s ≡ ok (textOf s)
+  pub means : wholeStretch s ≡ ok (textOf s)
   pub spell : (k : ℕ) → k < length ws → sound (getD ws k blank) ≡ true
   pub few : length ws ≤ mostWatched
 

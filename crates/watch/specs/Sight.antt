@@ -8,7 +8,7 @@ use Rattle.text.specs.Letter.{meant}
 use Rattle.text.specs.Text.{Variant, Segment}
 use Rattle.text.specs.State.{next, ends}
 use Rattle.text.specs.Refusal.{ok}
-use Rattle.layout.specs.Reading.{Taken, segmentAt}
+use Rattle.layout.specs.Reading.{segmentAt}
 use Rattle.search.specs.Masks.{Others, StateOf}
 use Rattle.search.specs.Words.{Turned}
 
@@ -26,11 +26,6 @@ pub record Armed (P vectors : List ℕ) (st : ℕ) : Type 0 where
 -- what a scan of the variant with the bytes v comes to, for every pattern whose letter vectors these are
 abbrev pub ScannedBy : List ℕ → ℕ → ℕ → Variant → ℕ → ℕ → Type 0
 ScannedBy vectors st before v out missed = (P : List ℕ) → Armed P vectors st → Turned P st (meant v ∷ []) before out missed
-
--- a segment can be read at `at`
-pub record Readable (s : List ℕ) (at : ℕ) : Type 0 where
-  pub read : Taken Segment ℕ
-  pub is : segmentAt s at ≡ ok read
 
 -- the segment that stands from `at` up to `behind`, the state after it, and whether an occurrence ends in it
 pub record Stepped (P : List ℕ) (st : ℕ) (s : List ℕ) (at behind state : ℕ) (end : Bool) : Type 0 where

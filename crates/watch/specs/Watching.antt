@@ -7,7 +7,7 @@ use lib.ListN.{length, take}
 use Rattle.text.specs.Text.{Text}
 use Rattle.text.specs.State.{marks}
 use Rattle.text.specs.Card.{none, firstEnd}
-use Rattle.text.specs.Refusal.{Outcome, ok, refused, demand, after, greatestPattern, pattern, Answer}
+use Rattle.text.specs.Refusal.{Outcome, ok, refused, demand, after, greatestPattern, pattern, Answer, answer}
 use Rattle.layout.specs.Reading.{stretchOf}
 use Rattle.watch.specs.declared.watched.Watched.{Watched}
 use Rattle.watch.specs.declared.round.Found.{Found}
@@ -87,10 +87,8 @@ pointedAt clear = record { label = 0; segment = none }
 abbrev pub zeroPointed : Pointed
 zeroPointed = record { label = 0; segment = 0 }
 
-unfoldable pub answerFound : Found → Answer Pointed
-answerFound (Ends label segment) = record { number = 0; place = 0; value = record { label = label; segment = segment } }
-answerFound Found.None = record { number = 0; place = 0; value = record { label = 0; segment = none } }
-answerFound (Found.Refused r) = record { number = r .number; place = r .place; value = zeroPointed }
+abbrev pub answerFound : Found → Answer Pointed
+answerFound r = answer zeroPointed (after (toldFound r) λ x. ok (pointedAt x))
 
 -- 1 or 0 for each record: whether it ends anywhere
 unfoldable pub marksOf : List Watched → Text → List ℕ
@@ -105,9 +103,8 @@ toldListed Marked = ok tt
 toldListed (Listed.Refused r) = refused (r .number) (r .place)
 
 -- the same in numbers
-unfoldable pub answerListed : Listed → Answer (Unit {0})
-answerListed Marked = record { number = 0; place = 0; value = tt }
-answerListed (Listed.Refused r) = record { number = r .number; place = r .place; value = tt }
+abbrev pub answerListed : Listed → Answer (Unit {0})
+answerListed r = answer tt (toldListed r)
 
 -- that it was accepted
 abbrev pub accepted : {A : Type 0} → Outcome A → Outcome (Unit {0})

@@ -13,10 +13,9 @@ ghost use mathlib.Core.Path.{_≡_};
 ghost use Prim.Native.Nat.{_<_};
 ghost use lib.ListN.{length, getD};
 ghost use Rattle.layout.specs.Bytes.{leftBy};
-ghost use Rattle.text.specs.Refusal.{ok, after, answer};
-ghost use Rattle.watch.specs.Watching.{watching, toldFound, answerFound, pointedAt, zeroPointed};
-ghost use Rattle.watch.specs.Watching.{marking, toldListed, answerListed, marksOf, accepted};
-ghost use Rattle.watch.specs.Rounds.{blank, ReadyAll, rounds, textOf, stepOf, watched};
+ghost use Rattle.watch.specs.Watching.{watching, toldFound};
+ghost use Rattle.watch.specs.Watching.{marking, toldListed, marksOf, accepted};
+ghost use Rattle.watch.specs.Rounds.{blank, ReadyAll, rounds, textOf, watched};
 
 // Record i.
 fn at(list: &[Watched], i: usize) -> Watched
@@ -51,8 +50,7 @@ fn watch(list: &[Watched], stretch: &[u8], all: bool) -> Round
 // The label and the first ending segment of the first record that ends anywhere in the stretch: refusals 20 and 21, then those of the
 // stretch.
 pub fn first(list: &[Watched], stretch: &[u8]) -> Found
-    ensures { λ r. ⌜ (toldFound r ≡ watching (now (list .entry)) (now (stretch .entry)))
-        × (answerFound r ≡ answer zeroPointed (after (watching (now (list .entry)) (now (stretch .entry))) (λ x. ok (pointedAt x)))) ⌝ }
+    ensures { λ r. ⌜ toldFound r ≡ watching (now (list .entry)) (now (stretch .entry)) ⌝ }
 {
     sighted(watch(list, stretch, false))
 }
@@ -61,7 +59,6 @@ pub fn first(list: &[Watched], stretch: &[u8]) -> Found
 // bytes stay, and a refusal changes nothing.
 pub fn mark(list: &[Watched], stretch: &[u8], marks: &mut [u8]) -> Listed
     ensures { λ r. ⌜ (toldListed r ≡ accepted (marking (now (list .entry)) (now (stretch .entry)) (length (now (marks .entry)))))
-        × (answerListed r ≡ answer tt (accepted (marking (now (list .entry)) (now (stretch .entry)) (length (now (marks .entry))))))
         × (now (marks .exit) ≡ leftBy (marksOf (now (list .entry)))
         (marking (now (list .entry)) (now (stretch .entry)) (length (now (marks .entry)))) (now (marks .entry))) ⌝ }
 {

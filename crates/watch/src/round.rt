@@ -6,6 +6,7 @@ use crate::watched::is_sound;
 use stretch::Checked;
 use stretch::check;
 use text::Refusal;
+use text::limits;
 use text::refusal;
 ghost use mathlib.Core.Path.{_≡_};
 ghost use Prim.Native.Nat.{_<_, _≤_, _^_};
@@ -41,7 +42,7 @@ pub enum Listed {
 pub fn begun(n: usize) -> Round
     ensures { λ r. ⌜ r ≡ begunOf n ⌝ }
 {
-    if refusal::MOST_WATCHED < n {
+    if limits::MOST_WATCHED < n {
         return Round::Refused(Refusal {
             number: refusal::LIST_LONG,
             place: 0,
@@ -69,7 +70,7 @@ fn sought(stretch: &[u8], item: Watched) -> Round
     ensures { λ r. ⌜ r ≡ foundBy (textOf (now (stretch .entry))) item ⌝ }
 {
     let segment = sight(stretch, item);
-    if segment < refusal::NO_SEGMENT {
+    if segment < limits::NO_SEGMENT {
         return Round::Found {
             label: item.label,
             segment,
@@ -84,7 +85,7 @@ fn marked(stretch: &[u8], i: usize, item: Watched, bits: u64) -> Round
     ensures { λ r. ⌜ r ≡ markedBy (textOf (now (stretch .entry))) i item bits ⌝ }
 {
     let segment = sight(stretch, item);
-    if segment < refusal::NO_SEGMENT {
+    if segment < limits::NO_SEGMENT {
         return Round::Marking(bits + (1 << i));
     }
     Round::Marking(bits)

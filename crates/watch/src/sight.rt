@@ -3,26 +3,23 @@
 use crate::watched::Watched;
 use layout::cursor::Cursor;
 use layout::cursor::Entered;
-use layout::pieces::FIRST_SEGMENT;
-use layout::pieces::Opened;
 use layout::pieces::Part;
-use layout::pieces::open;
+use layout::walk::Opened;
+use layout::walk::Walk;
 use search::State;
-use search::masks;
-use text::refusal;
+use search::complements;
+use text::limits;
 ghost use mathlib.Core.Path.{_≡_};
 ghost use Rattle.text.specs.Refusal.{ok};
 ghost use Rattle.text.specs.State.{marks};
 ghost use Rattle.text.specs.Card.{firstEnd};
-ghost use Rattle.layout.specs.Pieces.{openAt};
-ghost use Rattle.layout.specs.Reading.{stretchOf};
-ghost use Rattle.search.specs.Masks.{bases, Others};
+ghost use Rattle.layout.specs.Reading.{wholeStretch, Readable};
 ghost use Rattle.watch.specs.Watching.{firstOf};
 ghost use Rattle.watch.specs.Rounds.{Sought, textOf};
-ghost use Rattle.watch.specs.Sight.{Armed, Vectors, ScannedBy, Readable, Stepped};
+ghost use Rattle.watch.specs.Sight.{Armed, Vectors, ScannedBy, Stepped};
 
 // The complement of the word after a variant, and the bits that no word has had so far.
-struct Scanned {
+struct Led {
     out: u64,
     missed: u64,
 }
@@ -34,22 +31,8 @@ struct Passed {
     ends: bool,
 }
 
-// The complement of the letter vector of what each byte means.
-fn others(pattern: &[u8]) -> [u64; 256]
-    ensures { λ r. ⌜ Others (bases (now (pattern .entry))) r ⌝ }
-{
-    let vectors = masks(pattern);
-    let mut complements = [0u64; 256];
-    let mut c = 0;
-    while c < 256 {
-        complements[c] = !vectors[c];
-        c += 1;
-    }
-    complements
-}
-
 // The word that the letters of a variant lead to.
-fn scan(vectors: &[u64; 256], bits: u64, before: u64, variant: &[u8]) -> Scanned
+fn scan(vectors: &[u64; 256], bits: u64, before: u64, variant: &[u8]) -> Led
     ensures { λ r. ⌜ ScannedBy (now (vectors .entry)) bits before (now (variant .entry)) (r .out) (r .missed) ⌝ }
 {
     let mut out = !bits;
@@ -62,7 +45,7 @@ fn scan(vectors: &[u64; 256], bits: u64, before: u64, variant: &[u8]) -> Scanned
         out = e << 1;
         i += 1;
     }
-    Scanned { out, missed }
+    Led { out, missed }
 }
 
 // The state after the segment at `at`, a sound one.
@@ -108,37 +91,26 @@ fn over(state: State, pattern: &[u8], vectors: &[u64; 256], stretch: &[u8], at: 
     }
 }
 
-// How many segments a sound stretch has.
-fn segments(stretch: &[u8]) -> usize
-    requires { ⌜ stretchOf (now stretch) ≡ ok (textOf (now stretch)) ⌝ }
-    ensures { λ r. ⌜ openAt (now (stretch .entry)) ≡ ok r ⌝ }
-{
-    match open(stretch) {
-        Opened::Segments(all) => all,
-        // A sound stretch has its count.
-        Opened::Refused(_) => 0,
-    }
-}
-
-// The first segment of a sound stretch in which an occurrence of the pattern ends, or none.
+// The first segment of a sound stretch in which an occurrence of the pattern ends, or none. Sizes are not asked for.
 fn first_end(pattern: &[u8], vectors: &[u64; 256], stretch: &[u8]) -> usize
-    requires { ⌜ Vectors (now pattern) (now vectors) × (stretchOf (now stretch) ≡ ok (textOf (now stretch))) ⌝ }
+    requires { ⌜ Vectors (now pattern) (now vectors) × (wholeStretch (now stretch) ≡ ok (textOf (now stretch))) ⌝ }
     ensures { λ r. ⌜ r ≡ firstEnd (marks (now (pattern .entry)) (textOf (now (stretch .entry)))) ⌝ }
 {
-    let all = segments(stretch);
+    let Opened::At(opened) = Walk::open(stretch) else {
+        // A sound stretch has its count.
+        return limits::NO_SEGMENT;
+    };
+    let mut walk = opened;
     let mut state = State::FRESH;
-    let mut at = FIRST_SEGMENT;
-    let mut k = 0;
-    while k < all {
-        let passed = over(state, pattern, vectors, stretch, at);
+    while walk.passed < walk.count {
+        let passed = over(state, pattern, vectors, stretch, walk.at);
         if passed.ends {
-            return k;
+            return walk.passed;
         }
         state = passed.state;
-        at = passed.next;
-        k += 1;
+        walk = walk.past(passed.next, 0);
     }
-    refusal::NO_SEGMENT
+    limits::NO_SEGMENT
 }
 
 // The first segment in which an occurrence of a record ends, or none.
@@ -149,6 +121,6 @@ pub fn sight(stretch: &[u8], item: Watched) -> usize
     let m = item.m as usize;
     let bytes = item.pattern;
     let pattern = &bytes[..m];
-    let vectors = others(pattern);
+    let vectors = complements(pattern);
     first_end(pattern, &vectors, stretch)
 }

@@ -1,7 +1,7 @@
 // The records of a watch list.
-use text::pattern::PatternIs;
+use text::Verdict;
+use text::limits;
 use text::pattern::check;
-use text::refusal;
 ghost use mathlib.Core.Path.{_≡_};
 ghost use Rattle.watch.specs.Watching.{sound};
 
@@ -17,12 +17,12 @@ pub fn is_sound(item: Watched) -> bool
     ensures { λ r. ⌜ r ≡ sound item ⌝ }
 {
     let m = item.m as usize;
-    if refusal::GREATEST_PATTERN < m {
+    if limits::GREATEST_PATTERN < m {
         return false;
     }
     let bytes = item.pattern;
     match check(&bytes[..m]) {
-        PatternIs::Sound => true,
-        PatternIs::Refused(_) => false,
+        Verdict::Sound => true,
+        Verdict::Refused(_) => false,
     }
 }

@@ -1,5 +1,5 @@
 -- Laws of the text that a write is given: its segments one after another, and the bytes that they need.
-use Prim.Native.Nat.{ℕ, _+_, _*_, _<_, _≤_}
+use Prim.Native.Nat.{ℕ, _+_, _<_, _≤_}
 use native.Mathlib.Numerals.{add-one}
 use native.Mathlib.Omega.{arith}
 use mathlib.Core.Path.{_≡_, refl, sym, ap, _∙_}
@@ -8,12 +8,12 @@ use lib.ListN.{length, take, drop, getD, length-append, take-append-drop}
 use lib.Seq.{drop-cons, drop-drop, take-add, take-all, take-at, drop-at}
 use Rattle.text.specs.Text.{Segment, total}
 use Rattle.text.proofs.Sizes.{total-append}
-use Rattle.layout.specs.Bytes.{part, wordBytes}
-use Rattle.layout.specs.Encoding.{bytesOf, encodeVariant, encodeSegment, encode}
+use Rattle.layout.specs.Bytes.{part}
+use Rattle.layout.specs.Encoding.{encodeSegment, encode}
+use Rattle.layout.specs.Sizes.{segmentBytes}
 use Rattle.writer.specs.Cuts.{cut, sum, sumFrom, pieces, Within}
 use Rattle.writer.specs.Writing.{given, Matching, needed}
-use Rattle.layout.proofs.Rows.{bytes-append}
-use Rattle.layout.proofs.Lengths.{length-variant}
+use Rattle.layout.proofs.Lengths.{length-segment, length-text}
 use Rattle.writer.proofs.Totals.{sum-at}
 use Rattle.writer.proofs.Cuts.{cut-append, length-cut, length-pieces, length-part}
 
@@ -62,63 +62,60 @@ module _ {letters lengths counts : List ℕ} {j v at : ℕ} (m : Matched letters
       let size : length g ≡ n = length-pieces letters lengths v at n (matched-within .listed) in
       rw (add-one, drop-cons counts j 0, variants-split, take-at g rest n size, drop-at g rest n size)
 
--- how many bytes variants take that are cut from a list, and segments that are cut from variants
-length-variants : (ns l : List ℕ) → length (bytesOf encodeVariant (cut ns l)) ≡ 2 * length ns + length (take (sum ns) l)
-unfolding bytesOf cut total
-length-variants [] l = refl
-length-variants (n ∷ ns) l =
-    omega (
-      arith,
-      length-append (encodeVariant (take n l)) (bytesOf encodeVariant (cut ns (drop n l))),
-      length-variant (take n l),
-      length-variants ns (drop n l),
-      ap length (take-add n (sum ns) l),
-      length-append (take n l) (take (sum ns) (drop n l)),
-    )
+-- what the pieces of a list have together
+module _ {A : Type 0} where
+  cut-lengths : (ns : List ℕ) (l : List A) → total length (cut ns l) ≡ length (take (sum ns) l)
+  unfolding cut total
+  cut-lengths [] l = refl
+  cut-lengths (n ∷ ns) l =
+      omega (
+        arith,
+        cut-lengths ns (drop n l),
+        ap length (take-add n (sum ns) l),
+        length-append (take n l) (take (sum ns) (drop n l)),
+      )
 
-length-segments :
-    (cs : List ℕ) (g : Segment) →
-    length (bytesOf encodeSegment (cut cs g)) ≡ length cs + length (bytesOf encodeVariant (take (sum cs) g))
-unfolding bytesOf cut total encodeSegment
-length-segments [] g = refl
-length-segments (c ∷ cs) g =
-    let rest : Segment = take (sum cs) (drop c g) in
-    let first : List ℕ = bytesOf encodeVariant (take c g) in
-    let more : List ℕ = bytesOf encodeVariant rest in
-    let all : bytesOf encodeVariant (take (c + sum cs) g) ≡ first ++ more = rw take-add (bytes-append encodeVariant (take c g) rest) in
-    omega (
-      arith,
-      length-append first (bytesOf encodeSegment (cut cs (drop c g))),
-      length-segments cs (drop c g),
-      ap length all,
-      length-append first more,
-    )
+  cut-total : (f : A → ℕ) (ns : List ℕ) (l : List A) → total (total f) (cut ns l) ≡ total f (take (sum ns) l)
+  unfolding cut total
+  cut-total f [] l = refl
+  cut-total f (n ∷ ns) l =
+      omega (
+        arith,
+        cut-total f ns (drop n l),
+        ap (total f) (take-add n (sum ns) l),
+        total-append f (take n l) (take (sum ns) (drop n l)),
+      )
 
 -- the bytes that a write needs are those of its text
 pub needed-is :
     {letters lengths counts : List ℕ} → Matching letters lengths counts →
     needed letters lengths counts ≡ length (encode (given letters lengths counts))
-unfolding needed encode given wordBytes
+unfolding needed given
 needed-is {letters} {lengths} {counts} m =
     let g : Segment = cut lengths letters in
     let variants : length g ≤ sum counts = omega (arith, m .listed, length-cut lengths letters) in
     let spelt : length letters ≤ sum lengths = omega (arith, m .spelt) in
     omega (
       arith,
-      length-segments counts g,
-      ap (λ (x : Segment). length (bytesOf encodeVariant x)) (take-all (sum counts) g variants),
-      length-variants lengths letters,
+      length-text (cut counts g),
+      length-cut counts g,
+      length-cut lengths letters,
+      cut-lengths counts g,
+      ap length (take-all (sum counts) g variants),
+      cut-total length counts g,
+      ap (total length) (take-all (sum counts) g variants),
+      cut-lengths lengths letters,
       ap length (take-all (sum lengths) letters spelt),
     )
 
-pub length-segment :
+pub segment-size :
     (letters : List ℕ) {lengths : List ℕ} {v at n : ℕ} → Within (length letters) lengths v at n →
-    length (encodeSegment (pieces letters lengths v at n)) ≡ 1 + 2 * n + sumFrom lengths v n
-unfolding encodeSegment
-length-segment letters {lengths} {v} {at} {n} w =
+    length (encodeSegment (pieces letters lengths v at n)) ≡ segmentBytes (sumFrom lengths v n) n
+segment-size letters {lengths} {v} {at} {n} w =
     omega (
       arith,
-      length-variants (part lengths v n) (drop at letters),
-      length-part lengths v n (w .listed),
+      length-segment (pieces letters lengths v at n),
+      length-pieces letters lengths v at n (w .listed),
+      cut-lengths (part lengths v n) (drop at letters),
       length-part letters at (sumFrom lengths v n) (w .inside),
     )

@@ -1,17 +1,16 @@
--- Laws of sums that are compared with a target as they grow, and of the size that a write needs.
-use Prim.Native.Nat.{ℕ, _+_, _*_, _-_, _<_, _≤_}
+-- Laws of sums that are compared with a target as they grow.
+use Prim.Native.Nat.{ℕ, _+_, _-_, _<_, _≤_}
 use native.Mathlib.Numerals.{add-one}
 use native.Mathlib.Omega.{arith}
-use mathlib.Core.Path.{_≡_, sym, _∙_}
+use mathlib.Core.Path.{_≡_, _∙_}
 use mathlib.Core.Bool.{false}
 use mathlib.Core.List.{List}
-use borrow.Author.Tests.{eqb-true, eq-eqb, ne-eqb, lt-leb}
-use lib.Dec.{eqb, leb}
+use borrow.Author.Tests.{eqb-true, eq-eqb, ne-eqb}
+use lib.Dec.{eqb}
 use lib.ListN.{length, getD, drop, drop-of-length-le}
 use lib.Seq.{drop-cons}
 use Rattle.text.specs.Text.{total}
 use Rattle.text.proofs.Truth.{same-truth}
-use Rattle.layout.specs.Bytes.{greatestStretch}
 use Rattle.writer.specs.Cuts.{sum}
 
 -- the sum from number i on: one number more
@@ -44,9 +43,3 @@ module _ {ns : List ℕ} {target i left : ℕ} (s : Summing ns target i left) wh
       same-truth (eqb left 0) (eqb (sum ns) target)
       (λ e. let h : left ≡ 0 = eqb-true left 0 e in let k : sum ns ≡ target = omega arith in eq-eqb (sum ns) target k)
       (λ e. let h : sum ns ≡ target = eqb-true (sum ns) target e in let k : left ≡ 0 = omega arith in eq-eqb left 0 k)
-
--- a write of that many letters, variants and segments that is longer than a stretch
-pub too-long :
-    (letters variants segments : ℕ) → greatestStretch < 2 + segments + 2 * variants + letters →
-    false ≡ leb (2 + segments + 2 * variants + letters) greatestStretch
-too-long letters variants segments l = sym (lt-leb (2 + segments + 2 * variants + letters) greatestStretch l)

@@ -1,5 +1,5 @@
 -- Writing: letters in a row, variant lengths and variant counts, cut into segments and checked.
-use Prim.Native.Nat.{ℕ, _+_, _*_}
+use Prim.Native.Nat.{ℕ, _+_}
 use mathlib.Core.Path.{_≡_}
 use mathlib.Core.Bool.{not, _&&_}
 use mathlib.Core.List.{List, [], map, flatten}
@@ -10,6 +10,7 @@ use Rattle.text.specs.Text.{Variant, Segment, Text}
 use Rattle.text.specs.Refusal.{Outcome, ok, demand, after}
 use Rattle.layout.specs.Bytes.{greatestStretch, part}
 use Rattle.layout.specs.Reading.{Taken, among, many}
+use Rattle.layout.specs.Sizes.{textBytes}
 use Rattle.writer.specs.Cuts.{cut, sum}
 
 -- the segments that a call gives: the letters cut by the lengths, and those variants by the counts
@@ -51,7 +52,7 @@ segmentsGiven letters lengths counts =
 
 -- the bytes that a write needs
 unfoldable pub needed : List ℕ → List ℕ → List ℕ → ℕ
-needed letters lengths counts = 2 + length counts + 2 * length lengths + length letters
+needed letters lengths counts = textBytes (length letters) (length lengths) (length counts)
 
 -- a write of letters in upper case into a buffer of `room` bytes: the text to write
 unfoldable pub writingCapitals : List ℕ → List ℕ → List ℕ → ℕ → Outcome Text

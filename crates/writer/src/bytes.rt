@@ -1,8 +1,12 @@
 // The bytes of a text, put into a buffer that has room for them.
 use crate::sums::stated;
-use layout::number::put_word;
+use layout::FIRST_VARIANT;
+use layout::after_variant;
 use layout::number::wide;
+use layout::put_segments;
 use layout::put_variant;
+use layout::put_variants;
+use layout::text_bytes;
 ghost use mathlib.Core.Path.{_≡_};
 ghost use Prim.Native.Nat.{_+_, _≤_};
 ghost use Rattle.text.specs.Letter.{meant};
@@ -30,37 +34,36 @@ fn put_segment(
     ensures { λ r. ⌜ now (out .exit) ≡ over (now (out .entry)) at
         (encodeSegment (pieces (meant (now (letters .entry))) (now (lengths .entry)) first from count)) ⌝ }
 {
-    out[at] = count;
     let variants = wide(count);
-    let mut next = at + 1;
+    put_variants(variants, &mut *out, at);
+    let mut next = at + FIRST_VARIANT;
     let mut start = from;
     let mut k = 0;
     while k < variants {
         let size = stated(lengths[first + k]);
         let end = start + size;
         put_variant(&letters[start..end], &mut *out, next);
-        next += 2 + size;
+        next = after_variant(next, size);
         start = end;
         k += 1;
     }
     start
 }
 
-// The whole text: its segment count, then its segments. Before a segment stand its number of variant counts, and the lengths and
-// letters of the variants before it.
+// The whole text: its segment count, then its segments. A segment stands where the text of those before it would end.
 pub fn put_text(letters: &[u8], lengths: &[u16], counts: &[u8], out: &mut [u8])
     requires { ⌜ Matching (meant (now letters)) (now lengths) (now counts) ⌝ }
     requires { ⌜ needed (meant (now letters)) (now lengths) (now counts) ≤ length (now out) ⌝ }
     ensures { λ r. ⌜ now (out .exit) ≡ over (now (out .entry)) 0
         (encode (given (meant (now (letters .entry))) (now (lengths .entry)) (now (counts .entry)))) ⌝ }
 {
-    put_word(counts.len(), &mut *out, 0);
+    put_segments(counts.len(), &mut *out);
     let mut variant = 0;
     let mut letter = 0;
     let mut segment = 0;
     while segment < counts.len() {
         let count = counts[segment];
-        let at = 2 + segment + 2 * variant + letter;
+        let at = text_bytes(letter, variant, segment);
         letter = put_segment(letters, lengths, variant, letter, count, &mut *out, at);
         variant += wide(count);
         segment += 1;

@@ -4,5 +4,4 @@ mod sound;
 mod sums;
 mod writing;
 
-pub use writing::Put;
 pub use writing::put_stretch;

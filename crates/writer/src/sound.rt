@@ -2,24 +2,20 @@
 // count over the whole call.
 use crate::sums::stated;
 use layout::number::wide;
+use text::Amount;
 use text::Refusal;
 use text::from_end::alike_from_end;
 use text::letter::first_wrong;
 use text::refusal;
 ghost use mathlib.Core.Path.{_≡_};
 ghost use Prim.Native.Nat.{_+_, _<_};
+ghost use Rattle.text.specs.Refusal.{toldAmount};
 ghost use Rattle.text.specs.Letter.{meant};
 ghost use lib.ListN.{length, getD};
 ghost use Rattle.layout.specs.Reading.{among};
 ghost use Rattle.writer.specs.Cuts.{Within, Behind, pieces};
 ghost use Rattle.writer.specs.Writing.{Matching, spot, variantGiven, segmentGiven, segmentsGiven};
-ghost use Rattle.writer.specs.Answers.{toldReached, reached};
-
-// The number of the first letter after what was checked.
-pub enum Reached {
-    Letter(usize),
-    Refused(Refusal),
-}
+ghost use Rattle.writer.specs.Answers.{reached};
 
 // Whether a variant spells what one of the k from variant `first` on spells, whose letters stand from `from` on.
 fn repeated(
@@ -56,9 +52,9 @@ fn variant_given(
     from: usize,
     k: usize,
     at: usize,
-) -> Reached
+) -> Amount
     requires { ⌜ Behind (length (meant (now letters))) (now lengths) first from k at ⌝ }
-    ensures { λ r. ⌜ toldReached r ≡ reached (variantGiven (meant (now (letters .entry))) (now (lengths .entry))
+    ensures { λ r. ⌜ toldAmount r ≡ reached (variantGiven (meant (now (letters .entry))) (now (lengths .entry))
         (pieces (meant (now (letters .entry))) (now (lengths .entry)) first from k)
         (spot (first + k) at)) ⌝ }
 {
@@ -68,18 +64,18 @@ fn variant_given(
     let wrong = first_wrong(variant);
     if wrong < end - at {
         let place = at + wrong;
-        return Reached::Refused(Refusal {
+        return Amount::Refused(Refusal {
             number: refusal::WRONG_LETTER,
             place,
         });
     }
     if repeated(letters, lengths, first, from, k, variant) {
-        return Reached::Refused(Refusal {
+        return Amount::Refused(Refusal {
             number: refusal::REPEATED,
             place: number,
         });
     }
-    Reached::Letter(end)
+    Amount::Is(end)
 }
 
 // Segment number `segment`, which begins with variant `first` at letter `from`: refusals 6, 7 and 8.
@@ -90,15 +86,15 @@ fn segment_given(
     segment: usize,
     first: usize,
     from: usize,
-) -> Reached
+) -> Amount
     requires { ⌜ segment < length (now counts) ⌝ }
     requires { ⌜ Within (length (meant (now letters))) (now lengths) first from (getD (now counts) segment 0) ⌝ }
-    ensures { λ r. ⌜ toldReached r ≡ reached
+    ensures { λ r. ⌜ toldAmount r ≡ reached
         (segmentGiven (meant (now (letters .entry))) (now (lengths .entry)) (now (counts .entry)) segment (spot first from)) ⌝ }
 {
     let count = wide(counts[segment]);
     if count == 0 {
-        return Reached::Refused(Refusal {
+        return Amount::Refused(Refusal {
             number: refusal::NO_VARIANTS,
             place: segment,
         });
@@ -107,22 +103,22 @@ fn segment_given(
     let mut k = 0;
     while k < count {
         match variant_given(letters, lengths, first, from, k, at) {
-            Reached::Refused(refused) => {
-                return Reached::Refused(refused);
+            Amount::Refused(refused) => {
+                return Amount::Refused(refused);
             }
-            Reached::Letter(next) => {
+            Amount::Is(next) => {
                 at = next;
                 k += 1;
             }
         }
     }
-    Reached::Letter(at)
+    Amount::Is(at)
 }
 
 // All segments, where the counts sum to the number of lengths and the lengths to the number of letters.
-pub fn segments_given(letters: &[u8], lengths: &[u16], counts: &[u8]) -> Reached
+pub fn segments_given(letters: &[u8], lengths: &[u16], counts: &[u8]) -> Amount
     requires { ⌜ Matching (meant (now letters)) (now lengths) (now counts) ⌝ }
-    ensures { λ r. ⌜ toldReached r ≡ reached
+    ensures { λ r. ⌜ toldAmount r ≡ reached
         (segmentsGiven (meant (now (letters .entry))) (now (lengths .entry)) (now (counts .entry))) ⌝ }
 {
     let mut variant = 0;
@@ -130,15 +126,15 @@ pub fn segments_given(letters: &[u8], lengths: &[u16], counts: &[u8]) -> Reached
     let mut segment = 0;
     while segment < counts.len() {
         match segment_given(letters, lengths, counts, segment, variant, at) {
-            Reached::Refused(refused) => {
-                return Reached::Refused(refused);
+            Amount::Refused(refused) => {
+                return Amount::Refused(refused);
             }
-            Reached::Letter(next) => {
+            Amount::Is(next) => {
                 variant += wide(counts[segment]);
                 at = next;
                 segment += 1;
             }
         }
     }
-    Reached::Letter(at)
+    Amount::Is(at)
 }

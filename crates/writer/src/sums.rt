@@ -1,10 +1,7 @@
-// The numbers that a write is given: whether they fit together (refusal 14) and whether they fit a stretch (refusal 4).
+// The numbers that a write is given: whether they fit together (refusal 14).
 use layout::number::wide;
-use text::refusal;
 ghost use mathlib.Core.Path.{_≡_};
-ghost use Prim.Native.Nat.{_+_, _*_};
-ghost use lib.Dec.{leb, eqb};
-ghost use Rattle.layout.specs.Bytes.{greatestStretch};
+ghost use lib.Dec.{eqb};
 ghost use Rattle.writer.specs.Cuts.{sum};
 
 // The number of letters that a length states.
@@ -46,20 +43,4 @@ pub fn lengths_sum(lengths: &[u16], target: usize) -> bool
         i += 1;
     }
     left == 0
-}
-
-// Whether that many letters, variants and segments fit a stretch. Each number is asked first, so that their sum is small.
-pub fn fits_stretch(letters: usize, variants: usize, segments: usize) -> bool
-    ensures { λ r. ⌜ r ≡ leb (2 + segments + 2 * variants + letters) greatestStretch ⌝ }
-{
-    if refusal::GREATEST_STRETCH < letters {
-        return false;
-    }
-    if refusal::GREATEST_STRETCH < variants {
-        return false;
-    }
-    if refusal::GREATEST_STRETCH < segments {
-        return false;
-    }
-    2 + segments + 2 * variants + letters <= refusal::GREATEST_STRETCH
 }

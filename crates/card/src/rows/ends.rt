@@ -1,5 +1,5 @@
 // First ends: the first among marks, and which of two is earlier.
-use text::refusal;
+use text::limits;
 ghost use mathlib.Core.Path.{_≡_};
 ghost use mathlib.Core.Bool.{cond};
 ghost use Prim.Native.Nat.{_≤_, min};
@@ -7,7 +7,7 @@ ghost use lib.ListN.{length};
 ghost use Rattle.text.specs.Card.{none, mostSegments, firstEnd};
 
 // The first end where none is.
-pub const NONE: u32 = refusal::NO_SEGMENT as u32;
+pub const NONE: u32 = limits::NO_SEGMENT as u32;
 
 // The number of the first mark that is 1.
 pub fn first_end(marks: &[u8]) -> u32

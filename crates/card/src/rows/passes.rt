@@ -4,20 +4,22 @@ use crate::rows::ends::NONE;
 use crate::rows::ends::first_end;
 use crate::rows::segment::segment_rows;
 use crate::rows::start::lone;
-use layout::pieces::FIRST_SEGMENT;
+use layout::walk::Opened;
+use layout::walk::Walk;
 use search::Sought;
 use search::State;
 use search::masks;
 use text::Refusal;
-use text::refusal;
+use text::limits;
 use text::state::low;
 use text::strand::Strand;
 ghost use mathlib.Core.Path.{_≡_};
 ghost use mathlib.Core.List.{[]};
 ghost use lib.ListN.{length};
+ghost use Rattle.layout.specs.Bytes.{word};
 ghost use Rattle.layout.specs.Pieces.{mostInStretch};
 ghost use Rattle.search.specs.Masks.{Masks};
-ghost use Rattle.card.specs.Held.{Bases};
+ghost use Rattle.card.specs.Held.{Bases, rowOf, rowsIn, Full};
 ghost use Rattle.card.specs.Rows.{Sound, Rowed, RowsOf, RowZero, AreOver, carding, rowed};
 
 // What a stretch does: how many segments it has, and for each carried length the state that leaves and the first segment where an
@@ -26,63 +28,59 @@ ghost use Rattle.card.specs.Rows.{Sound, Rowed, RowsOf, RowZero, AreOver
 pub struct Rows {
     pub refusal: Refusal,
     pub segments: u32,
-    pub exits: [u64; refusal::GREATEST_PATTERN],
-    pub firsts: [u32; refusal::GREATEST_PATTERN],
+    pub exits: [u64; limits::GREATEST_PATTERN],
+    pub firsts: [u32; limits::GREATEST_PATTERN],
 }
 
-// Takes the rows 1 to m - 1 over the segments of a sound stretch. Once no length is left in any row, none has anything left to do.
+// Takes the rows 1 to m - 1 over the segments of a sound stretch. Once no length is left in any row, none has anything left to do. Sizes
+// are not asked for.
 fn rows_over(
     pattern: &[u8],
     masks: &[u64; 256],
     stretch: &[u8],
-    segments: usize,
     exits: &mut [u64],
     firsts: &mut [u32],
 )
-    requires { ⌜ Bases (length (now pattern)) × Masks (now pattern) (now masks) × Sound (now stretch) segments
-        × Rowed (now pattern) [] (now exits) (now firsts) ⌝ }
-    ensures { λ r. ⌜ RowsOf (now (pattern .entry)) (now (stretch .entry)) (now (exits .exit)) (now (firsts .exit)) ⌝ }
+    requires { ⌜ Bases (length (now pattern)) × Masks (now pattern) (now masks) × Sound (now stretch) (word (now stretch) 0)
+        × Full (now exits) (now firsts) × Rowed (now pattern) [] (rowsIn (now exits) (now firsts)) ⌝ }
+    ensures { λ r. ⌜ Full (now (exits .exit)) (now (firsts .exit))
+        × RowsOf (now (pattern .entry)) (now (stretch .entry)) (rowsIn (now (exits .exit)) (now (firsts .exit))) ⌝ }
 {
     let mut live = low(pattern.len()) - 1;
-    let mut at = FIRST_SEGMENT;
-    let mut k = 0;
-    while k < segments {
+    let Opened::At(opened) = Walk::open(stretch) else {
+        // A sound stretch has its count.
+        return;
+    };
+    let mut walk = opened;
+    while walk.passed < walk.count {
         if live == 0 {
             return;
         }
-        let number = k as u32;
+        let number = walk.passed as u32;
         let behind = segment_rows(
             pattern,
             masks,
             live,
             stretch,
-            at,
+            walk.at,
             number,
             &mut *exits,
             &mut *firsts,
         );
         live = behind.live;
-        at = behind.next;
-        k += 1;
+        walk = walk.past(behind.next, 0);
     }
 }
 
 // The rows over a sound stretch of that many segments, whose row 0 is known.
 fn told(pattern: &[u8], stretch: &[u8], segments: usize, exit: u64, first: u32) -> Rows
-    requires { ⌜ RowZero (now pattern) (now stretch) segments exit first ⌝ }
+    requires { ⌜ RowZero (now pattern) (now stretch) segments (rowOf exit first) ⌝ }
     ensures { λ r. ⌜ AreOver (now (pattern .entry)) (now (stretch .entry)) r ⌝ }
 {
     let mut exits = lone(pattern.len());
-    let mut firsts = [NONE; refusal::GREATEST_PATTERN];
+    let mut firsts = [NONE; limits::GREATEST_PATTERN];
     let vectors = masks(pattern);
-    rows_over(
-        pattern,
-        &vectors,
-        stretch,
-        segments,
-        &mut exits,
-        &mut firsts,
-    );
+    rows_over(pattern, &vectors, stretch, &mut exits, &mut firsts);
     exits[0] = exit;
     firsts[0] = first;
     Rows {
@@ -106,8 +104,8 @@ fn by_way_of(pattern: &[u8], stretch: &[u8], marks: &mut [u8]) -> Rows
         Sought::Refused(wrong) => Rows {
             refusal: wrong,
             segments: 0,
-            exits: [0; refusal::GREATEST_PATTERN],
-            firsts: [0; refusal::GREATEST_PATTERN],
+            exits: [0; limits::GREATEST_PATTERN],
+            firsts: [0; limits::GREATEST_PATTERN],
         },
         Sought::Marked {
             segments,
@@ -126,6 +124,6 @@ pub fn over(pattern: &[u8], stretch: &[u8]) -> Rows
     ensures { λ r. ⌜ r ≡ rowed (carding (now (pattern .entry)) (now (stretch .entry))) ⌝ }
 {
     // A segment has at least 3 bytes.
-    let mut marks = [0u8; refusal::GREATEST_STRETCH / 3];
+    let mut marks = [0u8; limits::GREATEST_STRETCH / layout::LEAST_SEGMENT];
     by_way_of(pattern, stretch, &mut marks)
 }

@@ -5,12 +5,13 @@ use crate::rows::ends::sooner;
 use layout::cursor::Cursor;
 use layout::cursor::Entered;
 use layout::pieces::Part;
-use text::refusal;
+use text::limits;
 ghost use mathlib.Core.Path.{_≡_};
 ghost use Prim.Native.Nat.{_≤_, _<_};
 ghost use lib.ListN.{length};
-ghost use Rattle.card.specs.Held.{Full};
-ghost use Rattle.card.specs.RowStep.{Alive, Covers, Readable, Spread, VariantOver, Settled, SegmentOver};
+ghost use Rattle.layout.specs.Reading.{Readable};
+ghost use Rattle.card.specs.Held.{rowsIn, Full};
+ghost use Rattle.card.specs.RowStep.{Alive, Covers, Spread, VariantOver, Settled, SegmentOver};
 
 // What a segment leaves: the union of the rows' states, and the place after it.
 pub struct Behind {
@@ -62,8 +63,9 @@ fn settle(
     firsts: &mut [u32],
 ) -> u64
     requires { ⌜ (m ≤ 64) × (length (now next) ≡ 64) × Full (now exits) (now firsts) ⌝ }
-    ensures { λ r. ⌜ Settled m finished k (now (next .entry)) (now (exits .entry)) (now (firsts .entry))
-        (now (exits .exit)) (now (firsts .exit)) r ⌝ }
+    ensures { λ r. ⌜ Full (now (exits .exit)) (now (firsts .exit))
+        × Settled m finished k (now (next .entry)) (rowsIn (now (exits .entry)) (now (firsts .entry)))
+        (rowsIn (now (exits .exit)) (now (firsts .exit))) r ⌝ }
 {
     let mut live = 0;
     let mut q = 1;
@@ -90,15 +92,16 @@ pub fn segment_rows(
 ) -> Behind
     requires { ⌜ Alive (now pattern) (now masks) live × Covers (length (now pattern)) live (now exits)
         × Full (now exits) (now firsts) × Readable (now stretch) at ⌝ }
-    ensures { λ r. ⌜ SegmentOver (now (pattern .entry)) (now (stretch .entry)) at k (now (exits .entry)) (now (firsts .entry))
-        (now (exits .exit)) (now (firsts .exit)) (r .live) (r .next) ⌝ }
+    ensures { λ r. ⌜ Full (now (exits .exit)) (now (firsts .exit))
+        × SegmentOver (now (pattern .entry)) (now (stretch .entry)) at k (rowsIn (now (exits .entry)) (now (firsts .entry)))
+        (rowsIn (now (exits .exit)) (now (firsts .exit))) (r .live) (r .next) ⌝ }
 {
     let Entered::At(entered) = Cursor::enter(stretch, at) else {
         // A sound segment has its count.
         return Behind { live, next: at };
     };
     let mut cursor = entered;
-    let mut new = [0u64; refusal::GREATEST_PATTERN];
+    let mut new = [0u64; limits::GREATEST_PATTERN];
     let mut finished = 0;
     while 0 < cursor.left {
         let Part::At { start, next } = cursor.head(stretch) else {

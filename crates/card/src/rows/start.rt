@@ -1,5 +1,5 @@
 // The rows of no segments: each carried length leaves as it came.
-use text::refusal;
+use text::limits;
 ghost use mathlib.Core.Path.{_≡_};
 ghost use Prim.Native.Nat.{min};
 ghost use Rattle.card.specs.Held.{lones};
@@ -8,19 +8,19 @@ ghost use Rattle.card.specs.Held.{lones};
 fn most(m: usize) -> usize
     ensures { λ r. ⌜ r ≡ min m 64 ⌝ }
 {
-    if m < refusal::GREATEST_PATTERN {
+    if m < limits::GREATEST_PATTERN {
         m
     } else {
-        refusal::GREATEST_PATTERN
+        limits::GREATEST_PATTERN
     }
 }
 
 // The exits of no segments: bit q alone in row q below m.
-pub fn lone(m: usize) -> [u64; refusal::GREATEST_PATTERN]
+pub fn lone(m: usize) -> [u64; limits::GREATEST_PATTERN]
     ensures { λ r. ⌜ r ≡ lones m ⌝ }
 {
     let most = most(m);
-    let mut exits = [0u64; refusal::GREATEST_PATTERN];
+    let mut exits = [0u64; limits::GREATEST_PATTERN];
     let mut q = 0;
     while q < most {
         exits[q] = 1 << q;

@@ -4,7 +4,7 @@ use crate::forms::block::code;
 use crate::forms::block::two;
 use search::First;
 use search::State;
-use text::refusal;
+use text::limits;
 use text::strand::Strand;
 ghost use mathlib.Core.Path.{_≡_};
 ghost use Rattle.cerantuh.specs.Forms.{firstAnswer, firstBlock};
@@ -25,6 +25,6 @@ pub fn first_hit(
     match before.first(pattern, strand, stretch) {
         First::Refused(wrong) => code(wrong),
         First::Ends(segment) => two(segment as u64, 0, &mut *block),
-        First::None(after) => two(refusal::NO_SEGMENT as u64, after.bits, &mut *block),
+        First::None(after) => two(limits::NO_SEGMENT as u64, after.bits, &mut *block),
     }
 }

@@ -6,7 +6,7 @@ use search::by_bits;
 use search::by_borders;
 use search::either;
 use stretch::Checked;
-use text::pattern::PatternIs;
+use text::Verdict;
 use text::pattern::check;
 use text::refusal;
 use text::strand::Strand;
@@ -27,8 +27,8 @@ fn roomless(pattern: &[u8], stretch: &[u8]) -> u64
     ensures { λ r. ⌜ r ≡ coded (searchingInto (now (pattern .entry)) (now (stretch .entry)) 0 0) ⌝ }
 {
     match check(pattern) {
-        PatternIs::Refused(wrong) => code(wrong),
-        PatternIs::Sound => match stretch::check(stretch) {
+        Verdict::Refused(wrong) => code(wrong),
+        Verdict::Sound => match stretch::check(stretch) {
             Checked::Refused(wrong) => code(wrong),
             Checked::Sound { .. } => refusal::BUFFER_SHORT,
         },

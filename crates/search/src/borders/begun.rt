@@ -6,8 +6,9 @@ ghost use Prim.Native.Nat.{_-_, _<_};
 ghost use mathlib.Core.Path.{_≡_};
 ghost use mathlib.Core.Bool.{true};
 ghost use lib.ListN.{length};
+ghost use Rattle.text.specs.Refusal.{SoundPattern};
 ghost use Rattle.text.specs.Letter.{letter, meant, every};
-ghost use Rattle.search.specs.Border.{Borders, Longest, Sized};
+ghost use Rattle.search.specs.Border.{Borders, Longest};
 ghost use Rattle.search.specs.BorderStep.{Begins, Scans};
 
 // What a scan tells: the longest prefix of the pattern, short of the whole, that ends the letters read, and whether the whole
@@ -20,7 +21,7 @@ struct Scanned {
 // Reads a variant letter by letter (Knuth, Morris and Pratt). A letter in lower case means the one in upper case, whose byte lacks one
 // bit.
 fn scan(pattern: &[u8], table: &[u64; 256], variant: &[u8]) -> Scanned
-    requires { ⌜ Sized (now pattern) ⌝ }
+    requires { ⌜ SoundPattern (now pattern) ⌝ }
     requires { ⌜ Borders (now pattern) (now table) ⌝ }
     requires { ⌜ every letter (now variant) ≡ true ⌝ }
     ensures { λ r. ⌜ Scans (now (pattern .entry)) (meant (now (variant .entry))) (r .longest) (r .whole) ⌝ }
@@ -43,7 +44,7 @@ fn scan(pattern: &[u8], table: &[u64; 256], variant: &[u8]) -> Scanned
 
 // The longest prefix of the pattern that ends a variant shorter than the pattern: the first that does, from the variant's length down.
 fn longest_end(pattern: &[u8], variant: &[u8]) -> usize
-    requires { ⌜ Sized (now pattern) ⌝ }
+    requires { ⌜ SoundPattern (now pattern) ⌝ }
     requires { ⌜ length (now variant) < length (now pattern) ⌝ }
     ensures { λ r. ⌜ Longest (now (pattern .entry)) (meant (now (variant .entry))) (length (now (pattern .entry)) - 1) r ⌝ }
 {
@@ -56,7 +57,7 @@ fn longest_end(pattern: &[u8], variant: &[u8]) -> usize
 
 // A variant shorter than the pattern cannot have all of it, so only its end is looked at; any other is scanned.
 fn looked_through(pattern: &[u8], table: &[u64; 256], variant: &[u8]) -> Scanned
-    requires { ⌜ Sized (now pattern) ⌝ }
+    requires { ⌜ SoundPattern (now pattern) ⌝ }
     requires { ⌜ Borders (now pattern) (now table) ⌝ }
     requires { ⌜ every letter (now variant) ≡ true ⌝ }
     ensures { λ r. ⌜ Scans (now (pattern .entry)) (meant (now (variant .entry))) (r .longest) (r .whole) ⌝ }
@@ -72,7 +73,7 @@ fn looked_through(pattern: &[u8], table: &[u64; 256], variant: &[u8]) -> Scanned
 
 // Every prefix that ends the variant is the longest one, or its border, or that one's border, and so on down to none.
 pub fn begun(pattern: &[u8], table: &[u64; 256], variant: &[u8]) -> Stepped
-    requires { ⌜ Sized (now pattern) ⌝ }
+    requires { ⌜ SoundPattern (now pattern) ⌝ }
     requires { ⌜ Borders (now pattern) (now table) ⌝ }
     requires { ⌜ every letter (now variant) ≡ true ⌝ }
     ensures { λ r. ⌜ Begins (now (pattern .entry)) (meant (now (variant .entry))) (r .bits) (r .ends) ⌝ }

@@ -1,5 +1,6 @@
 // The border table of a pattern.
-ghost use Rattle.search.specs.Border.{Borders, Matched, Next, Sized};
+ghost use Rattle.text.specs.Refusal.{SoundPattern};
+ghost use Rattle.search.specs.Border.{Borders, Matched, Next};
 
 // The greatest length at which the pattern's first bases end its first k with the letter after them: the first base
 // that fits after k, after its border, after that one's border, and so on.
@@ -19,7 +20,7 @@ pub fn fallback(pattern: &[u8], table: &[u64; 256], k: usize, letter: u8) -> usi
 
 // Entry k is the border of the pattern's first k bases, for k from 0 to m.
 pub fn border_table(pattern: &[u8]) -> [u64; 256]
-    requires { ⌜ Sized (now pattern) ⌝ }
+    requires { ⌜ SoundPattern (now pattern) ⌝ }
     ensures { λ r. ⌜ Borders (now (pattern .entry)) r ⌝ }
 {
     let mut table = [0u64; 256];

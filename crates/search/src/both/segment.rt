@@ -4,8 +4,8 @@ use crate::both::words::scan_both;
 use layout::cursor::Cursor;
 use layout::cursor::Entered;
 use layout::pieces::Part;
-use layout::pieces::Verdict;
 use text::Refusal;
+use text::Verdict;
 ghost use mathlib.Core.Path.{_≡_};
 ghost use Rattle.text.specs.Strand.{opposite};
 ghost use Rattle.search.specs.Masks.{StateOf};
@@ -48,14 +48,8 @@ impl Pair {
             }
             Entered::At(cursor) => cursor,
         };
-        let mut words = Pair {
-            given: 0xffff_ffff_ffff_fffe,
-            opposite: 0xffff_ffff_ffff_fffe,
-        };
-        let mut missed = Pair {
-            given: 0xffff_ffff_ffff_ffff,
-            opposite: 0xffff_ffff_ffff_ffff,
-        };
+        let mut words = Pair::UNREACHED;
+        let mut missed = Pair::UNMET;
         while 0 < cursor.left {
             match cursor.head(stretch) {
                 Part::Refused(wrong) => {

@@ -1,6 +1,6 @@
 // The step of one variant by bit-vectors on both strands: a word for each, in one letter loop. The letter vectors of both stand in one
 // table, side by side, so that a machine with words of 128 bits takes both at once.
-use crate::vectors::masks;
+use crate::vectors::complements;
 ghost use mathlib.Core.Path.{_≡_};
 ghost use lib.Bits.{bitAnd};
 ghost use Rattle.search.specs.Masks.{bases, Others};
@@ -18,6 +18,17 @@ impl Pair {
     pub const FRESH: Pair = Pair {
         given: 1,
         opposite: 1,
+    };
+
+    // Complemented words before a segment's first variant: where it leads to, bit 0 apart, and what was met on the way. Both are none.
+    pub(crate) const UNREACHED: Pair = Pair {
+        given: 0xffff_ffff_ffff_fffe,
+        opposite: 0xffff_ffff_ffff_fffe,
+    };
+
+    pub(crate) const UNMET: Pair = Pair {
+        given: 0xffff_ffff_ffff_ffff,
+        opposite: 0xffff_ffff_ffff_ffff,
     };
 
     // The bits that both words have with those of another pair.
@@ -43,8 +54,8 @@ pub fn masks_both(given: &[u8], opposite: &[u8]) -> [u64; 512]
     ensures { λ r. ⌜ Others (bases (now (given .entry))) (evens r) ⌝ }
     ensures { λ r. ⌜ Others (bases (now (opposite .entry))) (odds r) ⌝ }
 {
-    let evens = masks(given);
-    let odds = masks(opposite);
+    let evens = complements(given);
+    let odds = complements(opposite);
     let mut table = [0u64; 512];
     let mut c = 0;
     while c < 256 {

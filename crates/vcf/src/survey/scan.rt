@@ -8,13 +8,13 @@ use crate::records::record::sound;
 use crate::records::window::agrees;
 use crate::records::window::behind;
 use crate::records::window::is_outside;
-use crate::survey::tally::Tally;
+use crate::survey::needed::Needed;
 ghost use mathlib.Core.Path.{_≡_};
 ghost use mathlib.Core.Bool.{true, cond};
 ghost use lib.Dec.{eqb};
 ghost use Rattle.text.specs.Letter.{meant};
 ghost use Rattle.vcf.specs.Records.{placed};
-ghost use Rattle.vcf.specs.Steps.{lineStep, Reach, toldScanned, Starts, scanning};
+ghost use Rattle.vcf.specs.Steps.{lineStep, Reach, toldGathered, Starts, scanning};
 
 // How far the lines have come: the position after the last record, the first base of the window after the last record in it,
 // how many records are in it, and the text so far.
@@ -22,65 +22,65 @@ pub struct Reached {
     pub from: usize,
     pub base: usize,
     pub kept: usize,
-    pub tally: Tally,
+    pub needed: Needed,
 }
 
 // What a line makes of it.
-pub enum Line {
+pub enum Onward {
     Passed(Reached),
     Wrong,
 }
 
 impl Reached {
     // After one line more.
-    fn line(self, line: &[u8], window: &[u8], first: usize, name: &[u8]) -> Line
+    fn line(self, line: &[u8], window: &[u8], first: usize, name: &[u8]) -> Onward
         requires { ⌜ Reach (meant (now window)) first self ⌝ }
         ensures { λ r. ⌜ r ≡ lineStep (now (name .entry)) (meant (now (window .entry))) first self (now (line .entry)) ⌝ }
     {
         if is_comment(line) {
-            return Line::Passed(self);
+            return Onward::Passed(self);
         }
         let position = sound(line, name);
         if position == 0 {
-            return Line::Wrong;
+            return Onward::Wrong;
         }
         let from = self.from;
         if position < from {
-            return Line::Wrong;
+            return Onward::Wrong;
         }
         let reference = field(line, 3);
         let end = behind(position, reference.len());
         let base = self.base;
         let kept = self.kept;
-        let tally = self.tally;
+        let needed = self.needed;
         if is_outside(window, first, position, end) {
-            return Line::Passed(Reached {
+            return Onward::Passed(Reached {
                 from: end,
                 base,
                 kept,
-                tally,
+                needed,
             });
         }
         if !agrees(window, first, position, reference) {
-            return Line::Wrong;
+            return Onward::Wrong;
         }
         let alt = field(line, 4);
-        let before = tally.gap(position - first - base);
+        let before = needed.gap(position - first - base);
         let next = before.record(reference, alt);
-        Line::Passed(Reached {
+        Onward::Passed(Reached {
             from: end,
             base: end - first,
             kept: kept + 1,
-            tally: next,
+            needed: next,
         })
     }
 }
 
 // What the whole text needs, from which place on the lines hold the records in the window, and how many these are; or the number of
 // the first wrong line.
-pub enum Scanned {
+pub enum Gathered {
     Needs {
-        tally: Tally,
+        needed: Needed,
         start: usize,
         kept: usize,
     },
@@ -98,9 +98,9 @@ fn starting(kept: usize, start: usize, next: usize) -> usize
 }
 
 // All lines of the file, for a window that is placed.
-pub fn scan(file: &[u8], window: &[u8], first: usize, name: &[u8]) -> Scanned
+pub fn scan(file: &[u8], window: &[u8], first: usize, name: &[u8]) -> Gathered
     requires { ⌜ placed (meant (now window)) first ≡ true ⌝ }
-    ensures { λ r. ⌜ toldScanned r ≡ scanning (now (name .entry)) (meant (now (window .entry))) first (now (file .entry)) ⌝ }
+    ensures { λ r. ⌜ toldGathered r ≡ scanning (now (name .entry)) (meant (now (window .entry))) first (now (file .entry)) ⌝ }
     ensures { λ r. ⌜ Starts (now (name .entry)) (meant (now (window .entry))) first (now (file .entry)) r ⌝ }
 {
     let mut at = 0;
@@ -110,19 +110,15 @@ pub fn scan(file: &[u8], window: &[u8], first: usize, name: &[u8]) -> Scanned
         from: 0,
         base: 0,
         kept: 0,
-        tally: Tally::Fits {
-            bytes: 2,
-            segments: 0,
-            variants: 0,
-        },
+        needed: Needed::nothing(),
     };
     while at < file.len() {
         let end = far_end(file, LINE_FEED, at);
         match reached.line(&file[at..end], window, first, name) {
-            Line::Wrong => {
-                return Scanned::Wrong(passed + 1);
+            Onward::Wrong => {
+                return Gathered::Wrong(passed + 1);
             }
-            Line::Passed(next) => {
+            Onward::Passed(next) => {
                 reached = next;
             }
         }
@@ -132,10 +128,10 @@ pub fn scan(file: &[u8], window: &[u8], first: usize, name: &[u8]) -> Scanned
     }
     let base = reached.base;
     let kept = reached.kept;
-    let tally = reached.tally;
-    let whole = tally.gap(window.len() - base);
-    Scanned::Needs {
-        tally: whole,
+    let needed = reached.needed;
+    let whole = needed.gap(window.len() - base);
+    Gathered::Needs {
+        needed: whole,
         start,
         kept,
     }

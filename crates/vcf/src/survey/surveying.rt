@@ -1,9 +1,9 @@
 // What the text of a window needs before any of it is written: the checks of the call, in their order, up to the room.
 use crate::records::heading::is_headed;
 use crate::records::window::is_placed;
-use crate::survey::scan::Scanned;
+use crate::survey::needed::Needed;
+use crate::survey::scan::Gathered;
 use crate::survey::scan::scan;
-use crate::survey::tally::Tally;
 use text::Refusal;
 use text::letter::first_wrong;
 use text::refusal;
@@ -44,11 +44,15 @@ pub fn survey(file: &[u8], window: &[u8], first: usize, name: &[u8]) -> Surveyed
         return refused(refusal::WRONG_LETTER, wrong);
     }
     match scan(file, window, first, name) {
-        Scanned::Wrong(line) => refused(refusal::RECORD_WRONG, line),
-        Scanned::Needs { tally, start, kept } => match tally {
-            Tally::Long => refused(refusal::STRETCH_LONG, 0),
-            Tally::Repeated { bytes: _, number } => refused(refusal::REPEATED, number),
-            Tally::Fits {
+        Gathered::Wrong(line) => refused(refusal::RECORD_WRONG, line),
+        Gathered::Needs {
+            needed,
+            start,
+            kept,
+        } => match needed {
+            Needed::Long => refused(refusal::STRETCH_LONG, 0),
+            Needed::Repeated { bytes: _, number } => refused(refusal::REPEATED, number),
+            Needed::Fits {
                 bytes,
                 segments,
                 variants: _,

@@ -1,4 +1,4 @@
--- `desk_list::checking::check` meets its contract. The loop's invariant, `Checking`: the lines so far are right, and have so many
+-- `desk_list::checking::check` meets its contract. The loop's invariant, `Checking`: the lines so far are right, and have that many
 -- sequences. The measure is the number of bytes left.
 use Prim.Native.Nat.{_-_}
 use native.Mathlib.Omega.{arith}

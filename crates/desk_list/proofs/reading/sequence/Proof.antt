@@ -6,24 +6,6 @@ use borrow.Author.Needs.{needs}
 use Rattle.desk_list.proofs.reading.sequence.Statement.{statement}
 use Rattle.desk_list.proofs.reading.sequence.Tie as tie
 
-past-requires : tie.Need-past-requires
-past-requires c κs = search needs
-
-sub-check : tie.Need-sub-check
-sub-check c = search needs
-
-part-check-start : tie.Need-part-check-start
-part-check-start c = search needs
-
-part-check-end : tie.Need-part-check-end
-part-check-end c = search needs
-
-check-requires : tie.Need-check-requires
-check-requires c κs = search needs
-
-enum-known-refused : tie.Need-enum-known-refused
-enum-known-refused c = search needs
-
 returns : tie.Need-returns
 returns c =
     let k = c .before .before .before in
@@ -32,12 +14,6 @@ returns c =
 
 enum-told : tie.Need-enum-told
 enum-told c = search needs
-
-past-requires-2 : tie.Need-past-requires-2
-past-requires-2 c κs = search needs
-
-ends-at-requires : tie.Need-ends-at-requires
-ends-at-requires c κs = search needs
 
 returns-2 : tie.Need-returns-2
 returns-2 c =
@@ -67,15 +43,15 @@ pub sequence-spec : {M : Type 1} → statement M
 sequence-spec =
     tie.close
     (tie.spec
-    past-requires
-    sub-check
-    part-check-start
-    part-check-end
-    check-requires
-    enum-known-refused
+    (λ c κs. search needs)
+    (λ c. search needs)
+    (λ c. search needs)
+    (λ c. search needs)
+    (λ c κs. search needs)
+    (λ c. search needs)
     returns
     enum-told
-    past-requires-2
-    ends-at-requires
+    (λ c κs. search needs)
+    (λ c κs. search needs)
     returns-2
     returns-3)

@@ -4,20 +4,11 @@ use borrow.Author.Needs.{needs}
 use Rattle.desk_list.proofs.reading.words.Statement.{statement}
 use Rattle.desk_list.proofs.reading.words.Tie as tie
 
-past-requires : tie.Need-past-requires
-past-requires c κs = search needs
-
-ends-at-requires : tie.Need-ends-at-requires
-ends-at-requires c κs = search needs
-
 returns : tie.Need-returns
 returns c =
     let e = c .before in
     let p = e .before in
     (says-nothing _ (p .past .ensures .0) (e .ends-at .ensures) (c .if1 .taken), tt)
-
-past-requires-2 : tie.Need-past-requires-2
-past-requires-2 c κs = search needs
 
 returns-2 : tie.Need-returns-2
 returns-2 c =
@@ -26,21 +17,6 @@ returns-2 c =
     let e = i .before in
     let p = e .before in
     (says-no-label _ (p .past .ensures .0) (e .ends-at .ensures) (i .if1 .left) (d .past2 .ensures .0) (c .if2 .taken), tt)
-
-sub-told : tie.Need-sub-told
-sub-told c = search needs
-
-part-told-start : tie.Need-part-told-start
-part-told-start c = search needs
-
-part-told-end : tie.Need-part-told-end
-part-told-end c = search needs
-
-told-requires : tie.Need-told-requires
-told-requires c κs = search needs
-
-enum-known-label : tie.Need-enum-known-label
-enum-known-label c = search needs
 
 enum-told : tie.Need-enum-told
 enum-told c = search needs
@@ -58,9 +34,6 @@ returns-3 c =
       tt,
     )
 
-past-requires-3 : tie.Need-past-requires-3
-past-requires-3 c κs = search needs
-
 returns-4 : tie.Need-returns-4
 returns-4 c =
     let s = c .before in
@@ -75,9 +48,6 @@ returns-4 c =
           (k .label .given .1) (s .past3 .ensures .0) (c .if3 .taken),
       tt,
     )
-
-ends-at-requires-2 : tie.Need-ends-at-requires-2
-ends-at-requires-2 c κs = search needs
 
 returns-5 : tie.Need-returns-5
 returns-5 c =
@@ -95,9 +65,6 @@ returns-5 c =
           (k .label .given .1) (s .past3 .ensures .0) (t .if3 .left) (f .ends-at2 .ensures) (c .if4 .taken),
       tt,
     )
-
-sequence-requires : tie.Need-sequence-requires
-sequence-requires c κs = search needs
 
 returns-6 : tie.Need-returns-6
 returns-6 c =
@@ -121,21 +88,21 @@ pub words-spec : {M : Type 1} → statement M
 words-spec =
     tie.close
     (tie.spec
-    past-requires
-    ends-at-requires
+    (λ c κs. search needs)
+    (λ c κs. search needs)
     returns
-    past-requires-2
+    (λ c κs. search needs)
     returns-2
-    sub-told
-    part-told-start
-    part-told-end
-    told-requires
-    enum-known-label
+    (λ c. search needs)
+    (λ c. search needs)
+    (λ c. search needs)
+    (λ c κs. search needs)
+    (λ c. search needs)
     enum-told
     returns-3
-    past-requires-3
+    (λ c κs. search needs)
     returns-4
-    ends-at-requires-2
+    (λ c κs. search needs)
     returns-5
-    sequence-requires
+    (λ c κs. search needs)
     returns-6)

@@ -6,7 +6,7 @@ use Rattle.desk_verdict.proofs.first.ended.Tie as tie
 
 returns : tie.Need-returns
 returns c =
-    let two = c .before .before in
+    let two = c .before in
     ended-is (two .before .before .args .standing) _ _ _ (two .before .plus .ensures) (two .plus2 .ensures)
 
 pub ended-spec : {M : Type 1} → statement M

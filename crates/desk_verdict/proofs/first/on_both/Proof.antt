@@ -7,7 +7,7 @@ use Rattle.desk_verdict.proofs.first.on_both.Tie as tie
 
 returns : tie.Need-returns
 unfolding onBoth
-returns c = c .earlier .ensures ∙ ap₂ earlier (c .before .before .first .ensures .0) (c .before .first2 .ensures .0)
+returns c = c .earlier .ensures ∙ ap₂ earlier (c .before .before .first .ensures) (c .before .first2 .ensures)
 
 pub on-both-spec : {M : Type 1} → statement M
 on-both-spec = tie.close (tie.spec (λ c κs. search needs) (λ c κs. search needs) (λ c κs. search needs) returns)

@@ -1,5 +1,5 @@
--- `desk_verdict::first::pass_first` meets its contract: what both strands say of the stretch, and the count that it opens with.
-use Rattle.desk_verdict.proofs.Firsts.{halting-stays, halting-not, halting-ends, halting-closed, halting-goes}
+-- `desk_verdict::first::pass_first` meets its contract: what both strands say of the stretch, and the count that it states.
+use Rattle.desk_verdict.proofs.Firsts.{halting-stays, halting-not, halting-ends, halting-goes}
 use borrow.Author.Needs.{needs}
 use Rattle.desk_verdict.proofs.first.pass_first.Statement.{statement}
 use Rattle.desk_verdict.proofs.first.pass_first.Tie as tie
@@ -20,20 +20,10 @@ returns-3 c =
 
 returns-4 : tie.Need-returns-4
 returns-4 c =
-    let o = c .before .before .before in
-    let g = o .before .before in
+    let n = c .before in
+    let g = n .before .before in
     let h = g .before .before in
-    halting-closed _ _ _ (h .before .if1 .left) _ (h .on-both .ensures) _ _ (g .given .given .1) _ (o .open .ensures) _
-    (c .before .wrong2 .given .1)
-
-returns-5 : tie.Need-returns-5
-returns-5 c =
-    let n = c .before .before in
-    let o = n .before .before in
-    let g = o .before .before in
-    let h = g .before .before in
-    halting-goes _ _ _ (h .before .if1 .left) _ (h .on-both .ensures) _ _ (g .given .given .1) _ (o .open .ensures) _ _
-    (n .count .given .1) (c .gone .ensures)
+    halting-goes _ _ _ (h .before .if1 .left) _ (h .on-both .ensures) _ _ _ (g .state .given .1) (n .stated .ensures) (c .gone .ensures)
 
 pub pass-first-spec : {M : Type 1} → statement M
 pass-first-spec =
@@ -46,10 +36,7 @@ pass-first-spec =
     (λ c κs. search needs)
     (λ c. search needs)
     (λ c κs. search needs)
-    (λ c. search needs)
-    (λ c. search needs)
     (λ c κs. search needs)
     returns-2
     returns-3
-    returns-4
-    returns-5)
+    returns-4)

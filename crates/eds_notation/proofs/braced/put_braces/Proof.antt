@@ -19,7 +19,7 @@ abbrev μ-loop : tie.MeasureT-loop
 loop-holds : tie.Need-loop-holds Inv-loop μ-loop
 loop-holds c =
     let d = c .before .before .before in
-    bracing-none _ _ _ (check-accepted _ _ _ (sym (ap toldChecked (c .before .segments .given .1)) ∙ d .check .ensures .0))
+    bracing-none _ _ _ (check-accepted _ _ _ (sym (ap toldChecked (c .before .segments .given .1)) ∙ d .check .ensures))
 
 loop-again : tie.Need-loop-again Inv-loop μ-loop
 loop-again c =
@@ -27,7 +27,7 @@ loop-again c =
     bracing-more (l .before .loop .inv) (l .loop-test .taken) (c .before .before .put-segment .ensures)
 
 returns : tie.Need-returns Inv-loop μ-loop
-returns c = refused-braces _ _ _ (sym (ap toldChecked (c .before .wrong .given .1)) ∙ c .before .before .before .check .ensures .0)
+returns c = refused-braces _ _ _ (sym (ap toldChecked (c .before .wrong .given .1)) ∙ c .before .before .before .check .ensures)
 
 same-length : tie.Need-same-length Inv-loop μ-loop
 same-length c = bracing-length (c .before .loop .inv)

@@ -56,7 +56,7 @@ returns-3 c =
     let a = e .before .before .before .before .before .before .before .before .args in
     let p = d .write .ensures in
     closed-done (a .tape) (a .letters .now) (a .lengths .now) (a .counts .now) (a .out .now)
-    (e .before .before .if1 .left) (lies e) _ _ (p .0) (p .1 .1)
+    (e .before .before .if1 .left) (lies e) _ _ (p .0) (p .1)
 
 pub write-closed-spec : {M : Type 1} → statement M
 write-closed-spec =

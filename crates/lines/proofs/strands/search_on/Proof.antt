@@ -8,13 +8,13 @@ returns : tie.Need-returns
 returns c =
     let d = c .before .before in
     let e = d .by-bits .ensures in
-    known-on (d .before .before .before .strands .given .1) _ _ _ _ _ (d .by-bits .result) (e .0, e .1 .1)
+    known-on (d .before .before .before .strands .given .1) _ _ _ _ _ (d .by-bits .result) e
 
 returns-2 : tie.Need-returns-2
 returns-2 c =
     let d = c .before .before in
     let e = d .either .ensures in
-    known-on (d .before .before .enum-told .given .1) _ _ _ _ _ (d .either .result) (e .0, e .1 .1)
+    known-on (d .before .before .enum-told .given .1) _ _ _ _ _ (d .either .result) e
 
 pub search-on-spec : {M : Type 1} → statement M
 search-on-spec =

@@ -1,4 +1,4 @@
--- `manifest::checking::listed` meets its contract. The loop's invariant, `Listing`: so many stretches stand before, and no wrong line. The
+-- `manifest::checking::listed` meets its contract. The loop's invariant, `Listing`: that many stretches stand before, and no wrong line. The
 -- measure is the number of bytes left.
 use Prim.Native.Nat.{_-_}
 use native.Mathlib.Omega.{arith}

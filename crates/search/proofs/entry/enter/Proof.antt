@@ -2,8 +2,8 @@
 use borrow.Author.Needs.{needs}
 use borrow.Author.Tests.{not-true, not-false}
 use mathlib.Core.Path.{_≡_, sym, ap, _∙_}
-use Rattle.text.specs.Refusal.{toldPattern}
-use Rattle.text.proofs.Patterns.{SoundPattern, pattern-sound}
+use Rattle.text.specs.Refusal.{toldVerdict, SoundPattern}
+use Rattle.text.proofs.Patterns.{pattern-sound}
 use Rattle.layout.proofs.Frames.{fits-met}
 use Rattle.search.proofs.Entries.{entering-pattern, entering-long, entering-wrong, entering-sound}
 use Rattle.search.proofs.entry.enter.Statement.{statement}
@@ -11,11 +11,11 @@ use Rattle.search.proofs.entry.enter.Tie as tie
 
 returns : tie.Need-returns
 returns c =
-    sym (entering-pattern _ _ _ _ _ (sym (c .before .before .before .check .ensures) ∙ ap toldPattern (c .before .refused .given .1)) _)
+    sym (entering-pattern _ _ _ _ _ (sym (c .before .before .before .check .ensures) ∙ ap toldVerdict (c .before .refused .given .1)) _)
 
 -- the pattern was found sound
 sound : (c : tie.After-enum-told) → SoundPattern (c .before .before .before .before .before .args .pattern .now)
-sound c = pattern-sound _ (sym (c .before .before .check .ensures) ∙ ap toldPattern (c .enum-told .given .1))
+sound c = pattern-sound _ (sym (c .before .before .check .ensures) ∙ ap toldVerdict (c .enum-told .given .1))
 
 returns-2 : tie.Need-returns-2
 returns-2 c =

@@ -1,7 +1,6 @@
 -- `search::by_bits` meets its contract: a search from the fresh state is a search.
 use borrow.Author.Needs.{needs}
 use Rattle.search.proofs.Searches.{fresh-marked}
-use Rattle.search.proofs.Told.{searched-both}
 use Rattle.search.proofs.searching.by_bits.Statement.{statement}
 use Rattle.search.proofs.searching.by_bits.Tie as tie
 
@@ -9,7 +8,7 @@ returns : tie.Need-returns
 returns c =
     let a = c .before .before .before .before .before .before .before .before .args in
     let e = c .before .before .before .through .ensures in
-    searched-both _ (fresh-marked (a .pattern .now) _ (a .stretch .now) (a .marks .now) _ _ _ (e .0, e .1 .1) (c .summed .ensures))
+    fresh-marked (a .pattern .now) _ (a .stretch .now) (a .marks .now) _ _ _ e (c .summed .ensures)
 
 pub by-bits-spec : {M : Type 1} → statement M
 by-bits-spec = tie.close (tie.spec (λ c κs. search needs) (λ c κs. search needs) (λ c. search needs) returns)

@@ -39,7 +39,7 @@ use denote.Triple.Walked.{says, Stays, stay-none, stay-none-slice, walkOf, goes-
 use denote.Exit.{yes}
 use denote.Triple.Clauses.{lasts}
 use Rattle.stretch.specs.Places.{Reading, reading}
-use Rattle.stretch.specs.Answers.{toldGot, answerGot, answerReading}
+use Rattle.stretch.specs.Answers.{toldGot}
 use Rattle.stretch.specs.declared.reader.Reader.{Reader}
 use Rattle.stretch.specs.declared.reading.Got.{Got}
 use Rattle.stretch.proofs.CallReturned.{token, answered}
@@ -151,7 +151,7 @@ module _ {M : Type 1} (𝓤 : URA M) (H : Heap 𝓤) (A : Atoms 𝓤) (W : Given
       nothing ! $ move ! (1 ∷ 0 ∷ []) $ fjoin ! $ move ! (1 ∷ 0 ∷ []) $ join ! $ frame ! $ done !
 
   abbrev Says : Got → Reading → Type 0
-  Says g x = (toldGot g ≡ x) × (answerGot g ≡ answerReading x)
+  Says g x = toldGot g ≡ x
 
   abbrev ReadSays : Reader → Got → Type 0
   ReadSays r g = Says g (reading (now (r .stretch)) (r .segment) (r .variant))
@@ -162,7 +162,7 @@ module _ {M : Type 1} (𝓤 : URA M) (H : Heap 𝓤) (A : Atoms 𝓤) (W : Given
       let p : reading (now (r′ .stretch)) (r′ .segment) (r′ .variant) ≡ reading (now s) segment variant =
       ap (λ (x : RefT (List ℕ)). reading (now x) (r′ .segment) (r′ .variant)) (e′ .0 ∙ e .0)
       ∙ (ap (λ (n : ℕ). reading (now s) n (r′ .variant)) (e′ .1) ∙ ap (reading (now s) segment) (e′ .2)) in
-      (e″ .0 ∙ p, e″ .1 ∙ ap answerReading p)
+      e″ ∙ p
 
   exits : (g : Got) (u : Val) → Says g (reading (now s) segment variant)
       → ent 𝓤 (⋆ 𝓤 H A (‵ (S.the-row .own g (u ∷ [])) ∷ token κ q ∷ ‵ Kept ∷ [])) (Post u)

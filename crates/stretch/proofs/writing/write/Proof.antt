@@ -1,20 +1,19 @@
 -- `stretch::write` meets its contract: what the writer puts is what is told.
 use borrow.Author.Needs.{needs}
 use mathlib.Core.Path.{sym, ap, _∙_}
-use Rattle.writer.specs.Answers.{toldPut}
-use Rattle.stretch.proofs.Told.{written-both}
+use Rattle.text.specs.Refusal.{toldAmount}
 use Rattle.stretch.proofs.writing.write.Statement.{statement}
 use Rattle.stretch.proofs.writing.write.Tie as tie
 
 returns : tie.Need-returns
 returns c =
     let e = c .before .before .before .before .before .put-stretch .ensures in
-    written-both _ (sym (ap toldPut (c .before .n .given .1)) ∙ e .0, e .1 .1)
+    (sym (ap toldAmount (c .before .n .given .1)) ∙ e .0, e .1)
 
 returns-2 : tie.Need-returns-2
 returns-2 c =
     let e = c .before .before .before .before .before .put-stretch .ensures in
-    written-both _ (sym (ap toldPut (c .before .refused .given .1)) ∙ e .0, e .1 .1)
+    (sym (ap toldAmount (c .before .refused .given .1)) ∙ e .0, e .1)
 
 pub write-spec : {M : Type 1} → statement M
 write-spec =

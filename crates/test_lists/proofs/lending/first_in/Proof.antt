@@ -48,8 +48,7 @@ use denote.Triple.Table.{entered, cited}
 use denote.Triple.Walked.{says, needs, Stays, stay-none-slice, stay-none, walkOf, Walks, ends-at, walked, goes-none-slice, goes-none}
 use denote.Triple.Walked.{walk-meets}
 use denote.Exit.{yes}
-use Rattle.text.specs.Refusal.{ok, after, answer}
-use Rattle.watch.specs.Watching.{watching, toldFound, answerFound, zeroPointed, pointedAt}
+use Rattle.watch.specs.Watching.{watching, toldFound}
 use Rattle.watch.specs.declared.watched.Watched.{Watched}
 use Rattle.watch.specs.declared.round.Found.{Found}
 use Rattle.watch.proofs.Returned.{token, tokens, returned}
@@ -123,8 +122,7 @@ module _ {M : Type 1} (𝓤 : URA M) (H : Heap 𝓤) (A : Atoms 𝓤) (W : Given
       frame ! $ done !
 
   abbrev Says : Found → Type 0
-  Says r = (toldFound r ≡ watching front (s .now)) × (answerFound r ≡ answer zeroPointed (after (watching front (s .now)) (λ x. ok
-      (pointedAt x))))
+  Says r = toldFound r ≡ watching front (s .now)
 
   exits : (r : Found) (u : Val) → toldFound r ≡ watching front (s .now)
       → ent 𝓤 (⋆ 𝓤 H A (token κ q ∷ ‵ (F.the-row .own r (u ∷ [])) ∷ ‵ OwnS ∷ [])) (Post u)
@@ -194,7 +192,7 @@ module _ {M : Type 1} (𝓤 : URA M) (H : Heap 𝓤) (A : Atoms 𝓤) (W : Given
         move ! (15 ∷ 16 ∷ []) $ free1 ! $ move ! (13 ∷ 14 ∷ []) $ free1 ! $ move ! (11 ∷ 12 ∷ []) $ free1 ! $ move ! (9 ∷ 10 ∷ []) $
         free1 ! $
         move ! (0 ∷ 8 ∷ []) $ free1 ! $ move ! (5 ∷ 6 ∷ []) $ free1 ! $ move ! (3 ∷ 4 ∷ []) $ free1 ! $ free0 ! $
-        by ! (exits r u (e .0)))))))))))))
+        by ! (exits r u e))))))))))))
 
 module _ {M : Type 1} (𝓤 : URA M) (H : Heap 𝓤) (A : Atoms 𝓤) (W : Given 𝓤 H A)
     (mem : Memory → SProp 𝓤) (run : Routine → Fun 𝓤) (𝓣 : Tables 𝓤 H) (known : Triple 𝓤 (𝓣 .C #first) (First 𝓤 H A mem run)) where

@@ -49,9 +49,8 @@ use denote.Triple.Table.{entered, cited}
 use denote.Triple.Walked.{says, needs, Stays, stay-none-slice, stay-none, gave-slice, walkOf, Walks, ends-at, walked, goes-none-slice}
 use denote.Triple.Walked.{goes-none, goes-gave-slice, walk-meets}
 use denote.Exit.{yes}
-use Rattle.text.specs.Refusal.{answer}
 use Rattle.layout.specs.Bytes.{leftBy}
-use Rattle.watch.specs.Watching.{marking, marksOf, accepted, toldListed, answerListed}
+use Rattle.watch.specs.Watching.{marking, marksOf, accepted, toldListed}
 use Rattle.watch.specs.declared.watched.Watched.{Watched}
 use Rattle.watch.specs.declared.round.Listed.{Listed}
 use Rattle.watch.proofs.Returned.{token, tokens}
@@ -144,7 +143,6 @@ module _ {M : Type 1} (𝓤 : URA M) (H : Heap 𝓤) (A : Atoms 𝓤) (W : Given
   abbrev Says : Listed → List ℕ → Type 0
   Says r out =
       (toldListed r ≡ accepted (marking front (s .now) (length (d .now))))
-      × (answerListed r ≡ answer tt (accepted (marking front (s .now) (length (d .now)))))
       × (out ≡ leftBy (marksOf front) (marking front (s .now) (length (d .now))) (d .now))
 
   exits : (r : Listed) (u : Val) (out : List ℕ) → length out ≡ length (d .now) → Says r out
@@ -153,7 +151,7 @@ module _ {M : Type 1} (𝓤 : URA M) (H : Heap 𝓤) (A : Atoms 𝓤) (W : Given
       qed W (tokens κ q κ′ q′ ∷ ‵ (F.the-row .own r (u ∷ [])) ∷ ‵ (finally u8 (d .name) out) ∷ ‵ OwnS ∷ []) ∵
       suffices ! _ (ends-at 𝓤 H A mark-in.ended stayed (mark-in.clauses 𝓤 H A mem run) W
       (((κ, (κ′, tt)), (q, (q′, tt)), tt, (ws, (n, (s, (d, tt)))), passed), tt) u r (tt, (tt, (tt, (out, tt)))) (tt, (tt, (tt, (l, tt))))) $
-      says ! (e .0, e .2) $ frame ! $
+      says ! e $ frame ! $
       -- [the answer; the buffer's last list; what s owns]
       nothing ! $ move ! (2 ∷ 0 ∷ []) $ fjoin ! $ move ! (2 ∷ 0 ∷ []) $ fjoin ! $
       owned ! usize (Is usize) (uint-makes 𝓤 H A W w64) n _ (refl, fits) $ fjoin ! $

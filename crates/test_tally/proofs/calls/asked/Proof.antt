@@ -1,17 +1,14 @@
 -- `test_tally::asked` meets its contract, case by case.
 use borrow.Author.Needs.{needs}
 use mathlib.Core.Path.{sym, ap, _∙_}
-use Rattle.card.specs.Answers.{answerAsked}
 use Rattle.test_tally.specs.Answers.{askedAs}
 use Rattle.test_tally.proofs.calls.asked.Statement.{statement}
 use Rattle.test_tally.proofs.calls.asked.Tie as tie
 
 returns : tie.Need-returns
-unfolding answerAsked
 returns c = c .told .ensures ∙ sym (ap askedAs (c .before .before .answer .given .1))
 
 returns-2 : tie.Need-returns-2
-unfolding answerAsked
 returns-2 c = c .refused .ensures ∙ sym (ap askedAs (c .before .before .answer2 .given .1))
 
 pub asked-spec : {M : Type 1} → statement M

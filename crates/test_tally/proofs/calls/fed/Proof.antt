@@ -1,7 +1,6 @@
 -- `test_tally::fed` meets its contract, case by case.
 use borrow.Author.Needs.{needs}
 use mathlib.Core.Path.{sym, ap, _∙_}
-use Rattle.search.specs.Answers.{answerFed}
 use Rattle.test_tally.specs.Answers.{fedAs}
 use Rattle.test_tally.proofs.Answering.{fed-told}
 use Rattle.test_tally.proofs.calls.fed.Statement.{statement}
@@ -11,7 +10,6 @@ returns : tie.Need-returns
 returns c = c .told .ensures ∙ fed-told _ _ _ (c .before .before .answer .given .1)
 
 returns-2 : tie.Need-returns-2
-unfolding answerFed
 returns-2 c = c .refused .ensures ∙ sym (ap fedAs (c .before .before .answer2 .given .1))
 
 pub fed-spec : {M : Type 1} → statement M

@@ -1,7 +1,6 @@
 -- `test_tally::got` meets its contract, case by case.
 use borrow.Author.Needs.{needs}
 use mathlib.Core.Path.{sym, ap, _∙_}
-use Rattle.stretch.specs.Answers.{answerGot}
 use Rattle.stretch.specs.declared.reading.Got.{Got}
 use Rattle.test_tally.specs.Answers.{gotAs}
 use Rattle.test_tally.proofs.Answering.{got-other, got-part}
@@ -19,13 +18,11 @@ returns-2 c =
     c .told .ensures ∙ got-part _ _ _ _ _ _ (d .before .before .answer .given .1) (d .if1 .left)
 
 returns-3 : tie.Need-returns-3
-unfolding answerGot
 returns-3 c =
     let n = c .before .before .before .before .args .letters in
     c .told2 .ensures ∙ sym (ap (λ (r : Got). gotAs r n) (c .before .before .answer2 .given .1))
 
 returns-4 : tie.Need-returns-4
-unfolding answerGot
 returns-4 c =
     let n = c .before .before .before .args .letters in
     sym (ap (λ (r : Got). gotAs r n) (c .before .answer3 .given .1))

@@ -1,17 +1,14 @@
 -- `test_tally::listed` meets its contract, case by case.
 use borrow.Author.Needs.{needs}
 use mathlib.Core.Path.{sym, ap, _∙_}
-use Rattle.watch.specs.Watching.{answerListed}
 use Rattle.test_tally.specs.Answers.{listedAs}
 use Rattle.test_tally.proofs.calls.listed.Statement.{statement}
 use Rattle.test_tally.proofs.calls.listed.Tie as tie
 
 returns : tie.Need-returns
-unfolding answerListed
 returns c = c .told .ensures ∙ sym (ap listedAs (c .before .enum-told .given .1))
 
 returns-2 : tie.Need-returns-2
-unfolding answerListed
 returns-2 c = c .refused .ensures ∙ sym (ap listedAs (c .before .before .answer .given .1))
 
 pub listed-spec : {M : Type 1} → statement M

@@ -1,13 +1,13 @@
 -- `vcf::put::put_gap` meets its contract.
-use Prim.Native.Nat.{_+_}
+use Prim.Native.Nat.{_+_, _<_}
 use native.Mathlib.Omega.{arith}
 use mathlib.Core.Path.{_≡_, _∙_}
 use borrow.Author.Needs.{needs}
 use lib.ListN.{length}
-use Rattle.layout.specs.Encoding.{bytesOf, encodeSegment}
-use Rattle.vcf.specs.Emission.{gapOf}
-use lib.ListN.{length-set}
 use Rattle.text.specs.Letter.{meant}
+use Rattle.layout.specs.Encoding.{bytesOf, encodeSegment}
+use Rattle.layout.specs.Sizes.{segmentBytes}
+use Rattle.vcf.specs.Emission.{gapOf}
 use Rattle.vcf.proofs.Emitting.{gap-nothing, gap-size, gap-put}
 use Rattle.vcf.proofs.put.put_gap.Statement.{statement}
 use Rattle.vcf.proofs.put.put_gap.Tie as tie
@@ -15,42 +15,57 @@ use Rattle.vcf.proofs.put.put_gap.Tie as tie
 abbrev S : tie.Else1 → tie.Start
 S e = e .before .before .before
 
-abbrev P : tie.After-slice-known2 → tie.Else1
-P c = c .before .before .before .before
+-- the variant is put, after the count
+abbrev P : tie.After-segment-bytes → tie.After-put-variant
+P c = c .before .before .before
 
-size : (e : tie.Else1) → length (bytesOf encodeSegment (gapOf (meant (S e .args .bases .now)))) ≡ 3 + length (S e .args .bases .now)
+abbrev Q : tie.After-put-variant → tie.After-put-variants
+Q p = p .before .before .before .before
+
+abbrev E : tie.After-put-variants → tie.Else1
+E q = q .before .before
+
+size :
+    (e : tie.Else1) →
+    length (bytesOf encodeSegment (gapOf (meant (S e .args .bases .now)))) ≡ segmentBytes (length (S e .args .bases .now)) 1
 size e = gap-size (S e .args .bases .now) (S e .args .out .now) (S e .args .at) (e .if1 .left)
+
+narrow : (e : tie.Else1) → length (S e .args .out .now) < 18446744073709551616
+narrow e = omega arith
+
+exact : (c : tie.After-segment-bytes) → c .segment-bytes .result ≡ segmentBytes (length (S (E (Q (P c))) .args .bases .now)) 1
+exact c = let e = E (Q (P c)) in omega (arith, c .segment-bytes .ensures, size e, narrow e, S e .pre)
 
 returns : tie.Need-returns
 returns c = gap-nothing (c .before .before .before .args .bases .now) _ _ (c .if1 .taken)
 
-slice-write-out : tie.Need-slice-write-out
-slice-write-out c = omega (arith, size c)
+add-put-variant : tie.Need-add-put-variant
+add-put-variant c = let e = E (c .before .before .before) in omega (arith, size e, narrow e, S e .pre)
 
 add-result : tie.Need-add-result
-add-result c = omega (arith, size (P c))
-
-add-result-2 : tie.Need-add-result-2
-add-result-2 c = omega (arith, size (P c))
+add-result c = let e = E (Q (P c)) in omega (arith, exact c, size e, narrow e, S e .pre)
 
 same-length : tie.Need-same-length
-same-length c = let p = c .before .before in p .put-variant .kept .1 .0 ∙ simp length-set
+same-length c = P c .put-variant .kept .1 .0 ∙ Q (P c) .put-variants .kept .1 .0
 
 returns-2 : tie.Need-returns-2
 returns-2 c =
-    let p = c .before .before in
-    let e = P c in
-    (omega (arith, size e), gap-put (S e .args .bases .now) _ _ (e .if1 .left) (S e .pre) _ (p .put-variant .ensures))
+    let p = P c in
+    let q = Q p in
+    let e = E q in (
+      omega (arith, exact c, size e),
+      gap-put (S e .args .bases .now) _ _ (e .if1 .left) (S e .pre) _ _ (q .put-variants .ensures) (p .put-variant .ensures),
+    )
 
 pub put-gap-spec : {M : Type 1} → statement M
 put-gap-spec =
     tie.close
     (tie.spec
     returns
-    slice-write-out
-    (λ c. search needs)
+    (λ c κs. search needs)
+    add-put-variant
+    (λ c κs. search needs)
     (λ c κs. search needs)
     add-result
-    add-result-2
     same-length
     returns-2)

@@ -44,7 +44,7 @@ behind l =
     part-meant (W l) base (length (W l) - base) ∙ rw (meant-length (W l))
 
 loop-holds : tie.Need-loop-holds Inv-loop μ-loop
-loop-holds c = putting-none (c .before .before .before .before .before .before .before .pre) _ (c .before .before .put-word .kept .1 .0)
+loop-holds c = putting-none (c .before .before .before .before .before .before .before .pre) _ (c .before .before .put-segments .kept .1 .0)
 
 put-line-requires : tie.Need-put-line-requires Inv-loop μ-loop
 put-line-requires c κs =
@@ -87,7 +87,7 @@ same-length : tie.Need-same-length Inv-loop μ-loop
 same-length c =
     let g = c .before .before in
     let l = g .before .before .before .before .before in
-    g .put-gap .kept .1 .0 ∙ putting-kept (l .loop .inv) ∙ l .before .before .before .put-word .kept .1 .0
+    g .put-gap .kept .1 .0 ∙ putting-kept (l .loop .inv) ∙ l .before .before .before .put-segments .kept .1 .0
 
 returns : tie.Need-returns Inv-loop μ-loop
 unfolding wordBytes
@@ -97,7 +97,7 @@ returns c =
     let l = e .before .before in
     let s = S l in
     putting-end (l .loop .inv) (e .if1 .left) _ (s .pre)
-    (l .before .before .before .put-word .ensures ∙ put-over (s .args .out .now) 0 _ (readable-room (s .pre))) _
+    (l .before .before .before .put-segments .ensures ∙ put-over (s .args .out .now) 0 _ (readable-room (s .pre))) _
     (rw (behind l) at (g .put-gap .ensures .1))
 
 pub put-text-spec : {M : Type 1} → statement M

@@ -37,14 +37,13 @@ use denote.Triple.Spec.{Meets, tripleOf}
 use denote.Triple.Table.{entered, cited}
 use denote.Triple.Walked.{says, Stays, stay-none-slice, stay-none, walkOf, Walks, ends-at, walked, goes-none-slice, goes-none, walk-meets}
 use denote.Exit.{yes}
-use Rattle.text.specs.Refusal.{Outcome, ok, after, answer}
-use Rattle.watch.specs.Watching.{Sighting, watching, toldFound, answerFound, pointedAt, zeroPointed}
+use Rattle.text.specs.Refusal.{Outcome}
+use Rattle.watch.specs.Watching.{Sighting, watching, toldFound}
 use Rattle.watch.specs.Rounds.{watched, foundOf}
 use Rattle.watch.specs.declared.watched.Watched.{Watched}
 use Rattle.watch.specs.declared.round.Round.{Round}
 use Rattle.watch.specs.declared.round.Found.{Found}
 use Rattle.watch.proofs.Returned.{tokens, returned}
-use Rattle.watch.proofs.Told.{found-both}
 use Rattle.watch.proofs.Rounds.{watched-found}
 use Rattle.watch.proofs.watched.Watched as T
 use Rattle.watch.proofs.round.Round as R
@@ -138,7 +137,7 @@ module _ {M : Type 1} (𝓤 : URA M) (H : Heap 𝓤) (A : Atoms 𝓤) (W : Given
 
   -- what is said of the answer
   abbrev Says : Found → Outcome Sighting → Type 0
-  Says r o = (toldFound r ≡ o) × (answerFound r ≡ answer zeroPointed (after o (λ x. ok (pointedAt x))))
+  Says r o = toldFound r ≡ o
 
   exits : (r : Found) (u : Val) → Says r (watching (x .now) (s .now))
       → ent 𝓤 (⋆ 𝓤 H A (‵ (F.the-row .own r (u ∷ [])) ∷ tokens κ q κ′ q′ ∷ ‵ Kept ∷ [])) (Post u)
@@ -178,7 +177,7 @@ module _ {M : Type 1} (𝓤 : URA M) (H : Heap 𝓤) (A : Atoms 𝓤) (W : Given
         forget ! 3 refl $ forget ! 5 refl $ forget ! 7 refl $ forget ! 9 refl $
         move ! (9 ∷ 10 ∷ []) $ free1 ! $ move ! (7 ∷ 8 ∷ []) $ free1 ! $ move ! (5 ∷ 6 ∷ []) $ free1 ! $ move ! (3 ∷ 4 ∷ []) $ free1 ! $
         free0 ! $
-        by ! (exits r u′ (found-both r (ap toldFound (e′ ∙ ap foundOf e) ∙ watched-found (x .now) (s .now))))))))))))
+        by ! (exits r u′ (ap toldFound (e′ ∙ ap foundOf e) ∙ watched-found (x .now) (s .now)))))))))))
 
 module _ {M : Type 1} (𝓤 : URA M) (H : Heap 𝓤) (A : Atoms 𝓤) (W : Given 𝓤 H A)
     (mem : Memory → SProp 𝓤) (run : Routine → Fun 𝓤) (𝓣 : Tables 𝓤 H) (known-watch : Triple 𝓤 (𝓣 .C #watch) (Watch 𝓤 H A mem run))

@@ -43,14 +43,12 @@ use denote.Triple.Walked.{says, Stays, stay-none-slice, gave-slice, walkOf, Walk
 use denote.Triple.Walked.{walk-meets}
 use denote.Exit.{yes}
 use Rattle.layout.specs.Bytes.{leftBy}
-use Rattle.text.specs.Refusal.{answer}
-use Rattle.watch.specs.Watching.{marking, marksOf, accepted, toldListed, answerListed}
+use Rattle.watch.specs.Watching.{marking, marksOf, accepted, toldListed}
 use Rattle.watch.specs.Rounds.{watched, listedOf, leftIn}
 use Rattle.watch.specs.declared.watched.Watched.{Watched}
 use Rattle.watch.specs.declared.round.Round.{Round}
 use Rattle.watch.specs.declared.round.Listed.{Listed}
 use Rattle.watch.proofs.Returned.{token, tokens, returned}
-use Rattle.watch.proofs.Told.{listed-both}
 use Rattle.watch.proofs.Rounds.{watched-listed, watched-left}
 use Rattle.watch.proofs.watched.Watched as T
 use Rattle.watch.proofs.round.Round as R
@@ -149,7 +147,6 @@ module _ {M : Type 1} (𝓤 : URA M) (H : Heap 𝓤) (A : Atoms 𝓤) (W : Given
 
   exits : (r : Listed) (u : Val) (out : List ℕ) → length out ≡ length (d .now)
       → (toldListed r ≡ accepted (marking (x .now) (s .now) (length (d .now))))
-      × (answerListed r ≡ answer tt (accepted (marking (x .now) (s .now) (length (d .now)))))
       × (out ≡ leftBy (marksOf (x .now)) (marking (x .now) (s .now) (length (d .now))) (d .now))
       → ent 𝓤 (⋆ 𝓤 H A (‵ (F.the-row .own r (u ∷ [])) ∷ token κ″ q″ ∷ ‵ (finally u8 (d .name) out) ∷ tokens κ q κ′ q′ ∷ ‵ OwnS ∷ ‵ OwnX
       ∷ [])) (Post u)
@@ -226,10 +223,10 @@ module _ {M : Type 1} (𝓤 : URA M) (H : Heap 𝓤) (A : Atoms 𝓤) (W : Given
         free1 ! $
         move ! (12 ∷ 13 ∷ []) $ free1 ! $ move ! (10 ∷ 11 ∷ []) $ free1 ! $ move ! (8 ∷ 9 ∷ []) $ free1 ! $ move ! (6 ∷ 7 ∷ []) $
         free1 ! $ free0 ! $
-        let told = listed-both r (ap toldListed (e′ .0) ∙ ap (λ (z : Round). toldListed (listedOf n z (length (d .now)))) e
-        ∙ watched-listed (x .now) (s .now) (length (d .now))) in
+        let told = ap toldListed (e′ .0) ∙ ap (λ (z : Round). toldListed (listedOf n z (length (d .now)))) e
+        ∙ watched-listed (x .now) (s .now) (length (d .now)) in
         let left = e′ .1 ∙ ap (λ (z : Round). leftIn n z (d .now)) e ∙ watched-left (x .now) (s .now) (d .now) in
-        by ! (exits r w (zs .1 .1 .0) l (told .0, told .1, left))))))))))))))))))
+        by ! (exits r w (zs .1 .1 .0) l (told, left))))))))))))))))))
 
 module _ {M : Type 1} (𝓤 : URA M) (H : Heap 𝓤) (A : Atoms 𝓤) (W : Given 𝓤 H A)
     (mem : Memory → SProp 𝓤) (run : Routine → Fun 𝓤) (𝓣 : Tables 𝓤 H) (known-watch : Triple 𝓤 (𝓣 .C #watch) (Watch 𝓤 H A mem run))

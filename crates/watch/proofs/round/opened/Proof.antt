@@ -16,18 +16,18 @@ enum-known-wrong c = search needs
 
 -- src/round.rt:120:9
 returns : tie.Need-returns
-returns c = opened-not _ _ _ (c .before .before .before .check .ensures .0) (c .before .wrong .given .1)
+returns c = opened-not _ _ _ (c .before .before .before .check .ensures) (c .before .wrong .given .1)
 
 enum-told : tie.Need-enum-told
 enum-told c = search needs
 
 -- src/round.rt:123:9
 returns-2 : tie.Need-returns-2
-returns-2 c = opened-all _ _ _ (c .before .before .before .check .ensures .0) (c .before .enum-told .given .1) (c .if1 .taken)
+returns-2 c = opened-all _ _ _ (c .before .before .before .check .ensures) (c .before .enum-told .given .1) (c .if1 .taken)
 
 -- src/round.rt:116:1
 returns-3 : tie.Need-returns-3
-returns-3 c = opened-first _ _ _ (c .before .before .before .check .ensures .0) (c .before .enum-told .given .1) (c .if1 .left)
+returns-3 c = opened-first _ _ _ (c .before .before .before .check .ensures) (c .before .enum-told .given .1) (c .if1 .left)
 
 pub opened-spec : {M : Type 1} → statement M
 opened-spec =

@@ -17,21 +17,12 @@ loop-holds : tie.Need-loop-holds Inv-loop μ-loop
 loop-holds c = writing-none _ _ _ (c .pre)
 
 -- src/round.rt:162:20
-cast-marks : tie.Need-cast-marks Inv-loop μ-loop
-cast-marks c = search needs
-
 -- src/round.rt:162:9
 slice-write-marks : tie.Need-slice-write-marks Inv-loop μ-loop
 slice-write-marks c = writing-room _ _ _ _ _ _ (c .before .loop .inv) (c .loop-test .taken)
 
 -- src/round.rt:164:9
-add-i : tie.Need-add-i Inv-loop μ-loop
-add-i c = search needs
-
 -- src/round.rt:161:5
-loop-less : tie.Need-loop-less Inv-loop μ-loop
-loop-less c = search needs
-
 -- src/round.rt:161:5
 loop-again : tie.Need-loop-again Inv-loop μ-loop
 loop-again c = writing-more _ _ _ _ _ _ (c .before .loop .inv) (c .loop-test .taken)
@@ -51,10 +42,10 @@ put-bits-spec =
     Inv-loop
     μ-loop
     loop-holds
-    cast-marks
+    (λ c. search needs)
     slice-write-marks
-    add-i
-    loop-less
+    (λ c. search needs)
+    (λ c. search needs)
     loop-again
     same-length
     returns)

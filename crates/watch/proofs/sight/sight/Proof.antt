@@ -1,4 +1,4 @@
--- `watch::sight::sight` meets its contract, by what `others` and `first_end` ensure.
+-- `watch::sight::sight` meets its contract, by what `complements` and `first_end` ensure.
 use borrow.Author.Needs.{needs}
 use Prim.Native.Nat.{_≤_}
 use native.Mathlib.Omega.{arith}
@@ -25,7 +25,7 @@ slice-aggregate-pattern c = let s = c .before .before .before .before in bases-l
 first-end-requires : tie.Need-first-end-requires
 first-end-requires c κs =
     let p = c .before .before .before .before .before .before .pre in
-    (record-vectors _ _ (p .spells) (c .before .others .ensures), p .means)
+    (record-vectors _ _ (p .spells) (c .before .complements .ensures), p .means)
 
 returns : tie.Need-returns
 returns c = c .first-end .ensures ∙ first-is _ _

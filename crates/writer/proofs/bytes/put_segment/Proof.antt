@@ -4,12 +4,13 @@ use Prim.Native.Nat.{_+_, _-_, _<_, _≤_}
 use native.Mathlib.Omega.{arith}
 use mathlib.Core.Path.{_≡_, ap, _∙_}
 use borrow.Author.Needs.{needs}
-use lib.ListN.{length, length-set, length-take, length-drop}
+use lib.ListN.{length, length-take, length-drop}
 use Rattle.text.specs.Letter.{meant}
 use Rattle.text.specs.Text.{Variant}
 use Rattle.text.proofs.Likes.{meant-length}
 use Rattle.layout.specs.Bytes.{put}
 use Rattle.layout.specs.Encoding.{encodeVariant}
+use Rattle.layout.specs.Sizes.{afterVariant}
 use Rattle.layout.proofs.Raised.{part-meant}
 use Rattle.writer.proofs.Cuts.{passing-number, passing-inside}
 use Rattle.layout.proofs.Overs.{emitted-length}
@@ -24,12 +25,18 @@ Inv-loop letters lengths first from count out₀ at variants next₀ start₀ k�
 abbrev μ-loop : tie.MeasureT-loop
 μ-loop letters lengths first from count out₀ at variants next₀ start₀ k₀ out next start k = variants - k
 
--- the function's entry; the buffer keeps its length
+-- once the count is put, and the function's entry; the buffer keeps its length
+abbrev counted : tie.At-loop Inv-loop μ-loop → tie.After-put-variants Inv-loop μ-loop
+counted c = c .before .before .before
+
 abbrev entry : tie.At-loop Inv-loop μ-loop → tie.Start Inv-loop μ-loop
-entry c = c .before .before .before .before .before
+entry c = counted c .before .before .before .before .before .before
+
+narrow : (c : tie.After-slice-known Inv-loop μ-loop) → length (c .before .before .before .args .out .now) < 18446744073709551616
+narrow c = omega arith
 
 same : (c : tie.At-loop Inv-loop μ-loop) → length (c .loop .out) ≡ length (entry c .args .out .now)
-same c = emitted-length (c .loop .inv .emitted) ∙ simp length-set
+same c = emitted-length (c .loop .inv .emitted) ∙ counted c .put-variants .kept .1 .0
 
 -- the next variant: its number is that of a length, its letters are there, and its bytes fit
 number :
@@ -46,19 +53,22 @@ inside c =
 
 room :
     (c : tie.After-stated Inv-loop μ-loop) →
-    c .before .before .before .loop .next + 2 + c .stated .result ≤ length (c .before .before .before .loop .out)
-room c = let d = c .before .before in variants-room (d .before .loop .inv) (d .loop-test .taken) (c .stated .ensures)
-
-slice-write-out : tie.Need-slice-write-out Inv-loop μ-loop
-slice-write-out c =
-    let s = c .before .before .before in
-    let h = segment-room (meant (s .args .letters .now)) (s .args .out .now) (s .args .at) (s .pre .0) (s .pre .1) in
-    omega arith
+    afterVariant (c .before .before .before .loop .next) (c .stated .result) ≤ length (entry (c .before .before .before) .args .out .now)
+room c =
+    let d = c .before .before in
+    let h = variants-room (d .before .loop .inv) (d .loop-test .taken) (c .stated .ensures) in
+    rw (same (d .before)) at h
 
 loop-holds : tie.Need-loop-holds Inv-loop μ-loop
 loop-holds c =
-    let s = c .before .before .before .before in
-    segment-none _ (s .args .out .now) (s .args .at) (s .pre .0) (s .pre .1) (c .wide .ensures .0)
+    let p = c .before .before in
+    let s = p .before .before .before .before .before .before in
+    segment-none _ (s .args .out .now) (s .args .at) (s .pre .0) (s .pre .1) (p .before .before .wide .ensures .0) (p .put-variants .kept .1 .0)
+
+add-next : tie.Need-add-next Inv-loop μ-loop
+add-next c =
+    let s = c .before .before .before .before .before .before .before .before in
+    omega (arith, segment-room (meant (s .args .letters .now)) (s .args .out .now) (s .args .at) (s .pre .0) (s .pre .1))
 
 add-stated : tie.Need-add-stated Inv-loop μ-loop
 add-stated c = omega (arith, number c)
@@ -75,22 +85,19 @@ add-end c = omega (arith, inside c)
 part-put-variant-end : tie.Need-part-put-variant-end Inv-loop μ-loop
 part-put-variant-end c = omega (arith, inside c)
 
-add-next-2 : tie.Need-add-next-2 Inv-loop μ-loop
-add-next-2 c = let d = c .before .before .before .before .before in omega (arith, room d, same (d .before .before .before))
-
-add-next-3 : tie.Need-add-next-3 Inv-loop μ-loop
-add-next-3 c = let d = c .before .before .before .before .before in omega (arith, room d, same (d .before .before .before))
-
 loop-again : tie.Need-loop-again Inv-loop μ-loop
 loop-again c =
-    let d = c .before .before .before .before .before in
+    let w = c .before .before .before in
+    let d = w .before .before .before in
     let i = d .before .before in
     let letters = entry (i .before) .args .letters .now in
     let start = i .before .loop .start in
     let next = i .before .loop .next in
     let out = i .before .loop .out in
-    variants-more (i .before .loop .inv) (i .loop-test .taken) (d .stated .ensures)
-    (c .before .before .put-variant .ensures ∙ ap (λ (v : Variant). put out next (encodeVariant v))
+    let place : c .after-variant .result ≡ afterVariant next (d .stated .result) =
+    omega (arith, c .after-variant .ensures, room d, narrow (counted (i .before) .before .before .before)) in
+    variants-more (i .before .loop .inv) (i .loop-test .taken) (d .stated .ensures) place
+    (w .put-variant .ensures ∙ ap (λ (v : Variant). put out next (encodeVariant v))
     (part-meant letters start (start + d .stated .result - start)))
 
 same-length : tie.Need-same-length Inv-loop μ-loop
@@ -98,9 +105,10 @@ same-length c = same (c .before)
 
 returns : tie.Need-returns Inv-loop μ-loop
 returns c =
+    let p = counted (c .before) in
     let s = entry (c .before) in
     segment-end _ (s .args .out .now) (s .args .at) (s .pre .0) (s .pre .1)
-    (c .before .before .wide .ensures .0) (c .before .loop .inv) (c .loop-test .left)
+    (p .before .before .wide .ensures) (p .put-variants .ensures) (c .before .loop .inv) (c .loop-test .left)
 
 pub put-segment-spec : {M : Type 1} → statement M
 put-segment-spec =
@@ -108,9 +116,9 @@ put-segment-spec =
     (tie.spec
     Inv-loop
     μ-loop
-    slice-write-out
     (λ c κs. search needs)
-    (λ c. search needs)
+    (λ c κs. search needs)
+    add-next
     loop-holds
     add-stated
     mul-stated
@@ -121,8 +129,7 @@ put-segment-spec =
     (λ c. search needs)
     part-put-variant-end
     (λ c κs. search needs)
-    add-next-2
-    add-next-3
+    (λ c κs. search needs)
     (λ c. search needs)
     (λ c. search needs)
     loop-again

@@ -3,8 +3,8 @@
 use Prim.Native.Nat.{_-_}
 use mathlib.Core.Path.{sym, ap, _∙_}
 use borrow.Author.Needs.{needs}
+use Rattle.text.specs.Refusal.{toldAmount}
 use Rattle.text.specs.Letter.{meant}
-use Rattle.writer.specs.Answers.{toldReached}
 use Rattle.writer.proofs.Cuts.{passing-behind}
 use Rattle.writer.proofs.GivenSegment.{segment-empty, VariantsAccepted}
 use Rattle.writer.proofs.GivenSegment.{accepted-none, accepted-refused, accepted-more, accepted-end}
@@ -33,14 +33,14 @@ returns-2 : tie.Need-returns-2 Inv-loop μ-loop
 returns-2 c =
     let d = c .before .before .before in
     let i = d .before in
-    let e = sym (d .variant-given .ensures) ∙ ap toldReached (c .before .refused .given .1) in
+    let e = sym (d .variant-given .ensures) ∙ ap toldAmount (c .before .refused .given .1) in
     sym (accepted-refused (i .before .loop .inv) _ _ (i .loop-test .taken) e)
 
 loop-again : tie.Need-loop-again Inv-loop μ-loop
 loop-again c =
     let d = c .before .before .before in
     let i = d .before in
-    let e = sym (d .variant-given .ensures) ∙ ap toldReached (c .before .next .given .1) in
+    let e = sym (d .variant-given .ensures) ∙ ap toldAmount (c .before .next .given .1) in
     accepted-more (i .before .loop .inv) _ (i .loop-test .taken) e
 
 returns-3 : tie.Need-returns-3 Inv-loop μ-loop

@@ -5,8 +5,8 @@ use native.Mathlib.Omega.{arith}
 use mathlib.Core.Path.{sym, ap, _∙_}
 use borrow.Author.Needs.{needs}
 use lib.ListN.{length}
+use Rattle.text.specs.Refusal.{toldAmount}
 use Rattle.text.specs.Letter.{meant}
-use Rattle.writer.specs.Answers.{toldReached}
 use Rattle.writer.proofs.Texts.{matched-within}
 use Rattle.writer.proofs.GivenText.{SegmentsAccepted, accepted-none, accepted-refused, accepted-more, accepted-end}
 use Rattle.writer.proofs.sound.segments_given.Statement.{statement}
@@ -29,7 +29,7 @@ returns : tie.Need-returns Inv-loop μ-loop
 returns c =
     let d = c .before .before .before in
     let i = d .before in
-    let e = sym (d .segment-given .ensures) ∙ ap toldReached (c .before .refused .given .1) in
+    let e = sym (d .segment-given .ensures) ∙ ap toldAmount (c .before .refused .given .1) in
     sym (accepted-refused (i .before .loop .inv) _ _ (i .loop-test .taken) e)
 
 add-variant : tie.Need-add-variant Inv-loop μ-loop
@@ -41,7 +41,7 @@ loop-again : tie.Need-loop-again Inv-loop μ-loop
 loop-again c =
     let d = c .before .before .before .before .before in
     let i = d .before in
-    let e = sym (d .segment-given .ensures) ∙ ap toldReached (c .before .before .before .next .given .1) in
+    let e = sym (d .segment-given .ensures) ∙ ap toldAmount (c .before .before .before .next .given .1) in
     accepted-more (i .before .loop .inv) _ _ (i .loop-test .taken) (c .wide .ensures .0) e
 
 returns-2 : tie.Need-returns-2 Inv-loop μ-loop

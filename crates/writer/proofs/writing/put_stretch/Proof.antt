@@ -1,17 +1,18 @@
 -- `writer::put_stretch` meets its contract. Each answer is a law of `writing`, from the tests that led to it and from what the called
 -- functions ensure; one law gives the answer and the buffer.
+use Prim.Native.Nat.{_<_}
 use native.Mathlib.Omega.{arith}
 use mathlib.Core.Path.{_≡_, refl, sym, ap, _∙_}
 use borrow.Author.Needs.{needs}
-use borrow.Author.Tests.{not-true, not-false, leb-true}
+use borrow.Author.Tests.{not-true, not-false, lt-leb}
+use Rattle.text.specs.Refusal.{toldAmount}
 use Rattle.text.specs.Letter.{meant}
 use Rattle.text.proofs.Likes.{meant-length}
+use Rattle.layout.specs.Bytes.{greatestStretch}
 use Rattle.writer.specs.Writing.{Matching, needed}
 use Rattle.writer.proofs.GivenRaised.{matching-meant, needed-meant}
-use Rattle.writer.specs.Answers.{toldReached}
 use Rattle.writer.proofs.Writings.{Fitting, sums-match, counts-refused, lengths-refused, long-refused, given-refused}
 use Rattle.writer.proofs.Writings.{room-refused, refused-leaves, accepted-leaves}
-use Rattle.writer.proofs.Told.{put-both}
 use Rattle.writer.proofs.writing.put_stretch.Statement.{statement}
 use Rattle.writer.proofs.writing.put_stretch.Tie as tie
 
@@ -38,34 +39,38 @@ same-need c = needed-meant _ _ _
 abbrev entered : tie.Else3 → tie.Start
 entered c = entry (c .before .before)
 
-fitting : (c : tie.Else3) → Fitting (meant (entered c .args .letters .now)) (entered c .args .lengths .now) (entered c .args .counts .now)
+size :
+    (c : tie.Else3) →
+    c .before .text-bytes .result
+    ≡ needed (meant (entered c .args .letters .now)) (entered c .args .lengths .now) (entered c .args .counts .now)
 unfolding needed
-fitting c =
-    let small = leb-true _ _ (sym (c .before .fits-stretch .ensures) ∙ not-false _ (c .if3 .left)) in
-    record { matching = matching (c .before .before); small = rw (same-need (entered c)) small }
+size c = let same = same-need (entered c) in omega (arith, c .before .text-bytes .ensures, c .if3 .left)
+
+fitting : (c : tie.Else3) → Fitting (meant (entered c .args .letters .now)) (entered c .args .lengths .now) (entered c .args .counts .now)
+fitting c = record { matching = matching (c .before .before); small = rw (← size c) (c .if3 .left) }
 
 returns : tie.Need-returns
 returns c =
     let d = c .before in
     let e = sym (d .before .counts-sum .ensures) ∙ not-true _ (d .if1 .taken) in
-    put-both _ (refused-leaves _ (c .refused-at-0 .ensures) (counts-refused _ _ _ _ e))
+    refused-leaves _ (c .refused-at-0 .ensures) (counts-refused _ _ _ _ e)
 
 returns-2 : tie.Need-returns-2
 returns-2 c =
     let d = c .before in
     let a = d .before .before .before .before .before .before .before .before .args in
     let e = sym (d .before .lengths-sum .ensures) ∙ not-true _ (d .if2 .taken) in
-    put-both _
-    (refused-leaves _ (c .refused-at-02 .ensures) (lengths-refused (meant (a .letters .now)) _ _ _ (rw (meant-length (a .letters .now)) e)))
+    refused-leaves _ (c .refused-at-02 .ensures) (lengths-refused (meant (a .letters .now)) _ _ _ (rw (meant-length (a .letters .now)) e))
 
 returns-3 : tie.Need-returns-3
 unfolding needed
 returns-3 c =
     let d = c .before in
-    let e = sym (d .before .fits-stretch .ensures) ∙ not-true _ (d .if3 .taken) in
-    put-both _
-    (refused-leaves _ (c .refused-at-03 .ensures)
-    (long-refused _ (matching (d .before .before)) (rw (same-need (entry (d .before .before))) e)))
+    let s = entry (d .before .before) in
+    let n = needed (meant (s .args .letters .now)) (s .args .lengths .now) (s .args .counts .now) in
+    let same = same-need s in
+    let long : greatestStretch < n = omega (arith, d .before .text-bytes .ensures, d .if3 .taken) in
+    refused-leaves _ (c .refused-at-03 .ensures) (long-refused _ (matching (d .before .before)) (lt-leb n greatestStretch long))
 
 segments-given-requires : tie.Need-segments-given-requires
 segments-given-requires c κs = matching (c .before .before)
@@ -73,40 +78,30 @@ segments-given-requires c κs = matching (c .before .before)
 returns-4 : tie.Need-returns-4
 returns-4 c =
     let d = c .before .before .before in
-    let e = sym (d .segments-given .ensures) ∙ ap toldReached (c .before .refused .given .1) in
-    put-both _ (refused-leaves _ refl (given-refused _ (fitting (d .before)) _ _ e))
-
-add-needed-3 : tie.Need-add-needed-3
-unfolding needed
-add-needed-3 c = omega (arith, fitting (c .before .before .before) .small, same-need (entered (c .before .before .before)))
+    let e = sym (d .segments-given .ensures) ∙ ap toldAmount (c .before .refused .given .1) in
+    refused-leaves _ refl (given-refused _ (fitting (d .before)) _ _ e)
 
 returns-5 : tie.Need-returns-5
-unfolding needed
 returns-5 c =
     let d = c .before .before in
     let g = d .before .before in
-    let e = sym (g .segments-given .ensures) ∙ ap toldReached (d .enum-told .given .1) in
-    put-both _ (refused-leaves _ (c .refused-at-04 .ensures)
-    (room-refused _ (fitting (g .before)) e (rw (same-need (entered (g .before))) (c .before .if4 .taken))))
+    let e = sym (g .segments-given .ensures) ∙ ap toldAmount (d .enum-told .given .1) in
+    refused-leaves _ (c .refused-at-04 .ensures)
+    (room-refused _ (fitting (g .before)) e (rw (← size (g .before)) (c .before .if4 .taken)))
 
 put-text-requires : tie.Need-put-text-requires
-unfolding needed
 put-text-requires c κs =
-    let d = c .before .before in (
-      fitting (d .before .before .before) .matching,
-      rw (same-need (entered (d .before .before .before)))
-          (c .before .if4 .left),
-    )
+    let e = c .before .before .before .before .before in
+    (fitting e .matching, rw (← size e) (c .before .if4 .left))
 
 returns-6 : tie.Need-returns-6
-unfolding needed
 returns-6 c =
     let r = c .before .before .before .before in
     let d = r .before in
     let g = d .before .before in
-    let e = sym (g .segments-given .ensures) ∙ ap toldReached (d .enum-told .given .1) in
-    let n = same-need (entered (g .before)) in
-    put-both _ (rw n at (accepted-leaves (fitting (g .before)) _ e (rw n (r .if4 .left)) (c .before .before .put-text .ensures)))
+    let e = sym (g .segments-given .ensures) ∙ ap toldAmount (d .enum-told .given .1) in
+    let n = size (g .before) in
+    rw (← n) at (accepted-leaves (fitting (g .before)) _ e (rw (← n) (r .if4 .left)) (c .before .before .put-text .ensures))
 
 pub put-stretch-spec : {M : Type 1} → statement M
 put-stretch-spec =
@@ -125,10 +120,6 @@ put-stretch-spec =
     (λ c. search needs)
     returns-4
     (λ c. search needs)
-    (λ c. search needs)
-    (λ c. search needs)
-    (λ c. search needs)
-    add-needed-3
     (λ c κs. search needs)
     returns-5
     put-text-requires

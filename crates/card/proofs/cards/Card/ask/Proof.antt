@@ -4,14 +4,13 @@ use mathlib.Core.Bool.{true}
 use Rattle.text.specs.Card.{wellFormed}
 use Rattle.card.specs.Cards.{cardIn}
 use Rattle.card.proofs.Tests.{passed, failed}
-use Rattle.card.proofs.Told.{asked-both}
 use Rattle.card.proofs.Answered.{ask-malformed, ask-wrong, ask-follow}
 use borrow.Author.Needs.{needs}
 use Rattle.card.proofs.cards.Card.ask.Statement.{statement}
 use Rattle.card.proofs.cards.Card.ask.Tie as tie
 
 returns : tie.Need-returns
-returns c = asked-both _ (ask-malformed _ _ (failed (c .before .well-formed .ensures) (c .if1 .taken)))
+returns c = ask-malformed _ _ (failed (c .before .well-formed .ensures) (c .if1 .taken))
 
 -- the card was found well formed
 formed : (c : tie.Else1) → wellFormed (cardIn (c .before .before .args .self)) ≡ true
@@ -20,13 +19,13 @@ formed c = passed (c .before .well-formed .ensures) (c .if1 .left)
 returns-2 : tie.Need-returns-2
 returns-2 c =
     let i = c .before in
-    asked-both _ (ask-wrong _ _ (formed (i .before .before)) (failed (i .is-state .ensures) (c .if2 .taken)))
+    ask-wrong _ _ (formed (i .before .before)) (failed (i .is-state .ensures) (c .if2 .taken))
 
 returns-3 : tie.Need-returns-3
 returns-3 c =
     let j = c .before .before .before .before .before in
     let i = j .before in
-    asked-both _ (ask-follow _ _ (formed (i .before .before)) _ (passed (i .is-state .ensures) (j .if2 .left)) (c .follow .ensures))
+    ask-follow _ _ (formed (i .before .before)) _ (passed (i .is-state .ensures) (j .if2 .left)) (c .follow .ensures)
 
 pub ask-spec : {M : Type 1} → statement M
 ask-spec =

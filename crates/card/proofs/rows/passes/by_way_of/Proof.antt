@@ -22,7 +22,7 @@ slice-reshare-prefix-first-end : tie.Need-slice-reshare-prefix-first-end
 slice-reshare-prefix-first-end c =
     let t = c .before .before .before .before .before in
     let a = t .before .before .before .before .before in
-    of-room _ _ (a .args .marks .now) (a .pre) _ _ (found (c .before)) _ (t .through .ensures .1 .1)
+    of-room _ _ (a .args .marks .now) (a .pre) _ _ (found (c .before)) _ (t .through .ensures .1)
 
 slice-aggregate-first-end : tie.Need-slice-aggregate-first-end
 slice-aggregate-first-end c = simp length-take (omega (arith, slice-reshare-prefix-first-end (c .before)))
@@ -39,7 +39,7 @@ told-requires c κs =
     let t = s .before .before .before .before in
     let a = t .before .before .before .before .before in
     of-zero (a .args .pattern .now) (a .args .stretch .now) (a .args .marks .now) (a .pre) _ _ (found s) _
-    (t .through .ensures .1 .1) _ (c .first-end .ensures)
+    (t .through .ensures .1) _ (c .first-end .ensures)
 
 returns : tie.Need-returns
 returns c =

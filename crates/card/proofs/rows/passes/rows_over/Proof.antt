@@ -1,81 +1,106 @@
--- `card::rows::passes::rows_over` meets its contract. The loop's invariant, `Rowing`: k segments are walked over, and the rows are theirs. The
--- measure is the number of segments left.
+-- `card::rows::passes::rows_over` meets its contract. The loop's invariant, `Rowing`: the walk stands after some of the segments, and the
+-- rows are theirs. The measure is the number of segments left.
 use Prim.Native.Nat.{_-_}
 use borrow.Author.Needs.{needs}
 use native.Mathlib.Omega.{arith}
-use mathlib.Core.Path.{_≡_, sym, _∙_}
+use mathlib.Core.Path.{_≡_, sym, subst, _∙_}
 use lib.ListN.{length}
 use lib.Pow.{pow-mono}
 use Rattle.text.proofs.States.{low-ones}
-use Rattle.card.proofs.RowWalks.{sound-few, Rowing, rowing-none, rowing-readable, rowing-more, rowing-all, rowing-dead}
+use Rattle.layout.proofs.Going.{open-is, passed-on}
+use Rattle.card.specs.Held.{rowsIn, Full}
+use Rattle.card.specs.RowStep.{Covers}
+use Rattle.card.proofs.RowsHeld.{exits-in, even}
+use Rattle.card.proofs.RowWalks.{sound-opens, Rowing, rowing-none, rowing-readable, rowing-more, rowing-all, rowing-dead}
 use Rattle.card.proofs.rows.passes.rows_over.Statement.{statement}
 use Rattle.card.proofs.rows.passes.rows_over.Tie as tie
 
 abbrev Inv-loop : tie.InvT-loop
-Inv-loop pattern masks stretch segments exits₀ firsts₀ live₀ at₀ k₀ exits firsts live at k =
-    Rowing pattern stretch exits firsts segments live at k
+Inv-loop pattern masks stretch exits₀ firsts₀ live₀ walk₀ exits firsts live walk =
+    Full exits firsts × Rowing pattern stretch (rowsIn exits firsts) live walk
 
 abbrev μ-loop : tie.MeasureT-loop
-μ-loop pattern masks stretch segments exits₀ firsts₀ live₀ at₀ k₀ exits firsts live at k = segments - k
+μ-loop pattern masks stretch exits₀ firsts₀ live₀ walk₀ exits firsts live walk = walk .count - walk .passed
 
 sub-live : tie.Need-sub-live Inv-loop μ-loop
 sub-live c =
     let b = c .before .before .before .before .before .pre .0 in
     omega (arith, c .low .ensures, low-ones _ (b .short), pow-mono (b .some))
 
+returns : tie.Need-returns Inv-loop μ-loop
+returns c =
+    let o = c .before .before in
+    absurd (sound-opens _ _ (o .before .before .before .before .before .before .pre .2) (o .«open» .ensures) (c .enum-told .given .1))
+
 loop-holds : tie.Need-loop-holds Inv-loop μ-loop
 loop-holds c =
-    let p = c .before .before .before .before .before .pre in
-    rowing-none _ _ _ _ _ (p .0) (p .2) (p .3) _ (c .low .ensures)
+    let o = c .before .before .before in
+    let p = o .before .before .before .before .before .before .pre in
+    let opening = open-is _ (o .«open» .ensures) (c .before .opened .given .1) in
+    (p .3, rowing-none _ _ _ _ (p .0) (p .2) (p .4) _ (o .before .low .ensures) opening)
 
 -- the lists keep their lengths
 even-states : (a : tie.At-loop Inv-loop μ-loop)
-    → length (a .loop .exits) ≡ length (a .before .before .before .before .before .before .args .exits .now)
-even-states a = a .loop .inv .rows .full .states ∙ sym (a .before .before .before .before .before .before .pre .3 .full .states)
+    → let s = a .before .before .before .before .before .before .before .before .before .before in
+    length (a .loop .exits) ≡ length (s .args .exits .now)
+even-states a =
+    let s = a .before .before .before .before .before .before .before .before .before .before in
+    a .loop .inv .0 .states ∙ sym (s .pre .3 .states)
 
 even-ends : (a : tie.At-loop Inv-loop μ-loop)
-    → length (a .loop .firsts) ≡ length (a .before .before .before .before .before .before .args .firsts .now)
-even-ends a = a .loop .inv .rows .full .ends ∙ sym (a .before .before .before .before .before .before .pre .3 .full .ends)
+    → let s = a .before .before .before .before .before .before .before .before .before .before in
+    length (a .loop .firsts) ≡ length (s .args .firsts .now)
+even-ends a =
+    let s = a .before .before .before .before .before .before .before .before .before .before in
+    a .loop .inv .0 .ends ∙ sym (s .pre .3 .ends)
 
 same-length : tie.Need-same-length Inv-loop μ-loop
-same-length c = even-states (c .before .before)
+same-length c = even-states (c .before .before .before)
 
 same-length-2 : tie.Need-same-length-2 Inv-loop μ-loop
-same-length-2 c = even-ends (c .before .before)
+same-length-2 c = even-ends (c .before .before .before)
 
-returns : tie.Need-returns Inv-loop μ-loop
-returns c =
-    let a = c .before .before in
-    rowing-dead _ _ _ _ _ _ _ _ (a .loop .inv) (a .before .before .before .before .before .before .pre .0 .some) (c .if1 .taken)
+returns-2 : tie.Need-returns-2 Inv-loop μ-loop
+returns-2 c =
+    let a = c .before .before .before in
+    let p = a .before .before .before .before .before .before .before .before .before .before .pre in
+    (a .loop .inv .0, rowing-dead (a .loop .inv .1) (p .0 .some) (c .if2 .taken))
 
 cast-number : tie.Need-cast-number Inv-loop μ-loop
 cast-number c =
-    let few = sound-few _ _ (c .before .before .before .before .before .before .before .before .pre .2) in
-    omega (arith, c .before .loop-test .taken)
+    let t = c .before .before in
+    omega (arith, t .if1 .taken, t .before .before .loop .inv .1 .few)
 
 segment-rows-requires : tie.Need-segment-rows-requires Inv-loop μ-loop
 segment-rows-requires c κs =
-    let a = c .before .before .before .before in
-    let p = a .before .before .before .before .before .before .pre in
-    let q = a .loop .inv in
-    let there = rowing-readable _ _ _ _ _ _ _ _ q (c .before .before .before .loop-test .taken) in
-    (record { bases = p .0; vectors = p .1; lengths = q .lengths }, q .covers, q .rows .full, there)
+    let t = c .before .before .before .before in
+    let a = t .before .before in
+    let p = a .before .before .before .before .before .before .before .before .before .before .pre in
+    let (full, q) = a .loop .inv in
+    let covers = subst (Covers _ _) (exits-in _ _ (even full)) (q .covers) in
+    (record { bases = p .0; vectors = p .1; lengths = q .lengths }, covers, full, rowing-readable q (t .if1 .taken))
 
 loop-again : tie.Need-loop-again Inv-loop μ-loop
 loop-again c =
-    let f = c .before .before .before .before in
-    let a = f .before .before .before .before .before in
-    let few = sound-few _ _ (a .before .before .before .before .before .before .pre .2) in
-    rowing-more _ _ _ _ _ _ _ _ (a .loop .inv) (f .before .before .before .before .loop-test .taken) few _ _ _ _ (f .segment-rows .ensures)
+    let f = c .before .before .before .before .before in
+    let t = f .before .before .before .before .before in
+    let over = f .segment-rows .ensures in
+    (over .0, rowing-more (t .before .before .loop .inv .1) (t .if1 .taken) _ _ _ (over .1) _ (c .past .ensures))
+
+loop-less : tie.Need-loop-less Inv-loop μ-loop
+loop-less c =
+    let t = c .before .before .before .before .before .before .before .before .before .before in
+    let on = passed-on _ _ _ (omega (arith, t .if1 .taken, t .before .before .loop .inv .1 .few)) (c .past .ensures) in
+    omega (arith, on, t .if1 .taken)
 
 same-length-3 : tie.Need-same-length-3 Inv-loop μ-loop
-same-length-3 c = even-states (c .before)
+same-length-3 c = even-states (c .before .before)
 
 same-length-4 : tie.Need-same-length-4 Inv-loop μ-loop
-same-length-4 c = even-ends (c .before)
+same-length-4 c = even-ends (c .before .before)
 
-returns-2 : tie.Need-returns-2 Inv-loop μ-loop
-returns-2 c = rowing-all _ _ _ _ _ _ _ _ (c .before .loop .inv) (c .loop-test .left)
+returns-3 : tie.Need-returns-3 Inv-loop μ-loop
+returns-3 c = let i = c .before .before .loop .inv in (i .0, rowing-all (i .1) (c .if1 .left))
 
 pub rows-over-spec : {M : Type 1} → statement M
 rows-over-spec =
@@ -85,15 +110,19 @@ rows-over-spec =
     μ-loop
     (λ c κs. search needs)
     sub-live
+    (λ c κs. search needs)
+    (λ c. search needs)
+    (λ c. search needs)
+    returns
     loop-holds
     same-length
     same-length-2
-    returns
+    returns-2
     cast-number
     segment-rows-requires
-    (λ c. search needs)
-    (λ c. search needs)
+    (λ c κs. search needs)
+    loop-less
     loop-again
     same-length-3
     same-length-4
-    returns-2)
+    returns-3)

@@ -2,7 +2,7 @@
 use borrow.Author.Needs.{needs}
 use native.Mathlib.Omega.{arith}
 use Rattle.search.proofs.BitScans.{told-short}
-use Rattle.card.proofs.RowWalks.{sound-few}
+use Rattle.card.proofs.RowWalks.{sound-few, sound-states}
 use Rattle.card.proofs.OfStretches.{rowed-none, all-over}
 use Rattle.card.proofs.rows.passes.told.Statement.{statement}
 use Rattle.card.proofs.rows.passes.told.Tie as tie
@@ -12,7 +12,9 @@ rows-over-requires c κs =
     let m = c .before .before .before in
     let n = m .before in
     let z = n .before .before .before .pre in
-    (z .bases, told-short _ _ (z .bases .short) (m .masks .ensures), z .sound, rowed-none _ (z .bases) _ (n .lone .ensures))
+    let vectors = told-short _ _ (z .bases .short) (m .masks .ensures) in
+    let rows = rowed-none _ (z .bases) _ (n .lone .ensures) in
+    (z .bases, vectors, sound-states _ _ (z .sound), record { states = search needs; ends = search needs }, rows)
 
 cast-t23 : tie.Need-cast-t23
 cast-t23 c =
@@ -22,7 +24,8 @@ cast-t23 c =
 returns : tie.Need-returns
 returns c =
     let o = c .before .before in
-    all-over _ _ _ _ _ (o .before .before .before .before .before .before .before .before .pre) _ _ (o .rows-over .ensures)
+    let (full, rows) = o .rows-over .ensures in
+    all-over _ _ _ _ _ (o .before .before .before .before .before .before .before .before .pre) _ _ full rows
 
 pub told-spec : {M : Type 1} → statement M
 told-spec =

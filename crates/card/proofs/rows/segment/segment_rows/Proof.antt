@@ -1,5 +1,5 @@
--- `card::rows::segment::segment_rows` meets its contract. The loop's invariant, `Bearing`: the variants passed so far have made of each row what
--- they make of its state. The measure is the number of variants left.
+-- `card::rows::segment::segment_rows` meets its contract. The loop's invariant, `Bearing`: the variants passed so far have made of each row
+-- what they make of its state. The measure is the number of variants left.
 use borrow.Author.Needs.{needs}
 use Prim.Native.Nat.{_^_, _<_}
 use native.Mathlib.Omega.{arith}
@@ -96,13 +96,13 @@ same-length : tie.Need-same-length Inv-loop μ-loop
 same-length c =
     let d = c .before .before .before .before in
     let a = d .before .before .before .before .before .before in
-    d .settle .ensures .full .states ∙ sym (a .before .before .before .before .before .before .before .before .before .pre .2 .states)
+    d .settle .ensures .0 .states ∙ sym (a .before .before .before .before .before .before .before .before .before .pre .2 .states)
 
 same-length-2 : tie.Need-same-length-2 Inv-loop μ-loop
 same-length-2 c =
     let d = c .before .before .before .before in
     let a = d .before .before .before .before .before .before in
-    d .settle .ensures .full .ends ∙ sym (a .before .before .before .before .before .before .before .before .before .pre .2 .ends)
+    d .settle .ensures .0 .ends ∙ sym (a .before .before .before .before .before .before .before .before .before .pre .2 .ends)
 
 returns-3 : tie.Need-returns-3 Inv-loop μ-loop
 returns-3 c =
@@ -111,7 +111,7 @@ returns-3 c =
     let a = e .before .before in
     let p = a .before .before .before .before .before .before .before .before .before .pre in
     let none : a .loop .cursor .left ≡ 0 = omega (arith, e .if1 .left) in
-    bearing-end (a .loop .inv) (p .0) (p .1) (d .settle .ensures) none
+    (d .settle .ensures .0, bearing-end (a .loop .inv) (p .0) (p .1) (p .2) (d .settle .ensures .1) none)
 
 pub segment-rows-spec : {M : Type 1} → statement M
 segment-rows-spec =

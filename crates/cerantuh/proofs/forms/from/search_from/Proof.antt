@@ -25,7 +25,7 @@ returns-2 c =
     let a = d .before .before .before .before .before .before .before .args in
     form-room (a .pattern .now) (a .strand) (a .state) (a .stretch .now) (a .marks .now) (a .block .now) (d .through .result)
     (d .through .ensures .0) _ _ _
-    (d .before .before .if1 .left) (d .through .ensures .1 .1) (e .told .ensures)
+    (d .before .before .if1 .left) (d .through .ensures .1) (e .told .ensures)
 
 pub search-from-spec : {M : Type 1} → statement M
 search-from-spec =

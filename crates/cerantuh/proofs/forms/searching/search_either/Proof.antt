@@ -26,7 +26,7 @@ returns-2 c =
     let a = w .before .before .before .before .before .args in
     form-room (eitherMarks (a .pattern .now)) (eitherSums (a .pattern .now)) (a .pattern .now) (a .stretch .now) (a .marks .now)
     (a .block .now) (d .either .result) (d .either .ensures .0) _ _ _
-    (w .if1 .left) (d .either .ensures .1 .1) (e .told .ensures)
+    (w .if1 .left) (d .either .ensures .1) (e .told .ensures)
 
 pub search-either-spec : {M : Type 1} → statement M
 search-either-spec =

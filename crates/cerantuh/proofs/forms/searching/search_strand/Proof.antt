@@ -39,7 +39,7 @@ returns-2 c =
     let Q : List ℕ = onStrand (a .strand) (a .pattern .now) in
     form-room (marked Q) (sumsOf Q) (a .pattern .now) (a .stretch .now) (a .marks .now) (a .block .now) (d .by-bits .result)
     (d .by-bits .ensures .0) _ _ _
-    (d .before .before .before .before .if1 .left) (d .by-bits .ensures .1 .1) (e .told .ensures)
+    (d .before .before .before .before .if1 .left) (d .by-bits .ensures .1) (e .told .ensures)
 
 returns-3 : tie.Need-returns-3
 returns-3 c =
@@ -49,7 +49,7 @@ returns-3 c =
     let Q : List ℕ = onStrand (a .strand) (a .pattern .now) in
     form-room (marked Q) (sumsOf Q) (a .pattern .now) (a .stretch .now) (a .marks .now) (a .block .now) (d .by-borders .result)
     (d .by-borders .ensures .0) _ _ _
-    (d .before .before .before .before .if1 .left) (d .by-borders .ensures .1 .1) (e .told2 .ensures)
+    (d .before .before .before .before .if1 .left) (d .by-borders .ensures .1) (e .told2 .ensures)
 
 pub search-strand-spec : {M : Type 1} → statement M
 search-strand-spec =

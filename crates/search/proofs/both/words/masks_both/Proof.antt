@@ -22,7 +22,7 @@ loop-again c = laid-more _ _ _ _ _ _ (c .before .loop .inv) (c .loop-test .taken
 returns : tie.Need-returns Inv-loop μ-loop
 returns c =
     let d = c .before .before in
-    laid-all _ _ _ _ _ _ (c .before .loop .inv) (c .loop-test .left) (d .before .masks .ensures) (d .masks2 .ensures)
+    laid-all _ _ _ _ _ _ (c .before .loop .inv) (c .loop-test .left) (d .before .complements .ensures) (d .complements2 .ensures)
 
 pub masks-both-spec : {M : Type 1} → statement M
 masks-both-spec =

@@ -8,7 +8,7 @@ use denote.Signature.{plain}
 use denote.Triple.Spec.{tripleOf}
 use denote.Triple.Table.{entered, cited}
 use Rattle.stretch.specs.Places.{reading}
-use Rattle.stretch.specs.Answers.{toldGot, answerGot, answerReading}
+use Rattle.stretch.specs.Answers.{toldGot}
 use Rattle.stretch.specs.declared.reader.Reader.{Reader}
 use Rattle.stretch.specs.declared.reading.Got.{Got}
 use Rattle.stretch.proofs.ReaderMethods.{meets}
@@ -24,9 +24,7 @@ use Rattle.stretch.proofs.reader.Reader.read.Statement as stated
 use Rattle.stretch.proofs.reader.Reader.read.Code as code
 
 abbrev Says : Lfts 1 → Reader → Got → Type 0
-Says κs d g =
-    let x = reading (now (d .stretch)) (d .segment) (d .variant) in
-    (toldGot g ≡ x) × (answerGot g ≡ answerReading x)
+Says κs d g = toldGot g ≡ reading (now (d .stretch)) (d .segment) (d .variant)
 
 pub read-spec : {M : Type 1} → stated.statement M
 unfolding code.routine tablesOf

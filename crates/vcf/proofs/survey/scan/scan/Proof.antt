@@ -20,7 +20,7 @@ abbrev μ-loop : tie.MeasureT-loop
 μ-loop file window first name at₀ start₀ passed₀ reached₀ at start passed reached = length file - at
 
 loop-holds : tie.Need-loop-holds Inv-loop μ-loop
-loop-holds c = scanning-none _ _ _ _ (c .before .before .before .pre)
+loop-holds c = rw (c .nothing .ensures) (scanning-none _ _ _ _ (c .before .before .before .before .pre))
 
 line-requires : tie.Need-line-requires Inv-loop μ-loop
 line-requires c κs = c .before .before .before .loop .inv .reach
@@ -40,7 +40,7 @@ loop-less c =
     let d = n .before .before .before .before .before .before in
     let i = d .before in
     let h : (i .before .loop .at < n .next-line .result) ×
-    (n .next-line .result ≤ length (i .before .before .before .before .before .args .file .now)) =
+    (n .next-line .result ≤ length (i .before .before .before .before .before .before .args .file .now)) =
     rw (n .next-line .ensures) (next-behind _ _ _ (i .loop-test .taken) (d .far-end .ensures)) in
     omega (arith, h)
 
@@ -57,7 +57,7 @@ loop-again c =
 
 sub-gap : tie.Need-sub-gap Inv-loop μ-loop
 sub-gap c =
-    let w = c .before .before .before .before .before .args .window .now in
+    let w = c .before .before .before .before .before .before .args .window .now in
     omega (arith, c .before .loop .inv .reach .inside, meant-length w)
 
 gap-requires : tie.Need-gap-requires Inv-loop μ-loop
@@ -67,7 +67,7 @@ returns-2 : tie.Need-returns-2 Inv-loop μ-loop
 returns-2 c =
     let a = c .before in
     let h = a .before .loop .inv in
-    let w = a .before .before .before .before .before .args .window .now in
+    let w = a .before .before .before .before .before .before .args .window .now in
     (scanning-end h (a .loop-test .left) _ (rw (meant-length w) (c .gap .ensures)), scanning-starts h (a .loop-test .left))
 
 pub scan-spec : {M : Type 1} → statement M
@@ -76,6 +76,7 @@ scan-spec =
     (tie.spec
     Inv-loop
     μ-loop
+    (λ c. search needs)
     loop-holds
     (λ c κs. search needs)
     (λ c. search needs)

@@ -5,7 +5,7 @@ use borrow.Author.Tests.{not-true, not-false}
 use mathlib.Core.Bool.{true}
 use Rattle.text.specs.Compare.{prefix}
 use Rattle.vcf.specs.Records.{heading, placed}
-use Rattle.vcf.specs.Steps.{toldScanned}
+use Rattle.vcf.specs.Steps.{toldGathered}
 use Rattle.vcf.proofs.Checks.{survey-place, survey-placed, survey-heading, survey-letter, survey-record, survey-long}
 use Rattle.vcf.proofs.Checks.{survey-repeated, survey-fits}
 use Rattle.vcf.proofs.survey.surveying.survey.Statement.{statement}
@@ -53,29 +53,29 @@ returns-4 c =
     let s = c .before .before .before .before in
     rw (c .refused4 .ensures)
     (survey-record _ _ _ _ (P1 (E1 s)) (P2 (E2 s)) _ (s .before .before .first-wrong .ensures) (s .before .if3 .left) _
-    (sym (s .scan .ensures .0) ∙ ap toldScanned (c .before .before .line .given .1)))
+    (sym (s .scan .ensures .0) ∙ ap toldGathered (c .before .before .line .given .1)))
 
 returns-5 : tie.Need-returns-5
 returns-5 c =
     let s = c .before .before .before .before .before .before in
     rw (c .refused5 .ensures)
     (survey-long _ _ _ _ (P1 (E1 s)) (P2 (E2 s)) _ (s .before .before .first-wrong .ensures) (s .before .if3 .left) _
-    (sym (s .scan .ensures .0) ∙ ap toldScanned (c .before .before .before .before .tally .given .1)) (c .before .enum-told .given .1))
+    (sym (s .scan .ensures .0) ∙ ap toldGathered (c .before .before .before .before .needed .given .1)) (c .before .enum-told .given .1))
 
 returns-6 : tie.Need-returns-6
 returns-6 c =
     let s = c .before .before .before .before .before .before .before in
     rw (c .refused6 .ensures)
     (survey-repeated _ _ _ _ (P1 (E1 s)) (P2 (E2 s)) _ (s .before .before .first-wrong .ensures) (s .before .if3 .left) _
-    (sym (s .scan .ensures .0) ∙ ap toldScanned (c .before .before .before .before .before .tally .given .1)) _ _
-    (c .before .before .tally2 .given .1))
+    (sym (s .scan .ensures .0) ∙ ap toldGathered (c .before .before .before .before .before .needed .given .1)) _ _
+    (c .before .before .needed2 .given .1))
 
 returns-7 : tie.Need-returns-7
 returns-7 c =
     let s = c .before .before .before .before .before .before in
-    let is = c .before .before .before .before .tally .given .1 in
+    let is = c .before .before .before .before .needed .given .1 in
     survey-fits _ _ _ _ (P1 (E1 s)) (P2 (E2 s)) _ (s .before .before .first-wrong .ensures) (s .before .if3 .left) _
-    (sym (s .scan .ensures .0) ∙ ap toldScanned is) _ _ _ (c .before .tally3 .given .1) (rw is at (s .scan .ensures .1))
+    (sym (s .scan .ensures .0) ∙ ap toldGathered is) _ _ _ (c .before .needed3 .given .1) (rw is at (s .scan .ensures .1))
 
 pub survey-spec : {M : Type 1} → statement M
 survey-spec =

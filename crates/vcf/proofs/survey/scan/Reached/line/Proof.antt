@@ -89,7 +89,7 @@ sub-gap-2 c = let h = bounds (c .before) in omega (arith, h)
 record-requires : tie.Need-record-requires
 record-requires c κs =
     let s = S (c .before .before .before .before .before .before) in
-    rw (c .gap .ensures) (sane-gap (s .args .self .tally) (R (c .before .before) .sound .result - s .args .first - s .args .self .base)
+    rw (c .gap .ensures) (sane-gap (s .args .self .needed) (R (c .before .before) .sound .result - s .args .first - s .args .self .base)
     (s .pre .sane))
 
 sub-t18 : tie.Need-sub-t18
