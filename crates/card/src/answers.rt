@@ -8,14 +8,14 @@ use search::State;
 use text::Refusal;
 
 // A card, or a refusal beside the card of all zeros. Number 0 at place 0 is accepted.
-#[derive(Drop)]
+#[derive(Clone, Copy)]
 pub struct Made {
     pub refusal: Refusal,
     pub card: Card,
 }
 
 // What a card makes of a state: the state after the stretch, and the first segment where an occurrence ends.
-#[derive(Drop)]
+#[derive(Clone, Copy)]
 pub enum Asked {
     Told { state: State, first: u32 },
     Refused(Refusal),

@@ -17,7 +17,7 @@ use text::strand::{Strand, read_on};
 use text::{Refusal, Verdict, limits, refusal};
 
 // What comes of each carried length: row q says what comes of a lone q carried in, row 0 of nothing carried in.
-#[derive(Drop)]
+#[derive(Clone, Copy)]
 pub struct Card {
     pub pattern: [u8; Card::GREATEST_PATTERN],
     pub m: u8,

@@ -9,7 +9,7 @@ use crate::cards::Card;
 use crate::rows::earlier;
 
 // The state that leaves, and the first end.
-#[derive(Drop)]
+#[derive(Clone, Copy)]
 pub struct Row {
     pub exit: u64,
     pub first: u32,

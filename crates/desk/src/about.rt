@@ -7,7 +7,7 @@ use manifest::put_digest;
 use text::part;
 
 // How far the standings have been told: the place in the list, and the number of the sequence there.
-#[derive(Drop)]
+#[derive(Clone, Copy)]
 struct Told {
     at: usize,
     k: usize,

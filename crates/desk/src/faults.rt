@@ -23,7 +23,7 @@ fn tell_fault(line: u64, fault: Fault) {
 }
 
 // How far a list was looked through: the place, the number of the line before it, and how many faults were told.
-#[derive(Drop)]
+#[derive(Clone, Copy)]
 struct Looked {
     at: usize,
     line: u64,

@@ -7,7 +7,7 @@ use files::{Read, read_file};
 use text::{limits, part};
 
 // The night after a stretch, and whether all that is to be said of it was written.
-#[derive(Drop)]
+#[derive(Clone, Copy)]
 pub struct Handed {
     pub night: Night,
     pub written: bool,

@@ -7,7 +7,7 @@ use desk_verdict::{Passed, Standing, pass};
 use text::{limits, part};
 
 // How far the list has been gone through: the place, the number of the sequence there, and whether all is written.
-#[derive(Drop)]
+#[derive(Clone, Copy)]
 struct Step {
     at: usize,
     k: usize,

@@ -8,7 +8,7 @@ use crate::reading::{Line, line_at};
 pub const MOST: usize = 32;
 
 // A sound list with the number of its sequences, 1 to 32; a wrong line; no sequence; more than 32.
-#[derive(Drop)]
+#[derive(Clone, Copy)]
 pub enum Checked {
     Sound(usize),
     Wrong,

@@ -4,7 +4,7 @@ ghost use Rattle.desk_list.specs.Kinds.{of, past};
 
 // Blanks part a label from its sequence: space and tab. A word is whatever is no blank and begins no comment. Plain bytes are those that
 // a reader of the list sees: printable ASCII and tab. A line is made of all but the line feed.
-#[derive(Drop)]
+#[derive(Clone, Copy)]
 pub enum Kind {
     Plain,
     Blank,

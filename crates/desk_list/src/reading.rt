@@ -8,7 +8,7 @@ use text::pattern::check;
 use text::{Refusal, Verdict};
 
 // What is wrong with a line.
-#[derive(Drop)]
+#[derive(Clone, Copy)]
 pub enum Fault {
     // A byte is neither printable ASCII nor a tab: its place in the line, from 0.
     Byte(usize),
@@ -25,7 +25,7 @@ pub enum Fault {
 }
 
 // What a line says: nothing; or a label and where its sequence stands.
-#[derive(Drop)]
+#[derive(Clone, Copy)]
 pub enum Entry {
     Nothing,
     Withheld {
@@ -37,7 +37,7 @@ pub enum Entry {
 }
 
 // A line of a list, and where the next one begins, if this one is right or wrong; or the end of the list.
-#[derive(Drop)]
+#[derive(Clone, Copy)]
 pub enum Line {
     Nothing {
         next: usize,

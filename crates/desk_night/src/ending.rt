@@ -11,7 +11,7 @@ use lines::put_bytes;
 use manifest::{Line, counts_stand, next_stretch};
 
 // The text may go out; a sequence of the list ends in it; or that is not known, for this trouble.
-#[derive(Drop)]
+#[derive(Clone, Copy)]
 pub enum Verdict {
     Clear,
     Held,

@@ -6,7 +6,7 @@ use desk_verdict::{Passed, Standing, Stopped, pass, pass_first};
 use text::{Refusal, limits};
 
 // Where the sequence then stands.
-#[derive(Drop)]
+#[derive(Clone, Copy)]
 pub enum Moved {
     To(Standing),
     Refused(Refusal),

@@ -17,7 +17,7 @@ use manifest::{Line, next_stretch, vouches};
 // Where the sequences of the list stand and how many there are; the place in the manifest after the stretches so far; how many of these
 // there are, and their segments and bytes; whether a manifest vouches for them, and whether each sequence is searched to its first end
 // only; the digests of the list and the manifest; and the first trouble.
-#[derive(Drop)]
+#[derive(Clone, Copy)]
 pub struct Night {
     pub standings: [Standing; MOST],
     pub count: usize,

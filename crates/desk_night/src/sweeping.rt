@@ -9,7 +9,7 @@ use desk_verdict::Standing;
 use text::part;
 
 // Where each sequence stands, and the first refusal.
-#[derive(Drop)]
+#[derive(Clone, Copy)]
 pub struct Swept {
     pub standings: [Standing; MOST],
     pub trouble: Trouble,

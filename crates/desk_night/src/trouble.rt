@@ -5,7 +5,7 @@ ghost use Rattle.desk_night.specs.Trouble.{calm, earlier};
 use text::Refusal;
 
 // The first trouble of a night, or that there is none yet.
-#[derive(Drop)]
+#[derive(Clone, Copy)]
 pub enum Trouble {
     None,
     // What is said of the list: a line is wrong, it has no sequence, or more than 32.

@@ -13,7 +13,7 @@ use text::numbers::least;
 use text::strand::Strand;
 
 // The first segment of a stretch in which the sequence ends on either strand; or the states after it.
-#[derive(Drop)]
+#[derive(Clone, Copy)]
 enum Heard {
     Ends(usize),
     Nowhere(Pair),
@@ -21,7 +21,7 @@ enum Heard {
 }
 
 // The first segment of a stretch in which the sequence ends, and where it then stands; or where it stands after the whole of it.
-#[derive(Drop)]
+#[derive(Clone, Copy)]
 pub enum Stopped {
     Ends { segment: usize, standing: Standing },
     Goes(Standing),

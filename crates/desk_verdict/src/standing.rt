@@ -9,7 +9,7 @@ use search::{Pair, SoughtBoth};
 use text::Refusal;
 
 // What is carried on either strand, the number of segments, and the number of those in which the sequence ends on either.
-#[derive(Drop)]
+#[derive(Clone, Copy)]
 pub struct Standing {
     pub state: Pair,
     pub segments: u64,
@@ -30,7 +30,7 @@ impl Standing {
 }
 
 // The segment count of a stretch, and where the sequence stands after it.
-#[derive(Drop)]
+#[derive(Clone, Copy)]
 pub enum Passed {
     To { segments: usize, standing: Standing },
     Refused(Refusal),

@@ -15,7 +15,7 @@ use words::{read, result};
 
 // A hash of data that comes in pieces, by the names of RFC 7693, appendix C.2: the state h after all blocks but the last one, that block b
 // with zeros after its bytes, how many bytes c of it are there, and the offset t, the number of bytes before it.
-#[derive(Drop)]
+#[derive(Clone, Copy)]
 pub struct Hashing {
     h: [u64; 8],
     b: [u8; 128],
@@ -24,7 +24,7 @@ pub struct Hashing {
 }
 
 // The state and the offset between two blocks, and the place of the next block in the bytes.
-#[derive(Drop)]
+#[derive(Clone, Copy)]
 struct Between {
     h: [u64; 8],
     t: Offset,

@@ -2,7 +2,7 @@
 ghost use Rattle.std.specs.Prelude.{◌≡◌, ◌+◌};
 ghost use Rattle.digest.specs.Structs.{total, offset};
 
-#[derive(Drop)]
+#[derive(Clone, Copy)]
 pub struct Offset {
     pub low: u64,
     pub high: u64,

@@ -4,7 +4,7 @@ ghost use Rattle.digest.specs.Words.{at, word_at, block_at, low_bytes, first32};
 ghost use Rattle.digest.specs.Structs.{listed, octets};
 
 // The words m[0..15] of a block.
-#[derive(Drop)]
+#[derive(Clone, Copy)]
 pub(crate) struct Words {
     pub w0: u64,
     pub w1: u64,
@@ -79,7 +79,7 @@ pub(crate) fn read(s: &[u8], p: usize) -> Words
 }
 
 // The eight bytes of a word.
-#[derive(Drop)]
+#[derive(Clone, Copy)]
 struct Eight {
     b0: u8,
     b1: u8,

@@ -25,7 +25,7 @@ const STOPPED: u64 = 2;
 
 // How far a text has come: what is held of it, the place after what was read, how far the piece at hand is read, the stretches written, the
 // digest of what was read, and whether it goes on.
-#[derive(Drop)]
+#[derive(Clone, Copy)]
 struct Text {
     tape: Tape,
     place: Place,

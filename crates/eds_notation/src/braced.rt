@@ -6,7 +6,7 @@ use stretch::{Checked, Got, check, letters, read};
 use text::Refusal;
 
 // The place after the braces, or why the stretch is refused.
-#[derive(Drop)]
+#[derive(Clone, Copy)]
 pub enum Braced {
     Bytes(usize),
     Refused(Refusal),

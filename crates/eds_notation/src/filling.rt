@@ -13,7 +13,7 @@ use layout::text_bytes;
 use text::limits;
 
 // How much of each buffer is filled, and what stands open.
-#[derive(Drop)]
+#[derive(Clone, Copy)]
 pub struct Tape {
     pub letters: usize,
     pub lengths: usize,
@@ -23,7 +23,7 @@ pub struct Tape {
 
 // What a byte comes to: it is done; or a stretch has no room for it, so that the closed segments are to be written and cut off
 // before; or it is wrong.
-#[derive(Drop)]
+#[derive(Clone, Copy)]
 pub enum Step {
     Done(Tape),
     Full,
@@ -31,7 +31,7 @@ pub enum Step {
 }
 
 // What a piece of a text comes to: all of it is done; or all before the byte at `at`, which has no room or is wrong.
-#[derive(Drop)]
+#[derive(Clone, Copy)]
 pub enum Filled {
     All(Tape),
     Full { at: usize, tape: Tape },

@@ -7,7 +7,7 @@ use text::letter::is_letter;
 use text::limits;
 
 // Where a byte stands: between segments, in letters outside braces, or inside braces.
-#[derive(Drop)]
+#[derive(Clone, Copy)]
 pub enum Mode {
     Between,
     Bare,
@@ -15,7 +15,7 @@ pub enum Mode {
 }
 
 // The segment that stands open: how many of its variants are closed, the letters of all of them, and those of the open one.
-#[derive(Drop)]
+#[derive(Clone, Copy)]
 pub struct Begun {
     pub mode: Mode,
     pub variants: usize,
@@ -25,7 +25,7 @@ pub struct Begun {
 
 // What a byte does, and what stands open after it: nothing is put, or the letter itself, or the open variant is closed, or it and its
 // segment are; or the byte is wrong here.
-#[derive(Drop)]
+#[derive(Clone, Copy)]
 pub enum Act {
     Pass(Begun),
     Letter(Begun),

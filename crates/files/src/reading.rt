@@ -5,7 +5,7 @@ ghost use Rattle.files.specs.Reads.{ReadInto, PieceInto};
 use crate::opening::{TRIES, interrupted, opened};
 
 // What one read finds: a number of bytes, at the start of the buffer, and at least one; the end of the file; or it failed.
-#[derive(Drop)]
+#[derive(Clone, Copy)]
 pub enum Piece {
     Bytes(usize),
     End,
@@ -14,7 +14,7 @@ pub enum Piece {
 
 // What reading a file to its end finds: all its bytes, with their number, at the start of the buffer; more than the buffer holds; or a
 // read failed.
-#[derive(Drop)]
+#[derive(Clone, Copy)]
 pub enum Read {
     Whole(usize),
     Full,

@@ -14,7 +14,7 @@ use std::num::wrapping_add_usize;
 use text::size::counted;
 use text::{Amount, Refusal, Verdict};
 
-#[derive(Drop)]
+#[derive(Clone, Copy)]
 pub struct Cursor {
     // How many variants the segment has, and how many of them are left.
     pub count: usize,
@@ -28,7 +28,7 @@ pub struct Cursor {
 }
 
 // A cursor before a segment's first variant.
-#[derive(Drop)]
+#[derive(Clone, Copy)]
 pub enum Entered {
     At(Cursor),
     Refused(Refusal),

@@ -10,7 +10,7 @@ use text::letter::first_wrong;
 use text::{Amount, Refusal, Verdict, limits, refusal};
 
 // Where a variant's letters start, and where the next variant begins, right after them.
-#[derive(Drop)]
+#[derive(Clone, Copy)]
 pub enum Part {
     At { start: usize, next: usize },
     Refused(Refusal),

@@ -11,7 +11,7 @@ use crate::sizes::FIRST_SEGMENT;
 use std::num::wrapping_add_usize;
 use text::{Refusal, Verdict, limits, refusal};
 
-#[derive(Drop)]
+#[derive(Clone, Copy)]
 pub struct Walk {
     // How many segments there are, and how many of them were passed.
     pub count: usize,
@@ -23,7 +23,7 @@ pub struct Walk {
 }
 
 // A walk before a stretch's first segment.
-#[derive(Drop)]
+#[derive(Clone, Copy)]
 pub enum Opened {
     At(Walk),
     Refused(Refusal),

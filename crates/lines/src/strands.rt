@@ -10,14 +10,14 @@ use text::compare::same;
 use text::strand::Strand;
 
 // The strands that are screened: one of them, or both at once.
-#[derive(Drop)]
+#[derive(Clone, Copy)]
 pub enum Strands {
     One(Strand),
     Either,
 }
 
 // The strands that a word names.
-#[derive(Drop)]
+#[derive(Clone, Copy)]
 pub enum Named {
     Are(Strands),
     Unknown,

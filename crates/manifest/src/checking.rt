@@ -11,7 +11,7 @@ use text::compare::{prefix, same};
 
 // What a manifest is, asked in this order: it does not begin with the first line; its last line is not the digest of the bytes before; a
 // line is wrong; it has no stretch; or it is sound, with that many stretches.
-#[derive(Drop)]
+#[derive(Clone, Copy)]
 pub enum Checked {
     Sound(usize),
     Foreign,

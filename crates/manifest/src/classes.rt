@@ -5,7 +5,7 @@ ghost use Rattle.manifest.specs.Kinds.{of, is_name};
 
 // A line is made of all but the line feed. A digit is a hex digit as `b2sum` prints it. A name is made of what a terminal shows as it
 // is, but no backslash, by which `b2sum` marks a name that it does not print as it is.
-#[derive(Drop)]
+#[derive(Clone, Copy)]
 pub enum Kind {
     InLine,
     Digit,

@@ -8,7 +8,7 @@ use text::compare::same;
 
 // A line, and where the next one begins. Of a stretch's line: its digest stands in the 64 bytes before `start - 2`, and its name from
 // `start` to `end`. A line without a line feed at its end is wrong.
-#[derive(Drop)]
+#[derive(Clone, Copy)]
 pub enum Line {
     Stretch {
         start: usize,

@@ -4,7 +4,7 @@ use text::compare::{prefix, same};
 use text::part;
 
 // What the fields of a line have said so far: whether one of them is the name, and the length, 0 where none is told.
-#[derive(Drop)]
+#[derive(Clone, Copy)]
 struct Said {
     named: bool,
     length: u64,

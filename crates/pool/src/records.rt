@@ -26,7 +26,7 @@ pub const STOP: u64 = 4;
 // How far the variant file has come: the file, the line that is read, the number of the last one that was read whole, the place after the
 // record's line in short, how many records of the chromosome and of others there were, how many columns a record has and how many bases
 // the chromosome (0 where nothing says so), whether the last line may have no line feed, and what the last turn came to.
-#[derive(Drop)]
+#[derive(Clone, Copy)]
 pub struct Records {
     pub source: Source,
     pub line: ShortLine,

@@ -8,7 +8,7 @@ use text::compare::prefix;
 use text::part;
 
 // Where the reading of the reference stands, and line and column where the piece that is held begins.
-#[derive(Drop)]
+#[derive(Clone, Copy)]
 pub struct Spot {
     pub reading: Reading,
     pub place: Place,

@@ -12,7 +12,7 @@ pub const FAILED: u64 = 2;
 
 // A file, the word of the command line that names it, how far the piece that is held is read, its length, whether the file so far ends with
 // a line feed, and what comes next.
-#[derive(Drop)]
+#[derive(Clone, Copy)]
 pub struct Source {
     pub fd: i32,
     pub word: usize,

@@ -40,7 +40,7 @@ pub const STOPPED: u64 = 2;
 const MOST_FAULTS: u64 = 20;
 
 // How far both files have come.
-#[derive(Drop)]
+#[derive(Clone, Copy)]
 pub struct Walk {
     // The position of the window's first base, how many bases it has, what its stretch holds, and the place after its lines.
     pub first: usize,

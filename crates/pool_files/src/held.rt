@@ -6,7 +6,7 @@ ghost use Rattle.pool_files.specs.Room.{nothing, room_in, with_bases, with_recor
 use layout::{FIRST_SEGMENT, LEAST_SEGMENT};
 use text::limits;
 
-#[derive(Drop)]
+#[derive(Clone, Copy)]
 pub struct Held {
     // The bytes of the stretch.
     pub bytes: usize,
@@ -15,7 +15,7 @@ pub struct Held {
 }
 
 // What a stretch holds with something more, or that it has no room for it.
-#[derive(Drop)]
+#[derive(Clone, Copy)]
 pub enum Fit {
     Fits(Held),
     Full,

@@ -8,7 +8,7 @@ use crate::word::go_on;
 use text::letter::is_letter;
 
 // Where the reading stands.
-#[derive(Drop)]
+#[derive(Clone, Copy)]
 pub enum Reading {
     // Before the first byte, which is a >.
     Start,
@@ -120,7 +120,7 @@ fn step(name: &[u8], reading: Reading, byte: u8) -> Reading
 }
 
 // What a byte has led to: a base, nothing, or an end.
-#[derive(Drop)]
+#[derive(Clone, Copy)]
 pub enum Led {
     Base,
     Nothing,
@@ -145,7 +145,7 @@ fn led_to(reading: Reading) -> Led
 }
 
 // Where the next base goes, and how many more are wanted.
-#[derive(Drop)]
+#[derive(Clone, Copy)]
 pub struct Space {
     pub n: usize,
     pub left: usize,
@@ -183,7 +183,7 @@ fn is_end(led: Led) -> bool
 }
 
 // How far a piece was read: where the reading stands, the place in the piece, and the number of bases in the buffer.
-#[derive(Drop)]
+#[derive(Clone, Copy)]
 pub struct Taken {
     pub reading: Reading,
     pub at: usize,

@@ -9,7 +9,7 @@ ghost use Rattle.pool_files.specs.Short.{keeps, act_of, line_at, putting, over_b
 use crate::word::go_on;
 
 // How far a line has come.
-#[derive(Drop)]
+#[derive(Clone, Copy)]
 pub struct ShortLine {
     // The number of the field, counted from 0; 7 for every field from the eighth on, and 8 for a line that begins with #.
     pub field: usize,
@@ -23,7 +23,7 @@ pub struct ShortLine {
 }
 
 // What a byte of a field does.
-#[derive(Drop)]
+#[derive(Clone, Copy)]
 pub enum Act {
     Skip,
     Keep,
@@ -174,7 +174,7 @@ impl ShortLine {
 }
 
 // A line that goes on in the next piece, or one that has ended, and the place after its line feed.
-#[derive(Drop)]
+#[derive(Clone, Copy)]
 pub enum Come {
     On(ShortLine),
     End { line: ShortLine, next: usize },

@@ -43,7 +43,7 @@ fn is_apart() -> bool {
 }
 
 // How many bytes of an input were read, and whether nothing failed.
-#[derive(Drop)]
+#[derive(Clone, Copy)]
 struct Input {
     n: usize,
     whole: bool,

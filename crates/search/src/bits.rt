@@ -5,7 +5,7 @@ ghost use Rattle.search.specs.Words.{ScannedBy};
 
 // What one pass over a variant's letters finds. `out`: complement of the final state word; `missed`: bits set in no word yet; `wrong`:
 // a byte is no letter.
-#[derive(Drop)]
+#[derive(Clone, Copy)]
 pub struct Scanned {
     pub out: u64,
     pub missed: u64,

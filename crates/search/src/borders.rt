@@ -17,7 +17,7 @@ mod table;
 pub use table::border_table;
 
 // The state that one variant leads to, and whether an occurrence ends in it.
-#[derive(Drop)]
+#[derive(Clone, Copy)]
 pub struct Stepped {
     pub bits: u64,
     pub ends: bool,

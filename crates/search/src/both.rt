@@ -30,7 +30,7 @@ pub use words::Pair;
 
 // What a search from a state of each strand answers: the segment count, the size, the number of ones among the marks, and the states
 // after the stretch.
-#[derive(Drop)]
+#[derive(Clone, Copy)]
 pub enum SoughtBoth {
     Marked {
         segments: usize,

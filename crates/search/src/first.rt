@@ -14,7 +14,7 @@ use text::strand::{Strand, read_on};
 use text::{Refusal, Verdict};
 
 // The first segment in which an occurrence ends; or the state after a sound stretch in which nothing ends.
-#[derive(Drop)]
+#[derive(Clone, Copy)]
 pub enum First {
     Ends(usize),
     None(State),

@@ -8,7 +8,7 @@ use crate::bits::{Scanned, scan};
 use crate::borders::step_borders;
 use text::spelling::any_wrong;
 
-#[derive(Drop)]
+#[derive(Clone, Copy)]
 pub enum Method {
     Bits,
     Borders,

@@ -14,7 +14,7 @@ use text::strand::{Strand, read_on};
 use text::{Refusal, Verdict};
 
 // The segment count, the size and the number of ones among the marks.
-#[derive(Drop)]
+#[derive(Clone, Copy)]
 pub enum Searched {
     Marked {
         segments: usize,

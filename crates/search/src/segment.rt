@@ -12,7 +12,7 @@ use text::{Refusal, Verdict};
 
 // How far a step over a segment has come in the bytes: the place after it, its size, the state there, and whether an occurrence
 // ends in it.
-#[derive(Drop)]
+#[derive(Clone, Copy)]
 pub enum Passed {
     To {
         next: usize,

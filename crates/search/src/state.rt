@@ -20,13 +20,13 @@ use text::strand::{Strand, read_on};
 use text::{Refusal, Verdict};
 
 // Bit r is set when length r is carried, 1 to 63. Bit 0 is no length: an occurrence may start afresh.
-#[derive(Drop)]
+#[derive(Clone, Copy)]
 pub struct State {
     pub bits: u64,
 }
 
 // The state after one segment, and whether an occurrence ends in it.
-#[derive(Drop)]
+#[derive(Clone, Copy)]
 pub enum Fed {
     Next { state: State, ends: bool },
     Refused(Refusal),
@@ -34,7 +34,7 @@ pub enum Fed {
 
 // What a search from a state answers: the segment count, the size, the number of ones among the marks, and the state after the
 // stretch.
-#[derive(Drop)]
+#[derive(Clone, Copy)]
 pub enum Sought {
     Marked {
         segments: usize,
@@ -46,7 +46,7 @@ pub enum Sought {
 }
 
 // How many lengths a state carries, and the shortest of them, 0 if there is none.
-#[derive(Drop)]
+#[derive(Clone, Copy)]
 pub struct Carried {
     pub count: u32,
     pub shortest: u32,

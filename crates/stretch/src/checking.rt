@@ -9,7 +9,7 @@ use text::spelling::classes;
 use text::{Refusal, Verdict};
 
 // The segment count and the size of a sound stretch.
-#[derive(Drop)]
+#[derive(Clone, Copy)]
 pub enum Checked {
     Sound { segments: usize, size: usize },
     Refused(Refusal),

@@ -6,7 +6,7 @@ ghost use Rattle.stretch.specs.Answers.{told_got};
 use crate::reading::{Got, letters, read};
 
 // A stretch and a place in it. Any bytes and any two numbers are fine, as for `read`.
-#[derive(Drop)]
+#[derive(Clone, Copy)]
 pub struct Reader<'a> {
     pub stretch: &'a [u8],
     pub segment: usize,

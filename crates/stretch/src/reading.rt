@@ -13,7 +13,7 @@ use layout::{FIRST_LETTER, FIRST_VARIANT};
 use text::Refusal;
 
 // What a read finds, and the place that goes with it.
-#[derive(Drop)]
+#[derive(Clone, Copy)]
 pub enum Got {
     // Where the variant's letters stand, and the place one variant number after it.
     Variant {

@@ -9,7 +9,7 @@ use text::spelling::any_wrong_by;
 use text::{Refusal, Verdict};
 
 // How far a walk has come: the place after what was read, and its size.
-#[derive(Drop)]
+#[derive(Clone, Copy)]
 pub enum Walked {
     To { next: usize, size: usize },
     Refused(Refusal),

@@ -10,7 +10,7 @@ use text::{Amount, Refusal};
 use writer::put_stretch;
 
 // The number of bytes written.
-#[derive(Drop)]
+#[derive(Clone, Copy)]
 pub enum Written {
     Bytes(usize),
     Refused(Refusal),

@@ -6,7 +6,7 @@ use test_reference::places::{number_at, part, put, put_part};
 use test_tally::{GROUPS, Tally, report};
 
 // Where a line starts and ends, and its group.
-#[derive(Drop)]
+#[derive(Clone, Copy)]
 pub struct ExampleLine {
     pub start: usize,
     pub end: usize,

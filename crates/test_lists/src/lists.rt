@@ -8,7 +8,7 @@ use watch::{Found, Listed, Watched};
 pub const MOST: usize = 33;
 
 // Of the records the first n.
-#[derive(Drop)]
+#[derive(Clone, Copy)]
 pub struct List {
     pub records: [Watched; 33],
     pub n: usize,

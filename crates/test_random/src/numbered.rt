@@ -16,7 +16,7 @@ pub const CASES: u64 = 20000;
 const SEED: u64 = 0x2545_f491_4f6c_dd1d;
 
 // A pattern of m bases, as the strand reads it and as it is given; a stretch of n bytes; and what is to be said of both.
-#[derive(Drop)]
+#[derive(Clone, Copy)]
 pub struct Case {
     pub read: [u8; 65],
     pub given: [u8; 65],

@@ -80,7 +80,7 @@ fn ends(p: &[u8], s: &[u8], from: u64) -> bool {
 }
 
 // What comes of a set of lengths in a segment: the lengths after it, and whether an occurrence ends in it.
-#[derive(Drop)]
+#[derive(Clone, Copy)]
 pub struct Step {
     pub bits: u64,
     pub ends: bool,
@@ -116,7 +116,7 @@ pub fn through(p: &[u8], bytes: &[u8], at: usize, from: u64) -> Step {
 }
 
 // What comes of a set of lengths in a text: the lengths after it, the marks, their number, and the first end.
-#[derive(Drop)]
+#[derive(Clone, Copy)]
 pub struct Ran {
     pub bits: u64,
     pub first: usize,

@@ -4,7 +4,7 @@ use std::num::wrapping_add_usize;
 
 // How far the reader has come: a refusal and its place, or number 0 and the place after what was read; the letters and the
 // variants that were read.
-#[derive(Drop)]
+#[derive(Clone, Copy)]
 pub struct Came {
     pub number: u64,
     pub place: usize,
@@ -133,7 +133,7 @@ fn read(bytes: &[u8], count: usize) -> Came {
 
 // What is to be said of a stretch, alone or with a pattern: a refusal and its place; or number 0 and the segments, the letters and
 // the variants that it has. The others are 0. A refusal of a stretch has the number of the variants before it.
-#[derive(Drop)]
+#[derive(Clone, Copy)]
 pub struct Verdict {
     pub number: u64,
     pub place: usize,

@@ -4,7 +4,7 @@ ghost use Rattle.test_tally.specs.Answers.{refused_as, told_as, alike, held_as};
 
 use check::same;
 
-#[derive(Drop)]
+#[derive(Clone, Copy)]
 pub struct Answer {
     pub number: u64,
     pub place: usize,

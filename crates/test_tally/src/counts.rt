@@ -9,7 +9,7 @@ use std::num::wrapping_add_u64;
 // How many groups there are.
 pub const GROUPS: usize = 64;
 
-#[derive(Drop)]
+#[derive(Clone, Copy)]
 pub struct Tally {
     // What is compared now, a number that tells where an answer differs.
     pub at: u64,

@@ -4,7 +4,7 @@ ghost use Rattle.std.specs.Prelude.{◌≡◌};
 ghost use Rattle.text.specs.Letter.{base, letter, raised, meaning_of, first_not};
 
 // What a byte means: the base, in upper case; that no base is known; or that it is no letter.
-#[derive(Drop)]
+#[derive(Clone, Copy)]
 pub enum Letter {
     Base(u8),
     Unknown,

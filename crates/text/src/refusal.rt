@@ -1,5 +1,5 @@
 // Refusals: the documents' numbers, and the place that goes with a number. Accepted is number 0 at place 0.
-#[derive(Drop)]
+#[derive(Clone, Copy)]
 pub struct Refusal {
     pub number: u64,
     pub place: usize,

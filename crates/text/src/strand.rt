@@ -7,7 +7,7 @@ ghost use Rattle.text.specs.Strand.{complement, opposite, read_on};
 use crate::limits;
 
 // The strand on which a pattern is read.
-#[derive(Drop)]
+#[derive(Clone, Copy)]
 pub enum Strand {
     Given,
     Opposite,

@@ -16,7 +16,7 @@ const PATH: usize = 8192;
 
 // How many stretches are written, their segments and their bytes, the place after their lines in the manifest's buffer, and whether all of
 // them were written.
-#[derive(Drop)]
+#[derive(Clone, Copy)]
 pub struct Built {
     pub stretches: u64,
     pub segments: u64,

@@ -12,7 +12,7 @@ use text::letter::first_wrong;
 use text::{Refusal, refusal};
 
 // The record's position, how many bases its REF has, and the bytes of its segment.
-#[derive(Drop)]
+#[derive(Clone, Copy)]
 pub enum Measured {
     Record {
         position: usize,

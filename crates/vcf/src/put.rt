@@ -91,7 +91,7 @@ fn put_record(reference: &[u8], alt: &[u8], out: &mut [u8], at: usize) -> usize
 }
 
 // How far the text is put: the first base of the window that is not, the place in the buffer, and how many records are left.
-#[derive(Drop)]
+#[derive(Clone, Copy)]
 pub struct Put {
     pub base: usize,
     pub at: usize,

@@ -12,7 +12,7 @@ use text::{Refusal, limits, refusal};
 
 // A refusal; every pattern so far is sound; no record so far ends anywhere; the first that does, by its label and its first ending
 // segment; or the records so far that do, each by a bit.
-#[derive(Drop)]
+#[derive(Clone, Copy)]
 pub enum Round {
     Refused(Refusal),
     Asking,
@@ -22,7 +22,7 @@ pub enum Round {
 }
 
 // The first record that ends anywhere, by its label and its first ending segment.
-#[derive(Drop)]
+#[derive(Clone, Copy)]
 pub enum Found {
     Ends { label: u64, segment: usize },
     None,
@@ -30,7 +30,7 @@ pub enum Found {
 }
 
 // Whether the records were marked.
-#[derive(Drop)]
+#[derive(Clone, Copy)]
 pub enum Listed {
     Marked,
     Refused(Refusal),

@@ -17,14 +17,14 @@ use search::{State, complements};
 use text::limits;
 
 // The complement of the word after a variant, and the bits that no word has had so far.
-#[derive(Drop)]
+#[derive(Clone, Copy)]
 struct Led {
     out: u64,
     missed: u64,
 }
 
 // The place after a segment, the state there, and whether an occurrence ends in it.
-#[derive(Drop)]
+#[derive(Clone, Copy)]
 struct Passed {
     next: usize,
     state: State,

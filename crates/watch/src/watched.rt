@@ -6,7 +6,7 @@ use text::pattern::check;
 use text::{Verdict, limits};
 
 // A withheld sequence, the first m bytes of `pattern`, and its label. Bytes after the m bases are disregarded.
-#[derive(Drop)]
+#[derive(Clone, Copy)]
 pub struct Watched {
     pub pattern: [u8; 64],
     pub m: u8,

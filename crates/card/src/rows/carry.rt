@@ -6,7 +6,7 @@ use text::state::low;
 
 // What one pass over a variant's letters makes of the carried lengths: those reached after it, and which of those carried in end
 // an occurrence in it.
-#[derive(Drop)]
+#[derive(Clone, Copy)]
 pub struct Moved {
     pub reached: u64,
     pub finished: u64,

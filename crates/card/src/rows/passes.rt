@@ -19,7 +19,7 @@ use text::{Refusal, limits};
 // What a stretch does: how many segments it has, and for each carried length the state that leaves and the first segment where an
 // occurrence ends. Row q is of a lone q carried in, row 0 of nothing carried in; from m up nothing leaves or ends. Number 0 at place 0
 // is accepted; beside a refusal all is zero.
-#[derive(Drop)]
+#[derive(Clone, Copy)]
 pub struct Rows {
     pub refusal: Refusal,
     pub segments: u32,

@@ -12,7 +12,7 @@ use layout::pieces::Part;
 use text::limits;
 
 // What a segment leaves: the union of the rows' states, and the place after it.
-#[derive(Drop)]
+#[derive(Clone, Copy)]
 pub struct Behind {
     pub live: u64,
     pub next: usize,

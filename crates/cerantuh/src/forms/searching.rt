@@ -51,7 +51,7 @@ fn told(searched: Searched, block: &mut [u8]) -> u64
 }
 
 // Which search a form runs.
-#[derive(Drop)]
+#[derive(Clone, Copy)]
 pub enum Search {
     Bits,
     Borders,

@@ -11,7 +11,7 @@ use text::compare::alike_suffix;
 
 // What a scan tells: the longest prefix of the pattern, short of the whole, that ends the letters read, and whether the whole
 // pattern lies in them.
-#[derive(Drop)]
+#[derive(Clone, Copy)]
 struct Scanned {
     longest: usize,
     whole: bool,

@@ -9,7 +9,7 @@ ghost use Rattle.search.specs.Either.{evens, odds};
 use crate::vectors::complements;
 
 // A word for the strand as given, and one for the opposite strand.
-#[derive(Drop)]
+#[derive(Clone, Copy)]
 pub struct Pair {
     pub given: u64,
     pub opposite: u64,
@@ -45,7 +45,7 @@ impl Pair {
 }
 
 // What one pass over a variant's letters finds on each strand, as a scan of one strand tells it.
-#[derive(Drop)]
+#[derive(Clone, Copy)]
 pub struct ScannedBoth {
     pub out: Pair,
     pub missed: Pair,

@@ -7,7 +7,7 @@ use std::num::{wrapping_add_usize, wrapping_sub_usize};
 use test_reference::places::{part, put, put_part, repeats, segment_at};
 
 // The place after what was put, and how many variants or segments there are.
-#[derive(Drop)]
+#[derive(Clone, Copy)]
 struct Made {
     at: usize,
     count: usize,

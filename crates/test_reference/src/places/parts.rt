@@ -79,7 +79,7 @@ pub fn variants_before(bytes: &[u8], segment: usize) -> usize {
 }
 
 // Where a variant stands: its segment, its number in it, and the place of its length.
-#[derive(Drop)]
+#[derive(Clone, Copy)]
 pub struct Place {
     pub segment: usize,
     pub variant: usize,

@@ -13,7 +13,7 @@ use text::compare::alike;
 use text::limits;
 
 // How the text stands: all of it fits so far, or it has a repeated variant of that number, or it is too long.
-#[derive(Drop)]
+#[derive(Clone, Copy)]
 pub enum Needed {
     Fits {
         bytes: usize,

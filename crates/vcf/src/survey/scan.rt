@@ -11,7 +11,7 @@ use crate::survey::needed::Needed;
 
 // How far the lines have come: the position after the last record, the first base of the window after the last record in it,
 // how many records are in it, and the text so far.
-#[derive(Drop)]
+#[derive(Clone, Copy)]
 pub struct Reached {
     pub from: usize,
     pub base: usize,
@@ -20,7 +20,7 @@ pub struct Reached {
 }
 
 // What a line makes of it.
-#[derive(Drop)]
+#[derive(Clone, Copy)]
 pub enum Onward {
     Passed(Reached),
     Wrong,
@@ -73,7 +73,7 @@ impl Reached {
 
 // What the whole text needs, from which place on the lines hold the records in the window, and how many these are; or the number of
 // the first wrong line.
-#[derive(Drop)]
+#[derive(Clone, Copy)]
 pub enum Gathered {
     Needs {
         needed: Needed,

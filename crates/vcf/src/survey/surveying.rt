@@ -11,7 +11,7 @@ use text::{Refusal, refusal};
 
 // How many bytes and segments the text has, from which place on the lines hold its records, and how many these are; or the refusal of
 // every write of it.
-#[derive(Drop)]
+#[derive(Clone, Copy)]
 pub enum Surveyed {
     Needs {
         bytes: usize,
