@@ -1,5 +1,7 @@
 // The calls that have no C form, for the bench: one number answers, so that they are measured in one program beside those that have one.
 // They make no promise of their own. A call that is too short to be measured by itself stands after one that is measured too.
+#![tactic(auto)]
+
 use card::{Asked, Card};
 use search::State;
 use stretch::{Checked, Written};

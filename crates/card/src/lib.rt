@@ -1,4 +1,6 @@
 // Cards: what a stretch does to a pattern, summed up so that an unchanged stretch is not read again.
+#![tactic(auto)]
+
 mod answers;
 mod cards;
 mod follow;

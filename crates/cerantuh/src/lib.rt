@@ -1,4 +1,6 @@
 // The C forms of the searches, the first hit and the feed, for the release tool. include/cerantuh.h is their C side.
+#![tactic(auto)]
+
 mod feeding;
 mod first;
 mod forms;

@@ -3,6 +3,8 @@
 // of the text's manifest, or `--files` and the files of stretches in order, for which nobody vouches. Each file is read once. The lines that
 // decide go to descriptor 3 as well, once all that stands before them is written: a program has no status, and who reads there need not
 // read what may be long.
+#![tactic(auto)]
+
 mod about;
 mod ending;
 mod faults;

@@ -2,6 +2,8 @@
 // by blanks; what stands after a `#` is a comment, and a line with nothing else is passed over. A line ends with a line feed, or a
 // carriage return and one; every other byte is printable ASCII or a tab. A list is read line by line, where it stands, since nothing
 // of it is copied.
+#![tactic(auto)]
+
 mod checking;
 mod classes;
 mod decimal;

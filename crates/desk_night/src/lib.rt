@@ -1,5 +1,7 @@
 // A night of the release desk: a list of withheld sequences, searched for in the stretches of a text one after another, and what comes
 // of it. Nothing is read or written here.
+#![tactic(auto)]
+
 mod ending;
 mod moving;
 mod night;

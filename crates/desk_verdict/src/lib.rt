@@ -1,5 +1,7 @@
 // What the release desk decides of a text that comes as stretches: where a withheld sequence stands after each of them, and in which
 // segments it ends.
+#![tactic(auto)]
+
 mod first;
 mod marked;
 pub mod said;

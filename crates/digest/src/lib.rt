@@ -1,4 +1,6 @@
 // BLAKE2b of RFC 7693 with a digest of 32 bytes and no key: what `b2sum -l 256` of coreutils prints in hex.
+#![tactic(auto)]
+
 mod compression;
 mod offset;
 mod rounds;

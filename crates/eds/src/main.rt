@@ -2,6 +2,8 @@
 // standard input is a text in braces, the first word a file's name and the second what the manifest calls its source: the stretches go into
 // files of that name and a number, and the manifest into the file of that name. What is printed then is how many stretches were written,
 // or what is wrong and its line and column.
+#![tactic(auto)]
+
 mod back;
 mod forth;
 mod messages;

@@ -1,5 +1,7 @@
 // Texts in braces, as the literature writes them: {CGA,G}{,T}GG. Reading them into what `stretch::write` takes, piece by piece and
 // cut between segments where a stretch is full; and the braces of a stretch.
+#![tactic(auto)]
+
 mod braced;
 mod cutting;
 mod filling;

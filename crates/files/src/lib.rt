@@ -1,5 +1,7 @@
 // Files as every program reads and writes them: whole, or the answer is that it was not so. A call that a signal interrupts is made
 // again; any other failure is a failure, also after bytes have been read or written.
+#![tactic(auto)]
+
 mod names;
 mod opening;
 mod reading;

@@ -1,5 +1,7 @@
 // Runs examples on the library's calls. Standard input has them, a line each: a call, what it is given, and after = or ! what it is to
 // answer. Prints how many there were of each group, the first that differs, and the counts.
+#![tactic(auto)]
+
 mod cards;
 mod lists;
 mod reads;

@@ -1,5 +1,7 @@
 // How a stretch is laid out in bytes: numbers, the questions that are asked of the bytes, the walks over a stretch and over a segment that
 // ask them, the test for repetition, how many bytes the parts of a text take, and counts and variants put into a buffer.
+#![tactic(auto)]
+
 mod count;
 pub mod cursor;
 pub mod number;

@@ -1,4 +1,6 @@
 // The lines that programs print, put into a buffer: bytes, numbers, lines of a word and a number, and the lines of a search's answer.
+#![tactic(auto)]
+
 mod answer;
 pub mod input;
 mod numbered;

@@ -1,6 +1,8 @@
 // A text's manifest: which files its stretches are, in order, and the digest of each. A manifest is lines, each ended by a line feed:
 // a first line that says what it is, comments, a line for each stretch, the counts of all of them, and the digest of all before it.
 // It is read line by line, where it stands, since nothing of it is copied.
+#![tactic(auto)]
+
 mod checking;
 mod classes;
 mod putting;

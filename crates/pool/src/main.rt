@@ -3,6 +3,8 @@
 // feed is taken. The stretches go to files of that name and a number, in order, and once all of them are written the manifest, which is
 // the text, to a file of that name. What cannot be built is said on standard error, with file, line and reason; then there is no file of
 // that name. Else four lines are printed.
+#![tactic(auto)]
+
 mod about;
 mod chromosome;
 mod contig;

@@ -2,6 +2,8 @@
 // word names the strands that are screened; without one it is the pattern as given. With the word `apart` after it the pattern alone is on
 // standard input, and the stretch on descriptor 7. What is printed is what `screen` has put into the buffer, and nothing for a word that
 // names no strands, or where not all could be read.
+#![tactic(auto)]
+
 ghost use Rattle.std.specs.Prelude.{◌≤◌, length};
 ghost use Rattle.io.specs.Counts.{IsPrefixLen};
 ghost use Rattle.lines.specs.Input.{most_read};

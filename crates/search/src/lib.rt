@@ -1,4 +1,6 @@
 // States, and the search of a pattern in a stretch by two methods.
+#![tactic(auto)]
+
 mod bits;
 mod borders;
 mod both;

@@ -1,4 +1,6 @@
 // A stretch: its check, its readers and its write.
+#![tactic(auto)]
+
 mod checking;
 mod places;
 mod reader;

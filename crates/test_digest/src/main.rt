@@ -1,6 +1,8 @@
 // Prints digests in hex, which tests/digest/run compares with those of another program: of the first n bytes of standard input, for each
 // n up to 300, and of all of it, up to 2,000,000 bytes. Each stands on two lines, as the call on a slice tells it and as a hash tells it
 // that takes the bytes in pieces.
+#![tactic(auto)]
+
 use digest::{Hashing, digest};
 use libc::{STDIN_FILENO, STDOUT_FILENO};
 

@@ -1,4 +1,6 @@
 // The cases on which calls are compared, all drawn from a number: a pattern for a text, on either strand, and the text, whole or damaged.
+#![tactic(auto)]
+
 pub mod damaged;
 pub mod drawn;
 mod numbered;

@@ -1,4 +1,6 @@
 // What programs that run examples count with: the answers of the library's calls in one form, and how many were compared.
+#![tactic(auto)]
+
 mod answers;
 mod calls;
 mod counts;

@@ -1,4 +1,6 @@
 // Letters, patterns, refusals, and tests on parts of slices: what every crate above this one cites.
+#![tactic(auto)]
+
 pub mod compare;
 pub mod from_end;
 pub mod letter;

@@ -1,4 +1,6 @@
 // The watch list: up to 32 withheld sequences with labels, looked for in one stretch.
+#![tactic(auto)]
+
 mod list;
 mod round;
 mod sight;

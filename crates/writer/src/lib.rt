@@ -1,4 +1,6 @@
 // The writer of a stretch: the letters, lengths and counts that it is given, checked and then put as bytes.
+#![tactic(auto)]
+
 mod bytes;
 mod sound;
 mod sums;

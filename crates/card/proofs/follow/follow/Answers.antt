@@ -1,0 +1,47 @@
+use borrow.Author.Rules.{rules}
+use Prim.Native.Nat.{◌<◌}
+use native.Mathlib.Omega.{arith}
+use mathlib.Core.Path.{◌∙◌}
+use mathlib.Core.Logic.{⊎_elim}
+use Rattle.card.proofs.Follows.{Following, following-none, following-inside, following-taken, following-passed, following-all}
+use Rattle.card.proofs.follow.follow.Goals as goal
+use Rattle.card.proofs.follow.follow.Goals.{In-loop-rest}
+
+-- a bit is left, so q is a row
+inside : (c : In-loop-rest) → c.loop-rest.q < 64
+inside c =
+    following-inside _ _ _ _ _ _ _ c.loop-rest.invariant c.ranges.state.fits c.loop-rest-test.true
+
+pub loop-rest-init : goal.loop-rest-init
+loop-rest-init c = following-none _ _ _
+
+pub offset_bounds-exits-q : goal.offset_bounds-exits-q
+offset_bounds-exits-q c = omega (arith, inside c.before)
+
+pub bounds-exits-q : goal.bounds-exits-q
+bounds-exits-q c =
+    omega (arith, inside c.before.before, c.requires)
+
+pub offset_bounds-firsts-q : goal.offset_bounds-firsts-q
+offset_bounds-firsts-q c = omega (arith, inside c.before.before)
+
+pub bounds-firsts-q : goal.bounds-firsts-q
+bounds-firsts-q c =
+    omega (arith, inside c.before.before.before, c.requires)
+
+pub overflow_add-q : goal.overflow_add-q
+overflow_add-q c = omega (arith, inside c.before)
+
+pub loop-rest-preserved : goal.loop-rest-preserved
+loop-rest-preserved c =
+    let h = c.loop-rest.invariant in
+    let l = inside c.before in
+    ⊎_elim
+    (λ w. following-taken _ _ _ _ _ _ _ h _ _ l w.0.taken w.4 (w.5 ∙ w.3.ensures))
+    (λ w. following-passed _ _ _ _ _ _ _ h _ _ l w.0.left w.1 w.2)
+    c.if-rest-eq1.branch
+
+pub returns : goal.returns
+returns c =
+    let known = c.shared_slice_known-1.given in
+    following-all _ _ _ _ _ _ _ c.loop-rest.invariant c.requires (λ p. omega (arith, known p)) c.loop-rest-test.false

@@ -1,0 +1,15 @@
+-- `card::follow::follow` meets its contract. The loop's invariant, `Following`: the bits below q are followed. The measure is what is
+-- left of the state.
+use borrow.Author.Rules.{rules}
+use Prim.Native.Nat.{◌<◌}
+use native.Mathlib.Omega.{arith}
+use mathlib.Core.Path.{◌∙◌}
+use mathlib.Core.Logic.{⊎_elim}
+use Rattle.card.proofs.Follows.{Following, following-none, following-inside, following-taken, following-passed, following-all}
+use Rattle.card.proofs.follow.follow.Given as goal
+
+abbrev pub invariant-loop-rest : goal.invariant-loop-rest
+invariant-loop-rest l = Following l.exits l.firsts l.state l.exit l.first l.rest l.q
+
+abbrev pub decreases-loop-rest : goal.decreases-loop-rest
+decreases-loop-rest l = l.rest

@@ -1,0 +1,15 @@
+-- `card::rows::carry::carry` meets its contract. The loop's invariant, `Carrying`: what the letters read so far make of every state within
+-- the union. The measure is the number of letters left.
+use Prim.Native.Nat.{◌-◌, ◌<◌}
+use borrow.Author.Rules.{rules}
+use native.Mathlib.Omega.{arith}
+use mathlib.Core.Path.{refl}
+use lib.ListN.{length, get_or}
+use Rattle.card.proofs.Carries.{Carrying, carrying-none, carrying-more, carrying-near, carrying-end, carrying-dead}
+use Rattle.card.proofs.rows.carry.carry.Given as goal
+
+abbrev pub invariant-loop-i : goal.invariant-loop-i
+invariant-loop-i l = Carrying l.pattern l.live l.variant l.i l.d l.finished
+
+abbrev pub decreases-loop-i : goal.decreases-loop-i
+decreases-loop-i l = length l.variant - l.i

@@ -1,0 +1,81 @@
+use Prim.Native.Nat.{◌-◌}
+use borrow.Author.Rules.{rules}
+use native.Mathlib.Omega.{arith}
+use mathlib.Core.Path.{◌≡◌, sym, subst, ◌∙◌}
+use lib.ListN.{length}
+use lib.Pow.{pow_mono}
+use Rattle.text.proofs.States.{low_ones}
+use Rattle.layout.proofs.Going.{open_is, passed_on}
+use Rattle.card.specs.Held.{rows_in, Full}
+use Rattle.card.specs.RowStep.{Covers}
+use Rattle.card.proofs.RowsHeld.{exits-in, even}
+use Rattle.card.proofs.RowWalks.{sound-opens, Rowing, rowing-none, rowing-readable, rowing_more, rowing-all, rowing-dead}
+use Rattle.card.proofs.rows.passes.rows_over.Goals as goal
+use Rattle.card.proofs.rows.passes.rows_over.Goals.{At-loop-walk}
+
+-- the lists keep their lengths
+even-states : (a : At-loop-walk)
+    → length a.loop-walk.exits ≡ length a.args.exits.now
+even-states a =
+    a.loop-walk.invariant.0.states ∙ sym a.requires.3.states
+
+even-ends : (a : At-loop-walk)
+    → length a.loop-walk.firsts ≡ length a.args.firsts.now
+even-ends a =
+    a.loop-walk.invariant.0.ends ∙ sym a.requires.3.ends
+
+pub overflow_sub-live : goal.overflow_sub-live
+overflow_sub-live c =
+    let b = c.requires.0 in
+    omega (arith, c.low-live.ensures, low_ones _ b.short, pow_mono b.some)
+
+pub returns-in_default : goal.returns-in_default
+returns-in_default c =
+    absurd (sound-opens _ _ c.requires.2 c.before.before.«open».ensures c.in_default.is)
+
+pub loop-walk-init : goal.loop-walk-init
+loop-walk-init c =
+    let p = c.requires in
+    let opening = open_is _ c.before.before.before.«open».ensures c.in-At.is in
+    (p.3, rowing-none _ _ _ _ p.0 p.2 p.4 _ c.low-live.ensures opening)
+
+pub shape_of-exits-then-live-eq0 : goal.shape_of-exits-then-live-eq0
+shape_of-exits-then-live-eq0 c = even-states c.before.before.before
+
+pub shape_of-firsts-then-live-eq0 : goal.shape_of-firsts-then-live-eq0
+shape_of-firsts-then-live-eq0 c = even-ends c.before.before.before
+
+pub returns-then-live-eq0 : goal.returns-then-live-eq0
+returns-then-live-eq0 c =
+    let p = c.requires in
+    (c.loop-walk.invariant.0, rowing-dead c.loop-walk.invariant.1 p.0.some c.if-live-eq0.true)
+
+pub overflow_cast-number : goal.overflow_cast-number
+overflow_cast-number c =
+    omega (arith, c.loop-walk-test.true, c.loop-walk.invariant.1.few)
+
+pub segment_rows-behind-requires : goal.segment_rows-behind-requires
+segment_rows-behind-requires c =
+    let p = c.requires in
+    let (full, q) = c.loop-walk.invariant in
+    let covers = subst (Covers _ _) (exits-in _ _ (even full)) q.covers in
+    (record { bases = p.0; vectors = p.1; lengths = q.lengths }, covers, full, rowing-readable q c.loop-walk-test.true)
+
+pub loop-walk-smaller : goal.loop-walk-smaller
+loop-walk-smaller c =
+    let on = passed_on _ _ _ (omega (arith, c.loop-walk-test.true, c.loop-walk.invariant.1.few)) c.past-walk.ensures in
+    omega (arith, on, c.loop-walk-test.true)
+
+pub loop-walk-preserved : goal.loop-walk-preserved
+loop-walk-preserved c =
+    let over = c.segment_rows-behind.ensures in
+    (over.0, rowing_more c.loop-walk.invariant.1 c.loop-walk-test.true _ _ _ over.1 _ c.past-walk.ensures)
+
+pub shape_of-exits : goal.shape_of-exits
+shape_of-exits c = even-states c.before.before
+
+pub shape_of-firsts : goal.shape_of-firsts
+shape_of-firsts c = even-ends c.before.before
+
+pub returns : goal.returns
+returns c = let i = c.loop-walk.invariant in (i.0, rowing-all i.1 c.loop-walk-test.false)

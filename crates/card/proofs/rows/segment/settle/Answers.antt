@@ -1,0 +1,16 @@
+use Prim.Native.Nat.{◌-◌}
+use borrow.Author.Rules.{rules}
+use native.Mathlib.Omega.{arith}
+use Rattle.card.specs.Held.{rows_in}
+use Rattle.card.proofs.RowSteps.{Settling, settling-none, settling-more, settling-end}
+use Rattle.card.proofs.rows.segment.settle.Goals as goal
+
+pub loop-q-init : goal.loop-q-init
+loop-q-init c = let p = c.requires in settling-none _ _ _ _ _ _ p.2
+
+pub loop-q-preserved : goal.loop-q-preserved
+loop-q-preserved c =
+    settling-more _ _ _ _ _ _ _ _ _ c.loop-q.invariant c.loop-q-test.true (omega arith) _ c.sooner.ensures
+
+pub returns : goal.returns
+returns c = let s = c.loop-q.invariant in (s.full, settling-end _ _ _ _ _ _ _ _ _ s c.loop-q-test.false)

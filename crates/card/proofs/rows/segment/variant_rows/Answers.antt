@@ -1,0 +1,19 @@
+-- `card::rows::segment::variant_rows` meets its contract: what `carry` tells of every state within the union, and what `spread` does with it.
+use borrow.Author.Rules.{rules}
+use Rattle.card.proofs.RowSteps.{passed-spread, passed_none, passed-short}
+use Rattle.card.proofs.rows.segment.variant_rows.Goals as goal
+
+pub spread-requires : goal.spread-requires
+spread-requires c =
+    let p = c.requires in
+    let few = passed-short _ _ _ _ c.args.next.now _ _ p.1 c.carry-moved.ensures c.if-moved-ne0.true in
+    (p.0.bases.short, few, p.2, p.3)
+
+pub returns-then-moved-ne0 : goal.returns-then-moved-ne0
+returns-then-moved-ne0 c =
+    passed-spread _ _ _ _ _ _ _ c.requires.1 c.carry-moved.ensures _ c.spread.ensures
+
+pub returns-else-moved-ne0 : goal.returns-else-moved-ne0
+returns-else-moved-ne0 c =
+    let p = c.requires in
+    passed_none _ _ _ _ _ _ _ p.1 c.carry-moved.ensures p.3 c.if-moved-ne0.false

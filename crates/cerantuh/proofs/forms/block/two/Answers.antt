@@ -1,0 +1,11 @@
+-- `cerantuh::forms::block::two` meets its contract: 10 where there is no room, else the two numbers one after another.
+use borrow.Author.Rules.{rules}
+use Rattle.cerantuh.proofs.Rooms.{two-short, two-room}
+use Rattle.cerantuh.proofs.forms.block.two.Goals as goal
+
+pub returns-then-block-lt-TWO_RESULTS : goal.returns-then-block-lt-TWO_RESULTS
+returns-then-block-lt-TWO_RESULTS c = two-short _ _ _ c.if-block-lt-TWO_RESULTS.true
+
+pub returns : goal.returns
+returns c =
+    two-room _ _ _ _ _ c.if-block-lt-TWO_RESULTS.false c.put.ensures c.put-2.ensures

@@ -1,0 +1,17 @@
+-- `cerantuh::forms::feeding::feed` meets its contract: what the feed refuses, or its two numbers.
+use Rattle.cerantuh.proofs.FeedForms.{fed-fits, form-not, form-met}
+use borrow.Author.Rules.{rules}
+use Rattle.cerantuh.proofs.forms.feeding.feed.Goals as goal
+
+pub code-requires : goal.code-requires
+code-requires c =
+    fed-fits _ _ _ _ c.args.block.now _ c.feed.ensures _ c.in-Refused.is
+
+pub returns-in-Refused : goal.returns-in-Refused
+returns-in-Refused c =
+    form-not _ _ _ _ _ _ c.feed.ensures _ c.in-Refused.is _ c.code.ensures
+
+pub returns-in-Next : goal.returns-in-Next
+returns-in-Next c =
+    form-met _ _ _ _ c.args.block.now _ c.feed.ensures _ _ _ _ c.in-Next.is
+    c.two.ensures

@@ -1,0 +1,18 @@
+-- `cerantuh::forms::from::told` meets its contract: a refusal's code, or the four numbers put one after another.
+use Rattle.cerantuh.proofs.FromForms.{told-not, told-fits, told-put}
+use borrow.Author.Rules.{rules}
+use Rattle.cerantuh.proofs.forms.from.told.Goals as goal
+
+pub code-requires : goal.code-requires
+code-requires c =
+    told-fits _ c.args.block.now _ c.in-Refused.is
+    c.requires.1
+
+pub returns-in-Refused : goal.returns-in-Refused
+returns-in-Refused c = told-not _ _ _ _ c.in-Refused.is c.code.ensures
+
+pub returns-in-Marked : goal.returns-in-Marked
+returns-in-Marked c =
+    told-put _ c.args.block.now _ _ _ _ _ _ _ _ c.in-Marked.is c.requires.0 c.put.ensures
+    c.put-in-Marked.ensures
+    c.put-in-Marked-2.ensures c.put-in-Marked-3.ensures

@@ -1,0 +1,41 @@
+-- `cerantuh::forms::searching::search_strand` meets its contract: without room nothing is written; else the search decides.
+use Prim.Native.Nat.{ℕ}
+use borrow.Author.Rules.{rules}
+use mathlib.Core.List.{List}
+use Rattle.text.specs.Strand.{on_strand}
+use Rattle.search.specs.Answers.{sums_of, marked}
+use Rattle.cerantuh.proofs.SearchForms.{form-short, form-room, searched-fits}
+use Rattle.cerantuh.proofs.forms.searching.search_strand.Goals as goal
+
+pub returns-then-block-lt-SEARCH_BLOCK : goal.returns-then-block-lt-SEARCH_BLOCK
+returns-then-block-lt-SEARCH_BLOCK c = form-short _ _ _ _ _ _ _ c.if-block-lt-SEARCH_BLOCK.true c.roomless.ensures
+
+pub told-requires : goal.told-requires
+told-requires c =
+    let Q : List ℕ = on_strand c.args.strand c.args.pattern.now in (
+      c.if-block-lt-SEARCH_BLOCK.false,
+      searched-fits (marked Q) (sums_of Q) c.args.pattern.now c.args.stretch.now c.args.marks.now
+          c.args.block.now c.by_bits-searched.result c.by_bits-searched.ensures.0,
+    )
+
+pub told-requires-in-Borders : goal.told-requires-in-Borders
+told-requires-in-Borders c =
+    let Q : List ℕ = on_strand c.args.strand c.args.pattern.now in (
+      c.if-block-lt-SEARCH_BLOCK.false,
+      searched-fits (marked Q) (sums_of Q) c.args.pattern.now c.args.stretch.now c.args.marks.now
+          c.args.block.now c.by_borders-searched.result c.by_borders-searched.ensures.0,
+    )
+
+pub returns-in-Bits : goal.returns-in-Bits
+returns-in-Bits c =
+    let Q : List ℕ = on_strand c.args.strand c.args.pattern.now in
+    form-room (marked Q) (sums_of Q) c.args.pattern.now c.args.stretch.now c.args.marks.now c.args.block.now c.by_bits-searched.result
+    c.by_bits-searched.ensures.0 _ _ _
+    c.if-block-lt-SEARCH_BLOCK.false c.by_bits-searched.ensures.1 c.told.ensures
+
+pub returns-in-Borders : goal.returns-in-Borders
+returns-in-Borders c =
+    let Q : List ℕ = on_strand c.args.strand c.args.pattern.now in
+    form-room (marked Q) (sums_of Q) c.args.pattern.now c.args.stretch.now c.args.marks.now c.args.block.now c.by_borders-searched.result
+    c.by_borders-searched.ensures.0 _ _ _
+    c.if-block-lt-SEARCH_BLOCK.false c.by_borders-searched.ensures.1 c.told-in-Borders.ensures

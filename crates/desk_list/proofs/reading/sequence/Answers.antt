@@ -1,0 +1,24 @@
+-- `desk_list::reading::sequence` meets its contract: the refusals of a pattern, what stands after it, or the sequence.
+use native.Mathlib.Omega.{arith}
+use borrow.Author.Tests.{not-true, not-false}
+use Rattle.desk_list.proofs.Entries.{sequence-not, sequence-more, sequence-is}
+use borrow.Author.Rules.{rules}
+use Rattle.desk_list.proofs.reading.sequence.Goals as goal
+
+pub returns-in-Refused : goal.returns-in-Refused
+returns-in-Refused c =
+    (sequence-not _ _ _ c.past-end.ensures.0 _ c.check.ensures _ c.in-Refused.is, tt)
+
+pub returns-then-not-ends_at : goal.returns-then-not-ends_at
+returns-then-not-ends_at c = (
+  sequence-more _ _ _ c.past-end.ensures.0 _ c.check.ensures c.in_default.is c.past-rest.ensures.0 c.ends_at.ensures
+      (not-true _ c.if-not-ends_at.true-raw),
+  tt,
+)
+
+pub returns : goal.returns
+returns c = (
+  sequence-is _ _ _ c.past-end.ensures.0 _ c.check.ensures c.in_default.is c.past-rest.ensures.0 c.ends_at.ensures
+      (not-false _ c.if-not-ends_at.false-raw),
+  (c.past-end.ensures.1.0, omega (arith, c.past-end.ensures.1.1, c.requires)),
+)

@@ -1,0 +1,14 @@
+-- `desk_night::ending::put_verdict` meets its contract: clear for one verdict only.
+use borrow.Author.Rules.{rules}
+use Rattle.desk_verdict.proofs.Saying.{put-fits}
+use Rattle.desk_night.proofs.Nights.{verdict-put}
+use Rattle.desk_night.proofs.ending.put_verdict.Goals as goal
+
+pub returns-in-Clear : goal.returns-in-Clear
+returns-in-Clear c = put-fits (verdict-put c.in-Clear.is c.put_bytes.ensures)
+
+pub returns-in-Held : goal.returns-in-Held
+returns-in-Held c = put-fits (verdict-put c.in-Held.is c.put_bytes-in-Held.ensures)
+
+pub returns-in-Faulty : goal.returns-in-Faulty
+returns-in-Faulty c = put-fits (verdict-put c.in-Faulty.is c.put_bytes-in-Faulty.ensures)

@@ -1,0 +1,7 @@
+-- `desk_night::night::Night::begin_files` meets its contract.
+use borrow.Author.Rules.{rules}
+use Rattle.desk_night.proofs.Nights.{begins-files}
+use Rattle.desk_night.proofs.night.Night.begin_files.Goals as goal
+
+pub returns : goal.returns
+returns c = begins-files _ _ c.begun_with.ensures

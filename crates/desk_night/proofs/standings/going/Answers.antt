@@ -1,0 +1,31 @@
+use Prim.Native.Nat.{◌-◌}
+use native.Mathlib.Omega.{arith}
+use mathlib.Core.Logic.{⊎_elim}
+use borrow.Author.Rules.{rules}
+use Rattle.desk_night.proofs.Asks.{Counting, counting-none, counting-on, counting-not, counting-all}
+use Rattle.desk_night.proofs.standings.going.Goals as goal
+
+pub loop-k-init : goal.loop-k-init
+loop-k-init c = counting-none _ _
+
+pub offset_bounds-standings-k : goal.offset_bounds-standings-k
+offset_bounds-standings-k c = let small = c.requires in search (rules, small)
+
+pub bounds-standings-k : goal.bounds-standings-k
+bounds-standings-k c = omega (arith, c.requires, c.loop-k-test.true)
+
+pub overflow_add-sum : goal.overflow_add-sum
+overflow_add-sum c =
+    let few = c.loop-k.invariant.few in
+    let near = c.loop-k.invariant.near in
+    let small = c.requires in
+    search (rules, few, near, small)
+
+pub loop-k-preserved : goal.loop-k-preserved
+loop-k-preserved c =
+    ⊎_elim (λ w. counting-on _ _ c.loop-k.invariant c.loop-k-test.true w.0.taken w.1)
+    (λ w. counting-not _ _ c.loop-k.invariant c.loop-k-test.true w.0.left w.1)
+    c.if-standing-eq0.branch
+
+pub returns : goal.returns
+returns c = counting-all _ _ c.loop-k.invariant c.loop-k-test.false

@@ -1,0 +1,13 @@
+-- `desk_verdict::marked::next_marked` meets its contract. The loop's invariant, `Passing`: no segment before j is marked. The measure
+-- is the number of marks left.
+use Prim.Native.Nat.{◌-◌}
+use lib.ListN.{length}
+use borrow.Author.Rules.{rules}
+use Rattle.desk_verdict.proofs.NextMarked.{Passing, passing-none, passing-more, passing-marked, passing-end}
+use Rattle.desk_verdict.proofs.marked.next_marked.Given as goal
+
+abbrev pub invariant-loop-j : goal.invariant-loop-j
+invariant-loop-j l = Passing l.marks l.from l.j
+
+abbrev pub decreases-loop-j : goal.decreases-loop-j
+decreases-loop-j l = length l.marks - l.j

@@ -1,0 +1,11 @@
+-- `desk_verdict::said::put::put_refused` meets its contract: the number, the place and the name, one after another.
+use Rattle.lines.proofs.Putting.{put-more}
+use Rattle.desk_verdict.specs.Said.{refused_line}
+use Rattle.desk_verdict.proofs.Saying.{put-fits}
+use borrow.Author.Rules.{rules}
+use Rattle.desk_verdict.proofs.said.put.put_refused.Goals as goal
+
+pub returns : goal.returns
+unfolding refused_line
+returns c =
+    put-fits (put-more (put-more c.put_counted-one.ensures c.put_counted-two.ensures) c.put_named.ensures)

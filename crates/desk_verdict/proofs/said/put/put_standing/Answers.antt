@@ -1,0 +1,14 @@
+-- `desk_verdict::said::put::put_standing` meets its contract, whether the sequence ends anywhere or not.
+use Rattle.lines.proofs.Putting.{put-more}
+use Rattle.desk_verdict.proofs.Saying.{put-fits, clear-put, held-put}
+use borrow.Author.Rules.{rules}
+use Rattle.desk_verdict.proofs.said.put.put_standing.Goals as goal
+
+pub returns-then-standing-eq0 : goal.returns-then-standing-eq0
+returns-then-standing-eq0 c =
+    put-fits (clear-put _ _ c.if-standing-eq0.true (put-more c.put_number-one.ensures c.put_bytes.ensures))
+
+pub returns : goal.returns
+returns c =
+    put-fits (held-put _ _ c.if-standing-eq0.false
+    (put-more (put-more (put-more c.put_number-one.ensures c.put_counted-two.ensures) c.put_counted-three.ensures) c.put_bytes-2.ensures))

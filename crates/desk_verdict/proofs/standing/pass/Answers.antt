@@ -1,0 +1,13 @@
+-- `desk_verdict::standing::pass` meets its contract: a refusal is that of the search, and else the sums are what it tells.
+use borrow.Author.Rules.{rules}
+use Rattle.desk_verdict.proofs.Standings.{passes-not, passes-to}
+use Rattle.desk_verdict.proofs.standing.pass.Goals as goal
+
+pub returns-in-Refused : goal.returns-in-Refused
+returns-in-Refused c =
+    passes-not _ _ _ _ _ _ _ c.through.ensures.0 c.through.ensures.1 _ c.in-Refused.is
+
+pub returns-in-Marked : goal.returns-in-Marked
+returns-in-Marked c =
+    let e = c.through.ensures in
+    passes-to _ _ _ _ _ _ _ e.0 e.1 _ _ _ _ c.in-Marked.is _ _ c.plus-all.ensures c.plus-marked.ensures

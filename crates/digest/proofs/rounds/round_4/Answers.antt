@@ -1,0 +1,19 @@
+-- `digest::rounds::round_4` meets its contract: eight times G, with the words of its row of SIGMA.
+use Rattle.digest.specs.Compression.{scheduled}
+use Rattle.digest.specs.Structs.{listed}
+use Rattle.digest.proofs.Round.{round-of}
+use Rattle.std.proofs.Common.{rules}
+use Rattle.digest.proofs.rounds.round_4.Goals as goal
+
+pub returns : goal.returns
+unfolding scheduled
+returns c =
+    round-of (scheduled (listed c.args.m) 4) c.args.v
+    c.g-v1.ensures
+    c.g-v2.ensures
+    c.g-v3.ensures
+    c.g-v4.ensures
+    c.g-v5.ensures
+    c.g-v6.ensures
+    c.g-v7.ensures
+    c.g.ensures

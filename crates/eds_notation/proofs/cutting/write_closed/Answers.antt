@@ -1,0 +1,52 @@
+-- `eds_notation::cutting::write_closed` meets its contract.
+use borrow.Author.Rules.{rules}
+use mathlib.Core.Path.{◌≡◌, sym, ◌∙◌}
+use mathlib.Core.Bool.{true}
+use borrow.Author.Tests.{not-true, not-false}
+use lib.ListN.{length}
+use lib.Seq.{length-take-le}
+use Rattle.eds_notation.specs.Cutting.{within}
+use Rattle.eds_notation.proofs.Cuts.{Within, within-is, letters-inside, lengths-inside, closed-few, closed-not, closed-done}
+use Rattle.eds_notation.proofs.cutting.write_closed.Goals as goal
+use Rattle.eds_notation.proofs.cutting.write_closed.Goals.{Else-not-is_within}
+
+-- the tape lies within its buffers
+lies :
+    (c : Else-not-is_within) →
+    within c.args.tape (length c.args.letters.now) (length c.args.lengths.now) ≡ true
+lies c = sym c.is_within.ensures ∙ not-false _ c.if-not-is_within.false-raw
+
+inside :
+    (c : Else-not-is_within) →
+    Within c.args.tape (length c.args.letters.now) (length c.args.lengths.now)
+inside c = within-is _ _ _ (lies c)
+
+pub returns-then-counts-segments : goal.returns-then-counts-segments
+returns-then-counts-segments c =
+    closed-few c.args.tape c.args.letters.now c.args.lengths.now c.args.counts.now c.args.out.now c.if-counts-segments.true
+
+pub returns-then-not-is_within : goal.returns-then-not-is_within
+returns-then-not-is_within c =
+    closed-not c.args.tape c.args.letters.now c.args.lengths.now c.args.counts.now c.args.out.now
+    (sym c.is_within.ensures ∙ not-true _ c.if-not-is_within.true-raw)
+
+pub overflow_sub-spelt : goal.overflow_sub-spelt
+overflow_sub-spelt c = (inside c.before.before).letters-open
+
+pub overflow_sub-variants : goal.overflow_sub-variants
+overflow_sub-variants c = (inside c.before.before.before.before).lengths-open
+
+pub slice_bounds-write-end : goal.slice_bounds-write-end
+slice_bounds-write-end c = sym (length-take-le _ _ (letters-inside (inside c.before.before.before.before)))
+
+pub slice_bounds-write-end-2 : goal.slice_bounds-write-end-2
+slice_bounds-write-end-2 c = sym (length-take-le _ _ (lengths-inside (inside c.before.before.before.before)))
+
+pub slice_bounds-write-end-3 : goal.slice_bounds-write-end-3
+slice_bounds-write-end-3 c = sym (length-take-le _ _ c.if-counts-segments.false)
+
+pub returns : goal.returns
+returns c =
+    let p = c.write.ensures in
+    closed-done c.args.tape c.args.letters.now c.args.lengths.now c.args.counts.now c.args.out.now
+    c.if-counts-segments.false (lies c.before.before.before.before.before.before.before.before) _ _ p.0 p.1

@@ -1,0 +1,8 @@
+-- `eds_notation::filling::finish` meets its contract.
+use borrow.Author.Rules.{rules}
+use Rattle.eds_notation.proofs.Fillings.{acted-as}
+use Rattle.eds_notation.proofs.filling.finish.Goals as goal
+
+pub returns : goal.returns
+returns c =
+    acted-as _ _ _ _ _ _ _ c.end.ensures c.put.ensures

@@ -1,0 +1,66 @@
+-- `eds_notation::filling::put_variant` meets its contract.
+use borrow.Author.Rules.{rules}
+use Prim.Native.Nat.{◌≤◌}
+use native.Mathlib.Omega.{arith}
+use mathlib.Core.Path.{◌≡◌, sym, ◌∙◌}
+use mathlib.Core.Bool.{true}
+use lib.ListN.{length}
+use borrow.Author.Tests.{not-true, not-false}
+use Rattle.eds_notation.specs.Filling.{fits}
+use Rattle.eds_notation.proofs.Fillings.{Fitting, fits-is, full-leaves, done-leaves, wrong-leaves}
+use Rattle.eds_notation.proofs.Fillings.{open-size, variant-far, variant-many, variant-full, variant-repeated, variant-done}
+use Rattle.eds_notation.proofs.filling.put_variant.Goals as goal
+use Rattle.eds_notation.proofs.filling.put_variant.Goals.{Else-not-fits}
+
+-- there is room in a stretch, so that the numbers of the tape are sound
+room :
+    (c : Else-not-fits) →
+    fits c.args.tape 0 c.args.another ≡ true
+room c = sym c.fits.ensures ∙ not-false _ c.if-not-fits.false-raw
+
+fitting :
+    (c : Else-not-fits) →
+    Fitting c.args.tape 0 c.args.another
+fitting c = fits-is _ _ _ (room c)
+
+-- the letters of the tape are there, and the lengths have room for one more
+there : (c : Else-not-fits) → c.args.tape.letters ≤ length c.args.letters.now
+there c = c.if-letters-end.false
+
+pub returns-then-letters-end : goal.returns-then-letters-end
+returns-then-letters-end c = (c.full.ensures ∙ variant-far _ _ _ _ _ c.if-letters-end.true, full-leaves _ _ c.full.ensures _ _)
+
+pub returns-then-lengths-at : goal.returns-then-lengths-at
+returns-then-lengths-at c = (c.full-then-lengths-at.ensures ∙ variant-many _ _ _ _ _ c.if-lengths-at.true, full-leaves _ _ c.full-then-lengths-at.ensures _ _)
+
+pub returns-then-not-fits : goal.returns-then-not-fits
+returns-then-not-fits c =
+    let none = sym c.fits.ensures ∙ not-true _ c.if-not-fits.true-raw in
+    (c.full-then-not-fits.ensures ∙ variant-full _ _ _ _ _ none, full-leaves _ _ c.full-then-not-fits.ensures _ _)
+
+pub overflow_sub-first : goal.overflow_sub-first
+overflow_sub-first c = (fitting c.before).lengths
+
+pub overflow_sub-from : goal.overflow_sub-from
+overflow_sub-from c = (fitting c.before.before).letters
+
+pub stands-requires : goal.stands-requires
+stands-requires c = open-size _ _ _ (fitting c.before.before.before.before) (there c.before.before.before.before)
+
+pub returns-then-stands : goal.returns-then-stands
+returns-then-stands c = (
+  variant-repeated _ _ _ _ _ (there c.before.before.before.before.before.before) c.if-lengths-at.false (room c.before.before.before.before.before.before) _ c.stands.ensures c.if-stands.true,
+  wrong-leaves _ _ _,
+)
+
+pub overflow_cast-lengths : goal.overflow_cast-lengths
+overflow_cast-lengths c =
+    let f = fitting c.before.before.before.before.before.before.before in
+    omega (arith, f.spelt, f.letters, f.bytes)
+
+pub returns : goal.returns
+returns c = (
+  variant-done _ _ _ _ _ (there c.before.before.before.before.before.before.before) c.if-lengths-at.false (room c.before.before.before.before.before.before.before) _ c.stands.ensures
+      c.if-stands.false,
+  done-leaves _ _ _,
+)

@@ -1,0 +1,26 @@
+-- `lines::answer::screened` meets its contract: what is put are the lines of what the search answers.
+use native.Mathlib.Omega.{arith}
+use lib.ListN.{length-take}
+use borrow.Author.Rules.{rules}
+use Rattle.lines.proofs.Answering.{answered-refused, answered-long, answered-marked, lines-put}
+use Rattle.lines.proofs.answer.screened.Goals as goal
+
+pub slice_bounds-marks-end : goal.slice_bounds-marks-end
+slice_bounds-marks-end c =
+    answered-long c.args.strands _ _ _ _ _ _ c.search_on.ensures.0
+    c.search_on.ensures.1 _ _ _ c.in-Marked.is
+
+pub slice_bounds-put_text-end : goal.slice_bounds-put_text-end
+slice_bounds-put_text-end c = simp length-take (omega (arith, array-share-prefix-marks c.before))
+
+pub returns-in-Refused : goal.returns-in-Refused
+returns-in-Refused c =
+    let S = c.args.strands in
+    let l = answered-refused S _ _ _ _ _ _ c.search_on.ensures.0 c.search_on.ensures.1 _ c.in-Refused.is in
+    lines-put S _ _ _ c.pattern_in-pattern.ensures c.stretch_in-stretch.ensures l c.put_refusal.ensures
+
+pub returns-in-Marked : goal.returns-in-Marked
+returns-in-Marked c =
+    let S = c.args.strands in
+    let l = answered-marked S _ _ _ _ _ _ c.search_on.ensures.0 c.search_on.ensures.1 _ _ _ c.in-Marked.is in
+    lines-put S _ _ _ c.pattern_in-pattern.ensures c.stretch_in-stretch.ensures l c.put_text.ensures

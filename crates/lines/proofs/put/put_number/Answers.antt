@@ -1,0 +1,8 @@
+-- `lines::put::put_number` meets its contract: what is spelt at the end of the local buffer is put.
+use borrow.Author.Rules.{rules}
+use Rattle.lines.proofs.Putting.{spelt}
+use Rattle.lines.proofs.put.put_number.Goals as goal
+
+pub returns : goal.returns
+returns c =
+    spelt _ c.spell-first.new.1.0 _ _ _ c.spell-first.result _ 20 c.spell-first.auto.1.0 c.spell-first.ensures.1 c.put_bytes.ensures

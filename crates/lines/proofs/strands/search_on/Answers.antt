@@ -1,0 +1,14 @@
+-- `lines::strands::search_on` meets its contract: it is that of the search that these strands ask for.
+use borrow.Author.Rules.{rules}
+use Rattle.lines.proofs.Screens.{known_on}
+use Rattle.lines.proofs.strands.search_on.Goals as goal
+
+pub returns-in-One : goal.returns-in-One
+returns-in-One c =
+    let e = c.by_bits.ensures in
+    known_on c.in-One.is _ _ _ _ _ c.by_bits.result e
+
+pub returns-in-Either : goal.returns-in-Either
+returns-in-Either c =
+    let e = c.either.ensures in
+    known_on c.in-Either.is _ _ _ _ _ c.either.result e

@@ -1,0 +1,34 @@
+use Prim.Native.Nat.{◌-◌}
+use native.Mathlib.Omega.{arith}
+use lib.ListN.{length}
+use Rattle.manifest.proofs.Finding.{Seeking, seeking-none, seeking-on, seeking-stretch, seeking-wrong, seeking-stop, seeking-end}
+use borrow.Author.Rules.{rules}
+use Rattle.manifest.proofs.reading.next_stretch.Goals as goal
+
+pub loop-from-init : goal.loop-from-init
+loop-from-init c = seeking-none _ _
+
+pub loop-from-smaller : goal.loop-from-smaller
+loop-from-smaller c =
+    let on = seeking-on c.loop-from.invariant c.loop-from-test.true c.line_at.ensures.0 c.in-Comment.is in
+    omega (arith, on.0, c.loop-from-test.true)
+
+pub loop-from-preserved : goal.loop-from-preserved
+loop-from-preserved c =
+    let on = seeking-on c.loop-from.invariant c.loop-from-test.true c.line_at.ensures.0 c.in-Comment.is in
+    on.1
+
+pub returns-in-Stretch : goal.returns-in-Stretch
+returns-in-Stretch c =
+    seeking-stretch c.loop-from.invariant c.loop-from-test.true c.line_at.ensures.0 c.in-Stretch.is
+
+pub returns-in-Wrong : goal.returns-in-Wrong
+returns-in-Wrong c =
+    seeking-wrong c.loop-from.invariant c.loop-from-test.true c.line_at.ensures.0 c.in-Wrong.is
+
+pub returns-in-End : goal.returns-in-End
+returns-in-End c =
+    seeking-stop c.loop-from.invariant c.loop-from-test.true c.line_at.ensures.0 c.in-End.is
+
+pub returns : goal.returns
+returns c = (seeking-end c.loop-from.invariant c.loop-from-test.false, tt)

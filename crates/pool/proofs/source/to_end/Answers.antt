@@ -1,0 +1,5 @@
+use Rattle.std.proofs.Common.{◌≡◌, length, refl, ◌∙◌, rules}
+use Rattle.pool.proofs.source.to_end.Goals as goal
+
+pub loop-turns-init : goal.loop-turns-init
+loop-turns-init c = refl

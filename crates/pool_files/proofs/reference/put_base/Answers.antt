@@ -1,0 +1,6 @@
+-- `pool_files::reference::put_base` meets its contract.
+use Rattle.std.proofs.Common.{rules}
+use Rattle.pool_files.proofs.reference.put_base.Goals as goal
+
+pub returns-in-Base : goal.returns-in-Base
+returns-in-Base c = (rw c.in-Base.is, rw c.in-Base.is)

@@ -1,0 +1,43 @@
+-- `pool_files::short::ShortLine::over` meets its contract, act by act.
+use Rattle.std.proofs.Common.{sym, ap, ◌∙◌, arith, rules}
+use Rattle.pool_files.specs.Short.{in_field, tabbed}
+use Rattle.pool_files.specs.declared.short.Act.TheVariants.{Skip, Keep, Name, Count, Comment}
+use Rattle.pool_files.proofs.Shorts.{next_small, over-line, over-buffer, next-line, next-buffer}
+use Rattle.pool_files.proofs.short.ShortLine.over.Goals as goal
+
+pub overflow_add-next : goal.overflow_add-next
+overflow_add-next c =
+    omega (arith, next_small _ _ _ (sym c.act_of.ensures ∙ c.in-Next.is))
+
+pub returns-in-Skip : goal.returns-in-Skip
+returns-in-Skip c =
+    let e = sym c.act_of.ensures ∙ c.in-Skip.is in
+    (over-line _ _ _ _ Skip e, over-buffer _ _ _ _ Skip e)
+
+pub returns-in-Keep : goal.returns-in-Keep
+returns-in-Keep c =
+    let e = sym c.act_of.ensures ∙ c.in-Keep.is in
+    (c.put.ensures.0 ∙ over-line _ _ _ _ Keep e, c.put.ensures.1 ∙ over-buffer _ _ _ _ Keep e)
+
+pub returns-in-Name : goal.returns-in-Name
+returns-in-Name c =
+    let e = sym c.act_of.ensures ∙ c.in-Name.is in
+    let s = c.args.self in
+    (ap (in_field s s.field) c.go_on.ensures ∙ over-line _ _ _ _ Name e, over-buffer _ _ _ _ Name e)
+
+pub returns-in-Next : goal.returns-in-Next
+returns-in-Next c =
+    let e = sym c.act_of.ensures ∙ c.in-Next.is in
+    let n = c.wrapping_add_usize.ensures in
+    (c.put-in-Next.ensures.0 ∙ next-line _ _ _ _ e n, c.put-in-Next.ensures.1 ∙ next-buffer _ _ _ _ e n)
+
+pub returns-in-Count : goal.returns-in-Count
+returns-in-Count c =
+    let e = sym c.act_of.ensures ∙ c.in-Count.is in
+    let s = c.args.self in
+    (ap (tabbed s) c.wrapping_add_usize-in-Count.ensures ∙ over-line _ _ _ _ Count e, over-buffer _ _ _ _ Count e)
+
+pub returns-in-Comment : goal.returns-in-Comment
+returns-in-Comment c =
+    let e = sym c.act_of.ensures ∙ c.in-Comment.is in
+    (over-line _ _ _ _ Comment e, over-buffer _ _ _ _ Comment e)

@@ -1,0 +1,31 @@
+use native.Mathlib.Omega.{arith}
+use borrow.Author.Rules.{rules}
+use Rattle.text.specs.Letter.{meant}
+use Rattle.search.proofs.BorderChains.{Chain, chain-none, chain-less, chain_more, chain-all}
+use Rattle.search.proofs.borders.begun.begun.Goals as goal
+
+pub overflow_shl-bits : goal.overflow_shl-bits
+overflow_shl-bits c = omega arith
+
+pub loop-k-init : goal.loop-k-init
+loop-k-init c = chain-none c.requires.0 c.looked_through-scanned.ensures
+
+pub offset_bounds-table-k : goal.offset_bounds-table-k
+offset_bounds-table-k c = omega arith
+
+pub bounds-table-k : goal.bounds-table-k
+bounds-table-k c = omega arith
+
+pub overflow_shl-bits-in-loop-k : goal.overflow_shl-bits-in-loop-k
+overflow_shl-bits-in-loop-k c = omega (arith, loop-less c)
+
+pub loop-k-smaller : goal.loop-k-smaller
+loop-k-smaller c =
+    omega (arith, chain-less c.requires.1.0 c.loop-k.invariant c.loop-k-test.true)
+
+pub loop-k-preserved : goal.loop-k-preserved
+loop-k-preserved c =
+    chain_more c.requires.1.0 c.loop-k.invariant c.loop-k-test.true c.requires.0
+
+pub returns : goal.returns
+returns c = chain-all c.looked_through-scanned.ensures c.loop-k.invariant c.loop-k-test.false

@@ -1,0 +1,28 @@
+use native.Mathlib.Omega.{arith}
+use borrow.Author.Rules.{rules}
+use lib.ListN.{length-take}
+use Rattle.text.specs.Letter.{meant}
+use Rattle.search.proofs.BorderEnds.{Ending, ending-none, ending-some, ending-more, ending-all}
+use Rattle.search.proofs.borders.begun.longest_end.Goals as goal
+
+pub loop-k-init : goal.loop-k-init
+loop-k-init c = ending-none c.args.variant.now c.requires.1
+
+pub slice_bounds-alike_suffix-end : goal.slice_bounds-alike_suffix-end
+slice_bounds-alike_suffix-end c =
+    simp length-take (omega (arith, c.loop-k.invariant.near))
+
+pub overflow_sub-k : goal.overflow_sub-k
+overflow_sub-k c =
+    ending-some c.requires.0 c.loop-k.invariant c.alike_suffix.ensures c.loop-k-test.true-raw
+
+pub loop-k-smaller : goal.loop-k-smaller
+loop-k-smaller c = omega (arith, sub-k c)
+
+pub loop-k-preserved : goal.loop-k-preserved
+loop-k-preserved c =
+    ending-more c.requires.0 c.loop-k.invariant c.alike_suffix.ensures c.loop-k-test.true-raw
+
+pub returns : goal.returns
+returns c =
+    ending-all c.requires.0 c.loop-k.invariant c.alike_suffix.ensures c.loop-k-test.false-raw

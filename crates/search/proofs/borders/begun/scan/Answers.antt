@@ -1,0 +1,46 @@
+use Prim.Native.Nat.{◌-◌}
+use native.Mathlib.Omega.{arith}
+use mathlib.Core.Logic.{⊎_elim}
+use lib.ListN.{length}
+use Rattle.text.specs.Letter.{meant}
+use Rattle.search.proofs.BorderLetters.{spelt-inside, spelt-next, spelt-read}
+use Rattle.search.proofs.BorderScans.{Scanning, scanning-none, scanning-matched, scanning-whole, scanning-part, scanning-all}
+use Rattle.search.proofs.borders.begun.scan.Goals as goal
+
+pub loop-i-init : goal.loop-i-init
+loop-i-init c = scanning-none c.requires.0
+
+pub bounds-variant-i : goal.bounds-variant-i
+bounds-variant-i c = omega arith
+
+pub fallback-longest-requires : goal.fallback-longest-requires
+fallback-longest-requires c =
+    scanning-matched c.requires.0 c.requires.1.0 c.loop-i.invariant
+
+pub offset_bounds-table-m : goal.offset_bounds-table-m
+offset_bounds-table-m c = omega arith
+
+pub bounds-table-m : goal.bounds-table-m
+bounds-table-m c = omega arith
+
+pub overflow_add-i : goal.overflow_add-i
+overflow_add-i c = omega arith
+
+pub loop-i-smaller : goal.loop-i-smaller
+loop-i-smaller c = omega arith
+
+pub loop-i-preserved : goal.loop-i-preserved
+loop-i-preserved c =
+    let (sized, (borders, good)) = c.requires in
+    let inv = c.loop-i.invariant in
+    let read = c.loop-i-test.true in
+    let v = c.args.variant.now in
+    let inside = spelt-inside v _ read in
+    let next = spelt-next v _ read good _ c.loop-i.longest _ c.fallback-longest.ensures in
+    ⊎_elim
+    (λ w. scanning-whole sized borders inv inside next w.0.taken w.2 w.3)
+    (λ w. scanning-part sized borders inv inside next w.0.left w.1 w.2)
+    c.if-longest-m.branch
+
+pub returns : goal.returns
+returns c = scanning-all c.loop-i.invariant (spelt-read c.args.variant.now _ c.loop-i-test.false)

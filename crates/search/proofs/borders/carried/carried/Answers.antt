@@ -1,0 +1,31 @@
+use native.Mathlib.Omega.{arith}
+use mathlib.Core.Logic.{⊎_elim}
+use Rattle.text.specs.Letter.{meant}
+use Rattle.search.proofs.BorderWalks.{Walk, walk_none, walk-near, walk-carried, walk-passed, walk-all}
+use Rattle.search.proofs.borders.carried.carried.Goals as goal
+
+pub loop-rest-init : goal.loop-rest-init
+loop-rest-init c = walk_none
+
+pub carried_one-one-requires : goal.carried_one-one-requires
+carried_one-one-requires c =
+    (c.requires.0, walk-near c.loop-rest.invariant c.requires.1 c.loop-rest-test.true)
+
+pub overflow_add-q : goal.overflow_add-q
+overflow_add-q c =
+    omega (arith, c.requires.0.short, walk-near c.loop-rest.invariant c.requires.1 c.loop-rest-test.true)
+
+pub loop-rest-smaller : goal.loop-rest-smaller
+loop-rest-smaller c = omega arith
+
+pub loop-rest-preserved : goal.loop-rest-preserved
+loop-rest-preserved c =
+    let walk = c.loop-rest.invariant in
+    ⊎_elim
+    (λ w. walk-carried walk w.0.taken w.1.ensures w.4 w.5)
+    (λ w. walk-passed walk w.0.left w.1 w.2)
+    c.if-rest-eq1.branch
+
+pub returns : goal.returns
+returns c =
+    walk-all c.loop-rest.invariant c.requires.1 c.loop-rest-test.false

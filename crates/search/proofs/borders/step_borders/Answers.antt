@@ -1,0 +1,14 @@
+-- `search::borders::step_borders` meets its contract: what the carried lengths tell, joined with what a fresh start tells, is the step.
+use borrow.Author.Rules.{rules}
+use Rattle.search.proofs.BorderSteps.{steps-begun}
+use Rattle.search.proofs.borders.step_borders.Goals as goal
+
+pub carried-sent-requires : goal.carried-sent-requires
+carried-sent-requires c = let (y, good) = c.requires in (y.sized, y.state.small)
+
+pub begun-fresh-requires : goal.begun-fresh-requires
+begun-fresh-requires c = let (y, good) = c.requires in (y.sized, (y.holds, good))
+
+pub returns : goal.returns
+returns c =
+    steps-begun c.requires.0.state.odd c.carried-sent.ensures c.begun-fresh.ensures

@@ -1,0 +1,32 @@
+use Prim.Native.Nat.{◌-◌}
+use native.Mathlib.Omega.{arith}
+use borrow.Author.Rules.{rules}
+use lib.ListN.{length}
+use Rattle.search.proofs.BorderTables.{Building, building-none, building-matched, building-more, building-all}
+use Rattle.search.proofs.borders.table.border_table.Goals as goal
+
+pub loop-i-init : goal.loop-i-init
+loop-i-init c = building-none c.requires
+
+pub fallback-k-requires : goal.fallback-k-requires
+fallback-k-requires c =
+    building-matched c.loop-i.invariant c.requires c.loop-i-test.true
+
+pub overflow_add-i : goal.overflow_add-i
+overflow_add-i c = omega arith
+
+pub offset_bounds-table-i : goal.offset_bounds-table-i
+offset_bounds-table-i c = omega arith
+
+pub bounds-table-i : goal.bounds-table-i
+bounds-table-i c = omega arith
+
+pub loop-i-smaller : goal.loop-i-smaller
+loop-i-smaller c = omega arith
+
+pub loop-i-preserved : goal.loop-i-preserved
+loop-i-preserved c =
+    building-more c.loop-i.invariant c.requires c.loop-i-test.true c.fallback-k.ensures
+
+pub returns : goal.returns
+returns c = building-all c.loop-i.invariant c.loop-i-test.false

@@ -1,0 +1,9 @@
+-- `search::either` meets its contract: a search from the fresh states is a search.
+use borrow.Author.Rules.{rules}
+use Rattle.search.proofs.Eithers.{both-fresh}
+use Rattle.search.proofs.both.either.Goals as goal
+
+pub returns : goal.returns
+returns c =
+    let e = c.through-sought.ensures in
+    both-fresh c.args.pattern.now c.args.stretch.now c.args.marks.now _ _ _ e c.summed_both.ensures

@@ -1,0 +1,62 @@
+-- `search::both::mark_both` meets its contract: what `Walk::open` tells, what `run_both` tells of the segments, and what `hand_both` makes
+-- of their marks. Both buffers have room for the marks of the stretches that take them.
+use borrow.Author.Rules.{rules}
+use native.Mathlib.Omega.{arith}
+use Prim.Native.Nat.{ℕ}
+use mathlib.Core.List.{[]}
+use Rattle.layout.proofs.Going.{Opening, open_is, open-not}
+use Rattle.search.specs.Either.{SeenBoth}
+use Rattle.search.proofs.Markings.{into-not, found-enough, into-handed}
+use Rattle.search.proofs.Eithers.{from-length, both-segments}
+use Rattle.search.proofs.both.mark_both.Goals as goal
+use Rattle.search.proofs.both.mark_both.Goals.{In-At-2}
+
+-- how many segments are told of
+abbrev segments : SeenBoth → ℕ
+segments x = x.segments
+
+-- the stretch was opened
+opening : (v : In-At-2)
+    → Opening v.args.stretch.now v.in-At.walk
+opening v = open_is _ v.before.before.«open».ensures v.in-At.is
+
+pub returns-in-Refused : goal.returns-in-Refused
+returns-in-Refused c = into-not _ _ _ _ _ _ (open-not _ c.before.before.before.«open».ensures c.in-Refused.is).1
+
+pub run_both-sought-requires : goal.run_both-sought-requires
+run_both-sought-requires c =
+    let p = c.requires in
+    let z = opening c.before.before.before.before.before in (
+      (record { founded = p.0.0; letters = c.classes-letters.ensures }, record { founded = p.0.1; letters = c.classes-letters.ensures }),
+      ((p.1.0, p.1.1), (z.begins, omega (arith, z.first, c.if-stretch-le-SMALL_STRETCH.true))),
+    )
+
+pub hand_both-requires : goal.hand_both-requires
+hand_both-requires c =
+    let e = c.run_both-sought.ensures in
+    found-enough _ _ [] segments (both-segments _ _ _) _ _ e.1 e.0 (from-length _ _ _)
+
+pub returns-then-stretch-le-SMALL_STRETCH : goal.returns-then-stretch-le-SMALL_STRETCH
+returns-then-stretch-le-SMALL_STRETCH c =
+    let e = c.run_both-sought.ensures in
+    into-handed _ _ c.args.marks.now segments (both-segments _ _ _) _ _
+    e.1 e.0 (opening c.before.before.before.before.before.before.before.before.before.before.before.before).whole _ _ c.hand_both.ensures
+
+pub run_both-sought-requires-2 : goal.run_both-sought-requires-2
+run_both-sought-requires-2 c =
+    let p = c.requires in
+    let z = opening c.before.before.before.before.before in (
+      (record { founded = p.0.0; letters = c.classes-letters.ensures }, record { founded = p.0.1; letters = c.classes-letters.ensures }),
+      ((p.1.0, p.1.1), (z.begins, omega (arith, p.1.2, z.states, z.first))),
+    )
+
+pub hand_both-requires-2 : goal.hand_both-requires-2
+hand_both-requires-2 c =
+    let e = c.run_both-sought-2.ensures in
+    found-enough _ _ [] segments (both-segments _ _ _) _ _ e.1 e.0 (from-length _ _ _)
+
+pub returns : goal.returns
+returns c =
+    let e = c.run_both-sought-2.ensures in
+    into-handed _ _ c.args.marks.now segments (both-segments _ _ _) _ _
+    e.1 e.0 (opening c.before.before.before.before.before.before.before.before.before.before.before.before).whole _ _ c.hand_both-2.ensures

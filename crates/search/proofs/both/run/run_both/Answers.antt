@@ -1,0 +1,81 @@
+use Prim.Native.Nat.{◌-◌, ◌^◌, ◌<◌}
+use borrow.Author.Rules.{rules}
+use native.Mathlib.Omega.{arith}
+use mathlib.Core.Bool.{◌||◌}
+use mathlib.Core.Path.{◌≡◌, refl, ◌∙◌}
+use lib.ListN.{length, length-set}
+use Rattle.layout.proofs.Going.{going_less}
+use Rattle.search.proofs.Searches.{byte-mark}
+use Rattle.search.proofs.Eithers.{passed-not, passed-own, passed-turned}
+use Rattle.search.proofs.Eithers.{Uniting, uniting-none, uniting-own, uniting-turned, uniting-room, uniting-more, uniting-refused}
+use Rattle.search.proofs.Eithers.{uniting-left, uniting-sound}
+use Rattle.search.proofs.both.run.run_both.Goals as goal
+use Rattle.search.proofs.both.run.run_both.Goals.{After-slice_known-1, In-loop-walked}
+
+-- the stretch is no longer than a number can say
+narrow : (c : After-slice_known-1) → length c.args.stretch.now < 2 ^ 64
+narrow c = omega arith
+
+-- a segment is left
+ahead : (c : In-loop-walked)
+    → c.loop-walked.walked.passed < c.args.walk.count
+ahead c = omega (arith, c.loop-walked-test.true, c.loop-walked.invariant.0.walk.go.count)
+
+pub loop-walked-init : goal.loop-walked-init
+loop-walked-init c = (uniting-none _ _ _ _ _ _ c.requires.1.1.0, refl)
+
+pub over-requires : goal.over-requires
+over-requires c =
+    let p = c.requires in
+    let q = c.loop-walked.invariant.0 in (
+      (p.0.0, uniting-own q p.0.0.founded.some p.1.0.0),
+      (p.0.1, uniting-turned q p.0.1.founded.some p.1.0.1),
+    )
+
+pub shape_of-marks-in-Refused : goal.shape_of-marks-in-Refused
+shape_of-marks-in-Refused c = c.loop-walked.invariant.1
+
+pub returns-in-Refused : goal.returns-in-Refused
+returns-in-Refused c =
+    let wrong = passed-not c.over.ensures.0 c.over.ensures.1 c.in-Refused.is in
+    uniting-refused c.loop-walked.invariant.0 (ahead c.before.before.before.before) _ _ wrong
+
+pub bounds-marks-k : goal.bounds-marks-k
+bounds-marks-k c =
+    let own = passed-own c.over.ensures.0 c.over.ensures.1 c.in-To.is in
+    let turned = passed-turned c.over.ensures.0 c.over.ensures.1 c.in-To.is in
+    let room = c.requires.1.1.1 in
+    uniting-room c.loop-walked.invariant.0 own turned (ahead c.before.before.before.before) (omega (arith, room, c.loop-walked.invariant.1))
+
+pub overflow_add-ends : goal.overflow_add-ends
+overflow_add-ends c = let m = (loop-again c).0.walk in omega (arith, m.few)
+
+pub loop-walked-smaller : goal.loop-walked-smaller
+loop-walked-smaller c =
+    going_less c.loop-walked.invariant.0.walk.go (ahead c.before.before.before.before.before) (narrow c.before.before.before.before.before.before.before.before) _ _ c.past-walked.ensures
+
+pub loop-walked-preserved : goal.loop-walked-preserved
+loop-walked-preserved c =
+    let r = c.next-1.given in
+    let own = passed-own c.over.ensures.0 c.over.ensures.1 r.1 in
+    let turned = passed-turned c.over.ensures.0 c.over.ensures.1 r.1 in
+    let mark = byte-mark (r.0.1.1.1.0 || r.0.1.1.1.1.0) in (
+      uniting-more c.loop-walked.invariant.0 own turned (ahead c.before.before.before.before.before) _ mark (slice-write-marks c.before) (narrow c.before.before.before.before.before.before.before.before) c.past-walked.ensures,
+      length-set c.loop-walked.marks c.loop-walked.walked.passed _ ∙ c.loop-walked.invariant.1,
+    )
+
+pub shape_of-marks-in-Refused-end : goal.shape_of-marks-in-Refused-end
+shape_of-marks-in-Refused-end c = c.loop-walked.invariant.1
+
+pub returns-in-Refused-end : goal.returns-in-Refused-end
+returns-in-Refused-end c =
+    let q = c.loop-walked.invariant.0 in
+    uniting-left q (omega (arith, q.walk.go.count)) c.end.ensures c.in-Refused-end.is
+
+pub shape_of-marks-in-Sound : goal.shape_of-marks-in-Sound
+shape_of-marks-in-Sound c = c.loop-walked.invariant.1
+
+pub returns-in-Sound : goal.returns-in-Sound
+returns-in-Sound c =
+    let q = c.loop-walked.invariant.0 in
+    uniting-sound q (omega (arith, q.walk.go.count)) c.end.ensures c.in-Sound.is

@@ -1,0 +1,94 @@
+use borrow.Author.Rules.{rules}
+use Prim.Native.Nat.{ℕ, ◌-◌, ◌*◌, ◌%◌, ◌^◌, ◌<◌}
+use native.Mathlib.Omega.{arith}
+use mathlib.Core.Path.{◌≡◌, refl, sym, ap, ◌∙◌}
+use mathlib.Core.Logic.{⊎_elim}
+use lib.ListN.{length}
+use Rattle.text.specs.Strand.{opposite}
+use Rattle.text.proofs.Strands.{opposite-length}
+use Rattle.layout.specs.Pieces.{told_part}
+use Rattle.layout.proofs.Heads.{Whole, head-is}
+use Rattle.layout.proofs.Walking.{walk-not, walk_none, walk-cut, walk-misspelt, walk-again}
+use Rattle.layout.proofs.Walking.{walk-new, walk-unsuspected, walk-past, walk-less}
+use Rattle.search.proofs.Pairs.{ready, sweeping-on}
+use Rattle.search.proofs.Passes.{segment-passed-not, segment-passed}
+use Rattle.search.proofs.Words.{Sweeping, swept-by, sweeping-none, sweeping-taken}
+use Rattle.search.proofs.both.words.Pair.over.Goals as goal
+use Rattle.search.proofs.both.words.Pair.over.Goals.{After-enter, In-At-head-2}
+
+-- the stretch is no longer than a number can say
+narrow : (c : After-enter) → length c.args.stretch.now < 2 ^ 64
+narrow c = omega arith
+
+-- where the letters stand
+here : (c : In-At-head-2)
+    → Whole c.args.stretch.now c.loop-cursor.cursor.at c.in-At-head.start
+    c.in-At-head.next
+here c = head-is _ _ _ _ (sym c.head.ensures ∙ ap told_part c.in-At-head.is)
+
+pub returns-in-Refused : goal.returns-in-Refused
+returns-in-Refused c =
+    let none = walk-not _ _ c.enter.ensures c.in-Refused.is in
+    (sym (segment-passed-not _ _ _ _ _ _ none), sym (segment-passed-not _ _ _ _ _ _ none))
+
+pub loop-cursor-init : goal.loop-cursor-init
+loop-cursor-init c =
+    let few : c.in-At.cursor.count < 2 ^ 64 = omega arith in
+    let p = c.requires in
+    let w = walk_none _ _ c.enter.ensures c.in-At.is few in
+    (sweeping-none p.0.0.founded.some p.0.1.odd w, sweeping-none p.1.0.founded.some p.1.1.odd w)
+
+pub returns-in-Refused-head : goal.returns-in-Refused-head
+returns-in-Refused-head c =
+    let none = walk-cut c.loop-cursor.invariant.0.walk c.loop-cursor-test.true c.head.ensures c.in-Refused-head.is in
+    (sym (segment-passed-not _ _ _ _ _ _ none), sym (segment-passed-not _ _ _ _ _ _ none))
+
+pub slice_bounds-letters-count : goal.slice_bounds-letters-count
+slice_bounds-letters-count c = let w = here c.before in omega (arith, w.starts, w.ends)
+
+pub slice_bounds-letters-start : goal.slice_bounds-letters-start
+slice_bounds-letters-start c = let w = here c.before in omega (arith, w.starts, w.ends)
+
+pub slice_bounds-letters-end : goal.slice_bounds-letters-end
+slice_bounds-letters-end c = let w = here c.before in omega (arith, w.ends, w.inside)
+
+pub returns-then-scanned : goal.returns-then-scanned
+returns-then-scanned c =
+    let spelt = (c.scan_both-scanned.ensures.0 _ (ready _ _ _ _ c.requires.0)).1 in
+    let none = walk-misspelt c.loop-cursor.invariant.0.walk c.loop-cursor-test.true (here c.before.before.before.before.before) spelt c.if-scanned.true c.misspelt.ensures in
+    (sym (segment-passed-not _ _ _ _ _ _ none), sym (segment-passed-not _ _ _ _ _ _ none))
+
+pub returns-in-Refused-compared : goal.returns-in-Refused-compared
+returns-in-Refused-compared c =
+    let spelt = (c.scan_both-scanned.ensures.0 _ (ready _ _ _ _ c.requires.0)).1 in
+    let none = walk-again c.loop-cursor.invariant.0.walk c.loop-cursor-test.true (here c.before.before.before.before.before.before.before.before.before.before) spelt c.if-scanned.false c.compared.ensures
+    c.in-Refused-compared.is in
+    (sym (segment-passed-not _ _ _ _ _ _ none), sym (segment-passed-not _ _ _ _ _ _ none))
+
+pub loop-cursor-smaller : goal.loop-cursor-smaller
+loop-cursor-smaller c =
+    walk-less c.loop-cursor.invariant.0.walk c.loop-cursor-test.true _ _ c.past-cursor.ensures
+
+pub loop-cursor-preserved : goal.loop-cursor-preserved
+loop-cursor-preserved c =
+    let q = c.loop-cursor.invariant in
+    let x = c.scan_both-scanned.ensures.0 _ (ready _ _ _ _ c.requires.0) in
+    let y = c.scan_both-scanned.ensures.1 _ (ready _ _ _ _ c.requires.1) in
+    let fits = narrow c.before.before.before.before.before.before.before.before.before.before.before.before.before.before.before.before.before.before.before in
+    let new = ⊎_elim (λ n. walk-new q.0.walk c.loop-cursor-test.true (here c.before.before.before.before.before.before.before.before.before.before) x.1 n.1.ensures n.3.given.1)
+    (λ n. walk-unsuspected q.0.walk c.loop-cursor-test.true (here c.before.before.before.before.before.before.before.before.before.before) x.1 (sym c.suspects.ensures ∙ n.left)) c.if-suspects.branch in
+    let and = c.and-words.ensures in (
+      sweeping-on q.0 (walk-past q.0.walk c.loop-cursor-test.true (here c.before.before.before.before.before.before.before.before.before.before) x.1 fits c.if-scanned.false new refl c.past-cursor.ensures)
+          (swept-by _ _ (here c.before.before.before.before.before.before.before.before.before.before) x.0) and.0,
+      sweeping-on q.1 (walk-past q.1.walk c.loop-cursor-test.true (here c.before.before.before.before.before.before.before.before.before.before) y.1 fits c.if-scanned.false new refl c.past-cursor.ensures)
+          (swept-by _ _ (here c.before.before.before.before.before.before.before.before.before.before) y.0) and.1,
+    )
+
+pub returns : goal.returns
+returns c =
+    let p = c.requires in
+    let none : c.loop-cursor.cursor.left ≡ 0 = omega arith in
+    let high = ap (λ (m : ℕ). 0xffff_ffff_ffff_ffff * 2 ^ (m - 1) % 2 ^ 64) (sym (opposite-length c.args.pattern.now)) in (
+      sym (segment-passed (sweeping-taken c.loop-cursor.invariant.0 p.0.0.founded.some p.0.0.founded.short _ refl) none),
+      sym (segment-passed (sweeping-taken c.loop-cursor.invariant.1 p.1.0.founded.some p.1.0.founded.short _ high) none),
+    )

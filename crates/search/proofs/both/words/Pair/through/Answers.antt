@@ -1,0 +1,52 @@
+-- `search::Pair::through` meets its contract: what `enter_both` asks first, then `mark_both` with the letter vectors of the pattern as
+-- given and as the opposite strand reads it.
+use borrow.Author.Rules.{rules}
+use native.Mathlib.Omega.{arith}
+use mathlib.Core.Path.{sym, ap, ◌∙◌}
+use Rattle.text.specs.Refusal.{told_verdict}
+use Rattle.text.specs.declared.strand.Strand.TheVariants.{Opposite}
+use Rattle.text.proofs.Strands.{strand-sound}
+use Rattle.search.proofs.BitScans.{masks-short}
+use Rattle.search.proofs.Entries.{state-of}
+use Rattle.search.proofs.ReadOns.{read_is, read_length, read-room, read-state}
+use Rattle.search.proofs.Eithers.{EnteredBoth, both-entered, both-seek-not, both-seek-sound}
+use Rattle.search.proofs.both.words.Pair.through.Goals as goal
+use Rattle.search.proofs.both.words.Pair.through.Goals.{In-Sound}
+
+-- nothing is wrong before the stretch is read
+entry : (c : In-Sound)
+    → EnteredBoth c.args.pattern.now c.args.self.given c.args.self.opposite c.args.stretch.now
+entry c = both-entered _ _ _ _ (sym c.enter_both.ensures ∙ ap told_verdict c.in-Sound.is)
+
+pub slice_bounds-bytes-end : goal.slice_bounds-bytes-end
+slice_bounds-bytes-end c = read-room Opposite _ _ c.read_on-bytes.ensures (entry c.before).own.sound
+
+pub slice_bounds-masks_both-end : goal.slice_bounds-masks_both-end
+slice_bounds-masks_both-end c = read_length Opposite _ _ c.read_on-bytes.ensures (entry c.before.before).own.sound
+
+pub mark_both-requires : goal.mark_both-requires
+mark_both-requires c =
+    let e = entry c.before.before.before.before.before in
+    let y = e.own.sound in
+    let z = strand-sound Opposite _ y in
+    let read = read_is Opposite _ _ c.read_on-bytes.ensures y in (
+      (
+        record { some = y.some; short = y.short; bases = y.bases; holds = masks-short _ _ y.short c.masks_both-table.ensures.0 },
+        record {
+          some = z.some;
+          short = z.short;
+          bases = z.bases;
+          holds = masks-short _ _ z.short (rw read at c.masks_both-table.ensures.1);
+        },
+      ),
+      (state-of _ _ e.own.state, rw read at (read-state Opposite _ _ c.read_on-bytes.ensures y _ e.turned), omega (arith, e.own.short)),
+    )
+
+pub returns-in-Refused : goal.returns-in-Refused
+returns-in-Refused c =
+    let wrong = sym c.enter_both.ensures ∙ ap told_verdict c.in-Refused.is in
+    both-seek-not _ _ _ _ _ _ _ wrong
+
+pub returns-in-Sound : goal.returns-in-Sound
+returns-in-Sound c =
+    both-seek-sound _ _ _ _ c.args.marks.now (entry c.before.before.before.before.before.before.before.before) _ _ c.mark_both.ensures

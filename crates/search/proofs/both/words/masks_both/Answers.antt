@@ -1,0 +1,15 @@
+use Prim.Native.Nat.{◌-◌}
+use borrow.Author.Rules.{rules}
+use mathlib.Core.Path.{refl}
+use Rattle.search.proofs.Pairs.{Laid, laid_none, laid_more, laid-all}
+use Rattle.search.proofs.both.words.masks_both.Goals as goal
+
+pub loop-c-init : goal.loop-c-init
+loop-c-init c = laid_none _ _
+
+pub loop-c-preserved : goal.loop-c-preserved
+loop-c-preserved c = laid_more _ _ _ _ _ _ c.loop-c.invariant c.loop-c-test.true refl refl
+
+pub returns : goal.returns
+returns c =
+    laid-all _ _ _ _ _ _ c.loop-c.invariant c.loop-c-test.false c.complements-evens.ensures c.complements-odds.ensures

@@ -1,0 +1,64 @@
+-- `search::marking::mark` meets its contract: what `Walk::open` tells, what `run` tells of the segments, and what `hand` makes of their
+-- marks. Both buffers have room for the marks of the stretches that take them.
+use borrow.Author.Rules.{rules}
+use native.Mathlib.Omega.{arith}
+use Prim.Native.Nat.{ℕ}
+use mathlib.Core.Path.{refl}
+use mathlib.Core.List.{[]}
+use Rattle.text.proofs.Marks.{marks-length}
+use Rattle.layout.proofs.Going.{Opening, open_is, open-not}
+use Rattle.search.specs.Answers.{Seen}
+use Rattle.search.proofs.Markings.{into-not, found-enough, into-handed}
+use Rattle.search.proofs.Searches.{seen-segments}
+use Rattle.search.proofs.marking.mark.Goals as goal
+use Rattle.search.proofs.marking.mark.Goals.{In-At-2}
+
+-- how many segments are told of
+abbrev segments : Seen → ℕ
+segments x = x.segments
+
+-- the stretch was opened
+opening : (v : In-At-2)
+    → Opening v.args.stretch.now v.in-At.walk
+opening v = open_is _ v.before.before.«open».ensures v.in-At.is
+
+pub returns-in-Refused : goal.returns-in-Refused
+returns-in-Refused c = into-not _ _ _ _ _ _ (open-not _ c.before.before.before.«open».ensures c.in-Refused.is).1
+
+pub run-sought-requires : goal.run-sought-requires
+run-sought-requires c =
+    let p = c.requires in
+    let z = opening c.before.before.before.before.before in (
+      (record { founded = p.0; letters = c.classes-letters.ensures }, p.1),
+      ((z.begins, omega (arith, p.2, z.states, z.first)), λ _. omega (arith, z.first, c.if-stretch-le-SMALL_STRETCH.true)),
+    )
+
+pub hand-requires : goal.hand-requires
+hand-requires c =
+    let e = c.run-sought.ensures.1 in
+    found-enough _ _ [] segments (seen-segments _ _) _ _ (e.1 refl) (e.0 refl) (marks-length _ _)
+
+pub returns-then-stretch-le-SMALL_STRETCH : goal.returns-then-stretch-le-SMALL_STRETCH
+returns-then-stretch-le-SMALL_STRETCH c =
+    let e = c.run-sought.ensures.1 in
+    into-handed _ _ c.args.marks.now segments (seen-segments _ _) _ _
+    (e.1 refl) (e.0 refl) (opening c.before.before.before.before.before.before.before.before.before.before.before.before).whole _ _ c.hand.ensures
+
+pub run-sought-requires-2 : goal.run-sought-requires-2
+run-sought-requires-2 c =
+    let p = c.requires in
+    let z = opening c.before.before.before.before.before in (
+      (record { founded = p.0; letters = c.classes-letters.ensures }, p.1),
+      ((z.begins, omega (arith, p.2, z.states, z.first)), λ _. omega (arith, p.2, z.states, z.first)),
+    )
+
+pub hand-requires-2 : goal.hand-requires-2
+hand-requires-2 c =
+    let e = c.run-sought-2.ensures.1 in
+    found-enough _ _ [] segments (seen-segments _ _) _ _ (e.1 refl) (e.0 refl) (marks-length _ _)
+
+pub returns : goal.returns
+returns c =
+    let e = c.run-sought-2.ensures.1 in
+    into-handed _ _ c.args.marks.now segments (seen-segments _ _) _ _
+    (e.1 refl) (e.0 refl) (opening c.before.before.before.before.before.before.before.before.before.before.before.before).whole _ _ c.hand-2.ensures

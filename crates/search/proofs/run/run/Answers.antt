@@ -1,0 +1,99 @@
+use Prim.Native.Nat.{◌-◌, ◌^◌, ◌<◌}
+use borrow.Author.Rules.{rules}
+use native.Mathlib.Omega.{arith}
+use mathlib.Core.Path.{◌≡◌, refl, sym, ap, ◌∙◌}
+use lib.ListN.{length}
+use Rattle.layout.proofs.Going.{going_less}
+use Rattle.search.specs.Step.{told_passed}
+use Rattle.search.proofs.Searches.{Searching, searching-none, searching-state, searching-room, searching-more, searching-stopped}
+use Rattle.search.proofs.Searches.{searching-walk, searching-length, byte-mark}
+use Rattle.search.proofs.Hits.{says-refused, says-left, says-sound, says-stopped}
+use Rattle.search.proofs.run.run.Goals as goal
+use Rattle.search.proofs.run.run.Goals.{After-slice_known-1, In-loop-walked}
+
+-- the stretch is no longer than a number can say
+narrow : (c : After-slice_known-1) → length c.args.stretch.now < 2 ^ 64
+narrow c = omega arith
+
+-- a segment is left
+ahead : (c : In-loop-walked)
+    → c.loop-walked.walked.passed < c.args.walk.count
+ahead c = omega (arith, c.loop-walked-test.true, c.loop-walked.invariant.0.walk.go.count)
+
+pub loop-walked-init : goal.loop-walked-init
+loop-walked-init c = (searching-none _ _ _ _ _ _ c.requires.1.0.0, refl)
+
+pub over-requires : goal.over-requires
+over-requires c =
+    let p = c.requires.0 in
+    (p.0, searching-state c.loop-walked.invariant.0 p.0.founded.some p.1)
+
+pub shape_of-marks-in-Refused : goal.shape_of-marks-in-Refused
+shape_of-marks-in-Refused c = c.loop-walked.invariant.1
+
+pub returns-in-Refused : goal.returns-in-Refused
+returns-in-Refused c =
+    let wrong = sym c.over.ensures ∙ ap told_passed c.in-Refused.is in
+    says-refused c.loop-walked.invariant.0 c.requires.1.0.1 (ahead c.before.before.before.before) _ wrong
+
+pub keep-requires : goal.keep-requires
+keep-requires c =
+    let on = sym c.over.ensures ∙ ap told_passed c.in-To.is in
+    let room = c.requires.1.1 kept in
+    searching-room c.loop-walked.invariant.0 on (ahead c.before.before.before.before.before) (omega (arith, room, c.loop-walked.invariant.1))
+
+pub overflow_add-ends : goal.overflow_add-ends
+overflow_add-ends c =
+    let on = sym c.over.ensures ∙ ap told_passed c.in-To.is in
+    let w = searching-walk c.loop-walked.invariant.0 on (ahead c.before.before.before.before.before.before.before.before.before) _ (byte-mark c.in-To.hit)
+    (keep-requires c.before.before.before.before c.keep.lifetimes) _ c.keep.ensures (narrow c.before.before.before.before.before.before.before.before.before.before.before.before) c.past-walked.ensures in
+    omega (arith, w.few)
+
+pub shape_of-marks-then-stop-hit : goal.shape_of-marks-then-stop-hit
+shape_of-marks-then-stop-hit c =
+    let on = sym c.over.ensures ∙ ap told_passed c.in-To.is in
+    searching-length c.loop-walked.invariant.0 on (ahead c.before.before.before.before.before.before.before.before.before.before) _ (byte-mark c.in-To.hit)
+    (keep-requires c.before.before.before.before.before c.keep.lifetimes) _ c.keep.ensures ∙ c.loop-walked.invariant.1
+
+pub returns-then-stop-hit : goal.returns-then-stop-hit
+returns-then-stop-hit c =
+    let on = sym c.over.ensures ∙ ap told_passed c.in-To.is in
+    let is = byte-mark c.in-To.hit in
+    let kept = keep-requires c.before.before.before.before.before c.keep.lifetimes in
+    let w = searching-walk c.loop-walked.invariant.0 on (ahead c.before.before.before.before.before.before.before.before.before.before) _ is kept _ c.keep.ensures (narrow c.before.before.before.before.before.before.before.before.before.before.before.before.before)
+    c.past-walked.ensures in
+    let z = searching-stopped c.loop-walked.invariant.0 on (ahead c.before.before.before.before.before.before.before.before.before.before) _ is kept _ c.keep.ensures (narrow c.before.before.before.before.before.before.before.before.before.before.before.before.before)
+    c.past-walked.ensures c.requires.1.0.1 c.if-stop-hit.true in
+    says-stopped _ _ _ _ _ _ _ c.loop-walked.walked.passed _ _ _ _ z.0 z.1 w.few z.2 z.3
+
+pub loop-walked-smaller : goal.loop-walked-smaller
+loop-walked-smaller c =
+    going_less c.loop-walked.invariant.0.walk.go (ahead c.before.before.before.before.before.before.before.before.before.before) (narrow c.before.before.before.before.before.before.before.before.before.before.before.before.before) _ _ c.past-walked.ensures
+
+pub loop-walked-preserved : goal.loop-walked-preserved
+loop-walked-preserved c =
+    let on = sym c.over.ensures ∙ ap told_passed c.in-To.is in
+    let is = byte-mark c.in-To.hit in
+    let kept = keep-requires c.before.before.before.before.before c.keep.lifetimes in (
+      searching-more c.loop-walked.invariant.0 on (ahead c.before.before.before.before.before.before.before.before.before.before) _ is kept _ c.keep.ensures (narrow c.before.before.before.before.before.before.before.before.before.before.before.before.before)
+          c.past-walked.ensures c.if-stop-hit.false,
+      searching-length c.loop-walked.invariant.0 on (ahead c.before.before.before.before.before.before.before.before.before.before) _ is kept _ c.keep.ensures ∙ c.loop-walked.invariant.1,
+    )
+
+pub shape_of-marks-in-Refused-end : goal.shape_of-marks-in-Refused-end
+shape_of-marks-in-Refused-end c = c.loop-walked.invariant.1
+
+pub returns-in-Refused-end : goal.returns-in-Refused-end
+returns-in-Refused-end c =
+    let q = c.loop-walked.invariant.0 in
+    says-left q c.requires.1.0.1 (omega (arith, q.walk.go.count)) c.end.ensures _
+    c.in-Refused-end.is
+
+pub shape_of-marks-in-Sound : goal.shape_of-marks-in-Sound
+shape_of-marks-in-Sound c = c.loop-walked.invariant.1
+
+pub returns-in-Sound : goal.returns-in-Sound
+returns-in-Sound c =
+    let q = c.loop-walked.invariant.0 in
+    says-sound q c.requires.1.0.1 (omega (arith, q.walk.go.count)) c.end.ensures
+    c.in-Sound.is _ refl

@@ -1,0 +1,9 @@
+-- `search::by_bits` meets its contract: a search from the fresh state is a search.
+use borrow.Author.Rules.{rules}
+use Rattle.search.proofs.Searches.{fresh-marked}
+use Rattle.search.proofs.searching.by_bits.Goals as goal
+
+pub returns : goal.returns
+returns c =
+    let e = c.through-sought.ensures in
+    fresh-marked c.args.pattern.now _ c.args.stretch.now c.args.marks.now _ _ _ e c.summed.ensures

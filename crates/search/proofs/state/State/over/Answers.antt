@@ -1,0 +1,77 @@
+use borrow.Author.Rules.{rules}
+use Prim.Native.Nat.{◌^◌, ◌<◌}
+use native.Mathlib.Omega.{arith}
+use mathlib.Core.Path.{◌≡◌, refl, sym, ap, ◌∙◌}
+use mathlib.Core.Logic.{⊎_elim}
+use lib.ListN.{length}
+use Rattle.layout.specs.Pieces.{told_part}
+use Rattle.layout.proofs.Heads.{Whole, head-is}
+use Rattle.layout.proofs.Walking.{walk-not, walk_none, walk-cut, walk-misspelt, walk-again}
+use Rattle.layout.proofs.Walking.{walk-new, walk-unsuspected, walk-past, walk-less}
+use Rattle.search.proofs.Passes.{segment-passed-not, segment-passed}
+use Rattle.search.proofs.Words.{Sweeping, swept, sweeping-none, sweeping-more, sweeping-taken}
+use Rattle.search.proofs.state.State.over.Goals as goal
+use Rattle.search.proofs.state.State.over.Goals.{After-enter, In-At-head-2}
+
+-- the stretch is no longer than a number can say
+narrow : (c : After-enter) → length c.args.stretch.now < 2 ^ 64
+narrow c = omega arith
+
+-- where the letters stand
+here : (c : In-At-head-2)
+    → Whole c.args.stretch.now c.loop-cursor.cursor.at c.in-At-head.start
+    c.in-At-head.next
+here c = head-is _ _ _ _ (sym c.head.ensures ∙ ap told_part c.in-At-head.is)
+
+pub returns-in-Refused : goal.returns-in-Refused
+returns-in-Refused c = sym (segment-passed-not _ _ _ _ _ _ (walk-not _ _ c.enter.ensures c.in-Refused.is))
+
+pub loop-cursor-init : goal.loop-cursor-init
+loop-cursor-init c =
+    let few : c.in-At.cursor.count < 2 ^ 64 = omega arith in
+    let p = c.requires in
+    sweeping-none p.0.founded.some p.1.odd (walk_none _ _ c.enter.ensures c.in-At.is few)
+
+pub returns-in-Refused-head : goal.returns-in-Refused-head
+returns-in-Refused-head c =
+    sym (segment-passed-not _ _ _ _ _ _ (walk-cut c.loop-cursor.invariant.walk c.loop-cursor-test.true c.head.ensures
+    c.in-Refused-head.is))
+
+pub slice_bounds-letters-count : goal.slice_bounds-letters-count
+slice_bounds-letters-count c = let w = here c.before in omega (arith, w.starts, w.ends)
+
+pub slice_bounds-letters-start : goal.slice_bounds-letters-start
+slice_bounds-letters-start c = let w = here c.before in omega (arith, w.starts, w.ends)
+
+pub slice_bounds-letters-end : goal.slice_bounds-letters-end
+slice_bounds-letters-end c = let w = here c.before in omega (arith, w.ends, w.inside)
+
+pub returns-then-scanned : goal.returns-then-scanned
+returns-then-scanned c =
+    sym (segment-passed-not _ _ _ _ _ _ (walk-misspelt c.loop-cursor.invariant.walk c.loop-cursor-test.true (here c.before.before.before.before.before)
+    c.scan_by-scanned.ensures.0 c.if-scanned.true c.misspelt.ensures))
+
+pub returns-in-Refused-compared : goal.returns-in-Refused-compared
+returns-in-Refused-compared c =
+    sym (segment-passed-not _ _ _ _ _ _ (walk-again c.loop-cursor.invariant.walk c.loop-cursor-test.true (here c.before.before.before.before.before.before.before.before.before.before)
+    c.scan_by-scanned.ensures.0 c.if-scanned.false c.compared.ensures c.in-Refused-compared.is))
+
+pub loop-cursor-smaller : goal.loop-cursor-smaller
+loop-cursor-smaller c =
+    walk-less c.loop-cursor.invariant.walk c.loop-cursor-test.true _ _ c.past-cursor.ensures
+
+pub loop-cursor-preserved : goal.loop-cursor-preserved
+loop-cursor-preserved c =
+    let w = c.loop-cursor.invariant.walk in
+    let spelt = c.scan_by-scanned.ensures.0 in
+    let fits = narrow c.before.before.before.before.before.before.before.before.before.before.before.before.before.before.before.before.before in
+    let new = ⊎_elim (λ y. walk-new w c.loop-cursor-test.true (here c.before.before.before.before.before.before.before.before) spelt y.1.ensures y.3.given.1)
+    (λ y. walk-unsuspected w c.loop-cursor-test.true (here c.before.before.before.before.before.before.before.before) spelt (sym c.suspects.ensures ∙ y.left)) c.if-suspects.branch in
+    let on = walk-past w c.loop-cursor-test.true (here c.before.before.before.before.before.before.before.before) spelt fits c.if-scanned.false new refl c.past-cursor.ensures in
+    sweeping-more c.loop-cursor.invariant on (swept _ _ (here c.before.before.before.before.before.before.before.before) c.scan_by-scanned.ensures c.if-scanned.false)
+
+pub returns : goal.returns
+returns c =
+    let p = c.requires in
+    let none : c.loop-cursor.cursor.left ≡ 0 = omega arith in
+    sym (segment-passed (sweeping-taken c.loop-cursor.invariant p.0.founded.some p.0.founded.short _ refl) none)

@@ -1,0 +1,42 @@
+-- `search::State::through` meets its contract: what `enter` asks first, then what `mark` answers of the pattern as the strand reads it.
+use borrow.Author.Rules.{rules}
+use native.Mathlib.Omega.{arith}
+use mathlib.Core.Path.{sym, ap, ◌∙◌}
+use Rattle.text.specs.Refusal.{told_verdict}
+use Rattle.search.proofs.Entries.{Entered, entered}
+use Rattle.search.proofs.BitScans.{masks-short}
+use Rattle.search.proofs.ReadOns.{read_is, read_length, read-room, read-sound, read-state}
+use Rattle.search.proofs.Searches.{seek-not, seek-sound}
+use Rattle.search.proofs.state.State.through.Goals as goal
+use Rattle.search.proofs.state.State.through.Goals.{In-Sound}
+
+-- nothing is wrong before the stretch is read
+entry : (c : In-Sound)
+    → Entered c.args.pattern.now c.args.self.bits c.args.stretch.now
+entry c = entered _ _ _ (sym c.enter.ensures ∙ ap told_verdict c.in-Sound.is)
+
+pub slice_bounds-bytes-end : goal.slice_bounds-bytes-end
+slice_bounds-bytes-end c = read-room _ _ _ c.read_on-bytes.ensures (entry c.before).sound
+
+pub slice_bounds-read-end : goal.slice_bounds-read-end
+slice_bounds-read-end c = read_length _ _ _ c.read_on-bytes.ensures (entry c.before.before).sound
+
+pub mark-requires : goal.mark-requires
+mark-requires c =
+    let y = entry c.before.before.before.before.before in
+    let z = read-sound _ _ _ c.read_on-bytes.ensures y.sound in (
+      record { some = z.some; short = z.short; bases = z.bases; holds = masks-short _ _ z.short c.complements-table.ensures },
+      read-state _ _ _ c.read_on-bytes.ensures y.sound _ y.state,
+      omega (arith, y.short),
+    )
+
+pub returns-in-Refused : goal.returns-in-Refused
+returns-in-Refused c =
+    let wrong = sym c.enter.ensures ∙ ap told_verdict c.in-Refused.is in
+    seek-not _ _ _ _ _ _ _ wrong
+
+pub returns-in-Sound : goal.returns-in-Sound
+returns-in-Sound c =
+    let y = entry c.before.before.before.before.before.before.before.before in
+    let read = read_is _ _ _ c.read_on-bytes.ensures y.sound in
+    seek-sound _ _ _ _ c.args.marks.now y _ read _ _ c.mark.ensures

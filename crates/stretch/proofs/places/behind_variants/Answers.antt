@@ -1,0 +1,38 @@
+use Prim.Native.Nat.{◌-◌, ◌≤◌}
+use lib.ListN.{length}
+use borrow.Author.Rules.{rules}
+use native.Mathlib.Omega.{arith}
+use mathlib.Core.Path.{◌≡◌, ◌∙◌}
+use Rattle.layout.specs.Bytes.{word}
+use Rattle.layout.specs.Pieces.{next_of}
+use Rattle.layout.proofs.Stands.{word-there}
+use Rattle.layout.proofs.Skips.{Stepping, stepping-none, stepping-more, stepping-end, stepping-fits, behind-grows}
+use Rattle.stretch.proofs.places.behind_variants.Goals as goal
+use Rattle.stretch.proofs.places.behind_variants.Goals.{After-word_at-letters, In-loop-i}
+
+-- the variant at the loop's place lies in the bytes
+fits : (c : In-loop-i) →
+    next_of c.args.stretch.now c.loop-i.at ≤ length c.args.stretch.now
+fits c =
+    stepping-fits _ (behind-grows c.args.stretch.now) _ _ _ _ _ c.loop-i.invariant c.loop-i-test.true c.requires
+
+-- so its length is there
+length-is : (c : After-word_at-letters) →
+    c.word_at-letters.result ≡ word c.args.stretch.now c.loop-i.at
+length-is c = let l = fits c.before in c.word_at-letters.ensures.0 ∙ word-there _ _ (omega (arith, l))
+
+pub loop-i-init : goal.loop-i-init
+loop-i-init c = stepping-none _ _ _
+
+pub overflow_add-at : goal.overflow_add-at
+overflow_add-at c = omega (arith, fits c.before)
+
+pub overflow_add-at-in-loop-i : goal.overflow_add-at-in-loop-i
+overflow_add-at-in-loop-i c = omega (arith, fits c.before, length-is c)
+
+pub loop-i-preserved : goal.loop-i-preserved
+loop-i-preserved c =
+    rw (length-is c) (stepping-more _ _ _ _ _ c.loop-i.invariant c.loop-i-test.true)
+
+pub returns : goal.returns
+returns c = stepping-end _ _ _ _ _ c.loop-i.invariant c.loop-i-test.false

@@ -1,0 +1,15 @@
+-- `stretch::write` meets its contract: what the writer puts is what is told.
+use borrow.Author.Rules.{rules}
+use mathlib.Core.Path.{sym, ap, ◌∙◌}
+use Rattle.text.specs.Refusal.{told_amount}
+use Rattle.stretch.proofs.writing.write.Goals as goal
+
+pub returns-in-Is : goal.returns-in-Is
+returns-in-Is c =
+    let e = c.put_stretch.ensures in
+    (sym (ap told_amount c.in-Is.is) ∙ e.0, e.1)
+
+pub returns-in-Refused : goal.returns-in-Refused
+returns-in-Refused c =
+    let e = c.put_stretch.ensures in
+    (sym (ap told_amount c.in-Refused.is) ∙ e.0, e.1)

@@ -1,0 +1,18 @@
+-- `text::spelling::wrong_in_block` meets its contract. The loop's invariant: whether one of the first i from `at` on is no letter. The
+-- measure is the number of bytes left.
+use Prim.Native.Nat.{ℕ, ◌-◌, ◌≤◌, ◌<◌}
+use native.Mathlib.Omega.{arith}
+use mathlib.Core.Path.{◌≡◌, sym, ap, ◌∙◌}
+use mathlib.Core.Bool.{not}
+use borrow.Author.Rules.{rules}
+use lib.ListN.{length, take, drop, length-drop}
+use lib.Seq.{get_or-drop}
+use Rattle.text.specs.Letter.{letter, every}
+use Rattle.text.proofs.Blocks.{wrong-none, wrong-more}
+use Rattle.text.proofs.spelling.wrong_in_block.Given as goal
+
+abbrev pub invariant-loop-i : goal.invariant-loop-i
+invariant-loop-i l = (l.i ≤ 16) × (l.wrong ≡ not (every letter (take l.i (drop l.at l.part))))
+
+abbrev pub decreases-loop-i : goal.decreases-loop-i
+decreases-loop-i l = 16 - l.i

@@ -1,0 +1,15 @@
+use Prim.Native.Nat.{◌-◌}
+use mathlib.Core.Path.{refl}
+use borrow.Author.Rules.{rules}
+use lib.ListN.{length}
+use Rattle.text.proofs.Padding.{Padding, padding-none, padding-more, padding-all}
+use Rattle.text.proofs.strand.copied.Goals as goal
+
+pub loop-i-init : goal.loop-i-init
+loop-i-init c = padding-none _
+
+pub loop-i-preserved : goal.loop-i-preserved
+loop-i-preserved c = padding-more _ _ _ c.loop-i.invariant _ refl c.requires c.loop-i-test.true
+
+pub returns : goal.returns
+returns c = padding-all _ _ _ c.loop-i.invariant c.loop-i-test.false

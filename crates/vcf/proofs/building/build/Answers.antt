@@ -1,0 +1,24 @@
+-- `vcf::building::build` meets its contract: what the survey refuses, the room, and the text.
+use mathlib.Core.Path.{refl}
+use borrow.Author.Rules.{rules}
+use Rattle.writer.proofs.Writings.{refused-leaves}
+use Rattle.vcf.proofs.Builds.{build-leaves}
+use Rattle.vcf.proofs.building.build.Goals as goal
+
+pub returns-then-out-bytes : goal.returns-then-out-bytes
+returns-then-out-bytes c =
+    refused-leaves _ c.refused.ensures
+    ((rw c.in-Needs.is at c.survey.ensures).short _ c.if-out-bytes.true)
+
+pub put_text-requires : goal.put_text-requires
+put_text-requires c =
+    (rw c.in-Needs.is at c.survey.ensures).readable _ c.if-out-bytes.false
+
+pub returns-in-Refused : goal.returns-in-Refused
+returns-in-Refused c =
+    refused-leaves _ refl ((rw c.in-Refused.is at c.survey.ensures).always _)
+
+pub returns-else-out-bytes : goal.returns-else-out-bytes
+returns-else-out-bytes c =
+    build-leaves (rw c.in-Needs.is at c.survey.ensures) _ _ c.if-out-bytes.false
+    c.put_text.ensures

@@ -1,0 +1,96 @@
+-- `vcf::measuring::measure` meets its contract: each test is one of the definition's, in its order.
+use Prim.Native.Nat.{◌≤◌}
+use mathlib.Core.Path.{◌≡◌, sym, ap, ap₂, ◌∙◌}
+use mathlib.Core.Bool.{true}
+use mathlib.Core.List.{List, [], ◌∷◌}
+use borrow.Author.Rules.{rules}
+use borrow.Author.Tests.{not-true, not-false}
+use Prim.Native.Nat.{ℕ}
+use lib.ListN.{length}
+use Rattle.text.specs.Letter.{letter, meant, first_not}
+use Rattle.vcf.specs.Records.{field, position, position_of, alternates, is_record, placed}
+use Rattle.vcf.specs.Tallies.{nothing, opened, tally_in}
+use Rattle.vcf.specs.declared.survey.needed.Needed.{Needed}
+use Rattle.vcf.proofs.Alone.{placed-some, unsound, sounds, sane-nothing, measure-place, measure-letter, measure-unsound}
+use Rattle.vcf.proofs.Alone.{measure-long, measure-repeated, measure-some, measure-fits}
+use Rattle.vcf.proofs.measuring.measure.Goals as goal
+use Rattle.vcf.proofs.measuring.measure.Goals.{After-field-reference, After-first_wrong-wrong, After-is_placed, After-position-place, After-record, After-sound, Else-not-is_placed, Else-sound-eq0}
+
+abbrev L : After-field-reference → List ℕ
+L f = f.args.line.now
+
+abbrev N : After-field-reference → List ℕ
+N f = f.args.name.now
+
+-- what is asked is asked of its fields
+place : (c : After-position-place) → c.position-place.result ≡ position (L c.before.before)
+place c = c.position-place.ensures ∙ ap position_of c.field-stated.ensures
+
+placing : (c : After-is_placed) → c.is_placed.result ≡ placed (field (L Fₚc) 3) (position (L Fₚc))
+placing c = c.is_placed.ensures ∙ ap₂ placed Fₚc.field.ensures (place c.before)
+
+size : (f : After-field-reference) → length f.field-reference.result.now ≡ length (field (L f) 3)
+size f = ap length f.field-reference.ensures
+
+wrong : (c : After-first_wrong-wrong) → c.first_wrong-wrong.result ≡ first_not letter (field (L (F c.before.before)) 3)
+wrong c = c.first_wrong-wrong.ensures ∙ ap (first_not letter) (F c.before.before).field.ensures
+
+-- what the tests that were passed say
+put : (e : Else-not-is_placed) → placed (field (L (F e.before)) 3) (position (L (F e.before))) ≡ true
+put e = sym (placing e.before) ∙ not-false _ e.if-not-is_placed.false-raw
+
+spelt : (s : After-sound) → length (field (L FSₚs) 3) ≤ s.first_wrong-wrong.result
+spelt s = rw (size FSₚs) at s.if-wrong-bases.false
+
+sound : (e : Else-sound-eq0) → is_record (N (FS e.before)) (L (FS e.before)) ≡ true
+sound e = sounds (is_record _ _) (position (L (FS e.before))) e.sound.ensures e.if-sound-eq0.false
+
+needed :
+    (r : After-record) →
+    r.«record».result
+    ≡ tally_in (opened nothing) [] (meant (field (L FSₚSₚr) 3) ∷ alternates (meant (field (L FSₚSₚr) 4)))
+needed r =
+    let ref = FSₚSₚr.field in
+    let alt = r.field-alt in
+    r.«record».ensures
+    ∙ ap (λ (t : Needed). tally_in (opened t) [] (meant ref.result.now ∷ alternates (meant alt.result.now))) r.nothing-nothing.ensures
+    ∙ ap₂ (λ (a b : List ℕ). tally_in (opened nothing) [] (meant a ∷ alternates (meant b))) ref.ensures alt.ensures
+
+pub returns-then-not-is_placed : goal.returns-then-not-is_placed
+returns-then-not-is_placed c = c.refused.ensures ∙ measure-place _ _ (sym (placing c.before.before) ∙ not-true _ c.if-not-is_placed.true-raw)
+
+pub returns-then-wrong-bases : goal.returns-then-wrong-bases
+returns-then-wrong-bases c =
+    c.refused-then-wrong-bases.ensures
+    ∙ measure-letter _ _ (put c.before.before.before) (wrong c.before.before) (rw (size (F c.before.before.before.before)) at c.if-wrong-bases.true)
+
+pub returns-then-sound-eq0 : goal.returns-then-sound-eq0
+returns-then-sound-eq0 c =
+    let p = put E1ₚs in
+    c.refused-then-sound-eq0.ensures
+    ∙ measure-unsound _ _ p (wrong c.before.before.before.before) (spelt c.before.before)
+    (unsound (is_record _ _) (position (L FSₚs)) c.sound.ensures (placed-some _ _ p) c.if-sound-eq0.true)
+
+pub record-requires : goal.record-requires
+record-requires c = rw c.nothing-nothing.ensures sane-nothing
+
+pub overflow_sub-segment : goal.overflow_sub-segment
+overflow_sub-segment c =
+    measure-some _ _ (put E1ₚs) (wrong c.before.before.before.before.before.before.before.before.before) (spelt c.before.before.before.before.before.before.before) (sound c.before.before.before.before.before.before) (needed c.before.before.before) c.in-Fits.is
+
+pub returns-in-Long : goal.returns-in-Long
+returns-in-Long c =
+    c.refused-in-Long.ensures
+    ∙ measure-long _ _ (put E1ₚs) (wrong c.before.before.before.before.before.before.before.before.before) (spelt c.before.before.before.before.before.before.before) (sound c.before.before.before.before.before.before) (needed c.before.before.before)
+    c.in-Long.is
+
+pub returns-in-Repeated : goal.returns-in-Repeated
+returns-in-Repeated c =
+    c.refused-in-Repeated.ensures
+    ∙ measure-repeated _ _ (put E1ₚs) (wrong c.before.before.before.before.before.before.before.before.before.before) (spelt c.before.before.before.before.before.before.before.before) (sound c.before.before.before.before.before.before.before) (needed c.before.before.before.before)
+    c.in-Repeated.is
+
+pub returns-in-Fits : goal.returns-in-Fits
+returns-in-Fits c =
+    measure-fits _ _ (put E1ₚs) (wrong c.before.before.before.before.before.before.before.before.before) (spelt c.before.before.before.before.before.before.before) (sound c.before.before.before.before.before.before) (needed c.before.before.before)
+    c.in-Fits.is (place E1ₚs.before.before) (size FSₚs)

@@ -1,0 +1,42 @@
+-- `vcf::put::put_gap` meets its contract.
+use Prim.Native.Nat.{◌+◌, ◌<◌}
+use native.Mathlib.Omega.{arith}
+use mathlib.Core.Path.{◌≡◌, ◌∙◌}
+use borrow.Author.Rules.{rules}
+use lib.ListN.{length}
+use Rattle.text.specs.Letter.{meant}
+use Rattle.layout.specs.Encoding.{bytes_of, encode_segment}
+use Rattle.layout.specs.Sizes.{segment_bytes}
+use Rattle.vcf.specs.Emission.{gap_of}
+use Rattle.vcf.proofs.Emitting.{gap-nothing, gap-size, gap-put}
+use Rattle.vcf.proofs.put.put_gap.Goals as goal
+use Rattle.vcf.proofs.put.put_gap.Goals.{After-segment_bytes, Else-n-eq0}
+
+size :
+    (e : Else-n-eq0) →
+    length (bytes_of encode_segment (gap_of (meant Sₚe.args.bases.now))) ≡ segment_bytes (length Sₚe.args.bases.now) 1
+size e = gap-size Sₚe.args.bases.now Sₚe.args.out.now Sₚe.args.at e.if-n-eq0.false
+
+narrow : (e : Else-n-eq0) → length Sₚe.args.out.now < 18446744073709551616
+narrow e = omega arith
+
+exact : (c : After-segment_bytes) → c.segment_bytes.result ≡ segment_bytes (length SₚEₚQₚPₚc.args.bases.now) 1
+exact c = let e = E QₚPₚc in omega (arith, c.segment_bytes.ensures, size e, narrow e, (S e).pre)
+
+pub returns-then-n-eq0 : goal.returns-then-n-eq0
+returns-then-n-eq0 c = gap-nothing c.args.bases.now _ _ c.if-n-eq0.true
+
+pub overflow_add-at : goal.overflow_add-at
+overflow_add-at c = omega (arith, size c.before.before.before.before.before, narrow c.before.before.before.before.before, Sₚe.pre)
+
+pub overflow_add-result : goal.overflow_add-result
+overflow_add-result c = let e = E QₚPₚc in omega (arith, exact c, size e, narrow e, (S e).pre)
+
+pub shape_of-out : goal.shape_of-out
+shape_of-out c = Pₚc.put-variant.auto.1.0 ∙ QₚPₚc.put-variants.auto.1.0
+
+pub returns : goal.returns
+returns c = (
+  omega (arith, exact c, size c.before.before.before.before.before.before.before.before.before),
+  gap-put Sₚe.args.bases.now _ _ c.if-n-eq0.left Sₚe.pre _ _ c.put_variants.ensures c.put_variant.ensures,
+)

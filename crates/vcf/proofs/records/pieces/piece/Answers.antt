@@ -1,0 +1,24 @@
+use Prim.Native.Nat.{◌-◌}
+use native.Mathlib.Omega.{arith}
+use mathlib.Core.Path.{sym}
+use borrow.Author.Rules.{rules}
+use Rattle.vcf.proofs.Marks.{Sought, sought-none, sought-more, sought-missing, sought-end}
+use Rattle.vcf.proofs.records.pieces.piece.Goals as goal
+
+pub loop-i-init : goal.loop-i-init
+loop-i-init c = sought-none _ _ _
+
+pub returns-then-end-s : goal.returns-then-end-s
+returns-then-end-s c =
+    sought-missing c.loop-i.invariant c.loop-i-test.true c.end_of-end.ensures c.if-end-s.true
+
+pub overflow_add-from : goal.overflow_add-from
+overflow_add-from c = omega (arith, c.if-end-s.false)
+
+pub loop-i-preserved : goal.loop-i-preserved
+loop-i-preserved c =
+    sought-more c.loop-i.invariant c.loop-i-test.true c.end_of-end.ensures c.if-end-s.false
+
+pub returns : goal.returns
+returns c =
+    sym (sought-end c.loop-i.invariant c.loop-i-test.false c.end_of-end-2.ensures)

@@ -1,0 +1,14 @@
+-- `vcf::survey::needed::Needed::alternates` meets its contract. The loop's invariant, `Behind`: k alleles are tallied. The measure is the
+-- number of bytes left.
+use Prim.Native.Nat.{◌-◌}
+use native.Mathlib.Omega.{arith}
+use borrow.Author.Rules.{rules}
+use lib.ListN.{length}
+use Rattle.vcf.proofs.Tallying.{Behind, behind-none, behind_more, behind-end}
+use Rattle.vcf.proofs.survey.needed.Needed.alternates.Given as goal
+
+abbrev pub invariant-loop-needed : goal.invariant-loop-needed
+invariant-loop-needed l = Behind l.initial.needed l.reference l.alt l.needed l.from l.k
+
+abbrev pub decreases-loop-needed : goal.decreases-loop-needed
+decreases-loop-needed l = length l.alt - l.from

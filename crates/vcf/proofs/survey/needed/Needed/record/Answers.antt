@@ -1,0 +1,32 @@
+-- `vcf::survey::needed::Needed::record` meets its contract.
+use mathlib.Core.Path.{◌≡◌, sym, ◌∙◌}
+use borrow.Author.Rules.{rules}
+use lib.ListN.{length}
+use mathlib.Core.Bool.{false}
+use Rattle.vcf.specs.Tallies.{Sane, opened, tallied}
+use Rattle.vcf.proofs.Tallying.{sane-opened, sane-tallied, record-none, record-some}
+use Rattle.vcf.proofs.survey.needed.Needed.record.Goals as goal
+use Rattle.vcf.proofs.survey.needed.Needed.record.Goals.{After-open-begun, After-variant-first}
+
+begun : (c : After-open-begun) → Sane c.«open».result
+begun c = rw c.«open».ensures (sane-opened c.args.self c.requires)
+
+whole : (v : After-variant-first) → v.variant-first.result ≡ tallied (opened v.args.self)
+    (length v.args.reference.now) false
+whole v = v.variant-first.ensures ∙ rw v.before.«open».ensures
+
+pub variant-first-requires : goal.variant-first-requires
+variant-first-requires c = begun c
+
+pub returns-then-is_none : goal.returns-then-is_none
+returns-then-is_none c = record-none Sₚv.args.self Sₚv.args.reference.now _ _ (whole c.before.before)
+    (sym c.is_none.ensures ∙ c.if-is_none.true)
+
+pub alternates-requires : goal.alternates-requires
+alternates-requires c =
+    rw c.variant-first.ensures (sane-tallied c.before.before.before.«open».result (length Sₚv.args.reference.now) false (begun c.before.before.before))
+
+pub returns : goal.returns
+returns c = let v =
+    c.before.before.before in record-some (S v).args.self (S v).args.reference.now _ _ (whole v)
+    (sym c.is_none.ensures ∙ c.if-is_none.false) _ c.alternates.ensures

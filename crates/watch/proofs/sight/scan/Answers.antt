@@ -1,0 +1,34 @@
+use Prim.Native.Nat.{ℕ, ◌-◌, ◌<◌}
+use borrow.Author.Rules.{rules}
+use native.Mathlib.Omega.{arith}
+use mathlib.Core.Path.{refl}
+use mathlib.Core.List.{List}
+use lib.ListN.{length, get_or}
+use Rattle.watch.specs.Sight.{Armed}
+use Rattle.watch.proofs.Sights.{Scanning, scanning-none, scanning-more, scanning-all}
+use Rattle.watch.proofs.sight.scan.Goals as goal
+use Rattle.watch.proofs.sight.scan.Goals.{After-shared_slice_known-1}
+
+-- the letter that is read is a byte
+byte : (c : After-shared_slice_known-1)
+    → get_or c.args.variant.now c.loop-i.i 0 < 256
+byte c = omega (arith, c.shared_slice_known-1.given c.loop-i.i)
+
+pub loop-i-init : goal.loop-i-init
+loop-i-init c = scanning-none P _ _ _ _ (omega arith) y
+
+pub overflow_cast-c : goal.overflow_cast-c
+overflow_cast-c c = omega (arith, byte c)
+
+pub offset_bounds-vectors-c : goal.offset_bounds-vectors-c
+offset_bounds-vectors-c c = omega (arith, byte c)
+
+pub bounds-vectors-c : goal.bounds-vectors-c
+bounds-vectors-c c = byte c.before
+
+pub loop-i-preserved : goal.loop-i-preserved
+loop-i-preserved c =
+    scanning-more P _ _ _ _ _ _ _ y (c.loop-i.invariant P y) c.loop-i-test.true _ refl (byte c.before.before) _ refl
+
+pub returns : goal.returns
+returns c = scanning-all P _ _ _ _ _ _ (c.loop-i.invariant P y) c.loop-i-test.false

@@ -1,0 +1,85 @@
+use Prim.Native.Nat.{◌+◌, ◌-◌, ◌<◌, ◌≤◌}
+use native.Mathlib.Omega.{arith}
+use mathlib.Core.Path.{◌≡◌, ap, ◌∙◌}
+use borrow.Author.Rules.{rules}
+use lib.ListN.{length, length-take, length-drop}
+use Rattle.text.specs.Letter.{meant}
+use Rattle.text.specs.Text.{Variant}
+use Rattle.text.proofs.Likes.{meant-length}
+use Rattle.layout.specs.Bytes.{put}
+use Rattle.layout.specs.Encoding.{encode_variant}
+use Rattle.layout.specs.Sizes.{after_variant}
+use Rattle.layout.proofs.Raised.{part-meant}
+use Rattle.writer.proofs.Cuts.{passing-number, passing-inside}
+use Rattle.layout.proofs.Overs.{emitted-length}
+use Rattle.writer.proofs.SegmentBytes.{VariantsPut, variants-room, variants-more, segment-room, segment-none, segment-end}
+use Rattle.writer.proofs.bytes.put_segment.Goals as goal
+use Rattle.writer.proofs.bytes.put_segment.Goals.{After-slice_known-1, After-stated-size, At-loop-k, In-loop-k}
+
+narrow : (c : After-slice_known-1) → length c.args.out.now < 18446744073709551616
+narrow c = omega arith
+
+same : (c : At-loop-k) → length c.loop-k.out ≡ length entryₚc.args.out.now
+same c = emitted-length c.loop-k.invariant.emitted ∙ countedₚc.put-variants.auto.1.0
+
+-- the next variant: its number is that of a length, its letters are there, and its bytes fit
+number :
+    (c : In-loop-k) →
+    (entry c.before).args.first + c.loop-k.k < length (entry c.before).args.lengths.now
+number c = passing-number c.loop-k.invariant.passing c.loop-k-test.true
+
+inside :
+    (c : After-stated-size) →
+    c.loop-k.start + c.stated-size.result ≤ length (entry c.before.before.before).args.letters.now
+inside c =
+    rw meant-length at (passing-inside c.loop-k.invariant.passing c.loop-k-test.true c.stated-size.ensures)
+
+room :
+    (c : After-stated-size) →
+    after_variant c.loop-k.next c.stated-size.result ≤ length (entry c.before.before.before).args.out.now
+room c =
+    let h = variants-room c.loop-k.invariant c.loop-k-test.true c.stated-size.ensures in
+    rw (same c.before.before.before) at h
+
+pub overflow_add-next : goal.overflow_add-next
+overflow_add-next c =
+    omega (arith, segment-room (meant c.args.letters.now) c.args.out.now c.args.at c.requires.0 c.requires.1)
+
+pub loop-k-init : goal.loop-k-init
+loop-k-init c =
+    segment-none _ c.args.out.now c.args.at c.requires.0 c.requires.1 c.wide-variants.ensures.0 c.put_variants.auto.1.0
+
+pub overflow_add-first : goal.overflow_add-first
+overflow_add-first c = omega (arith, number c)
+
+pub offset_bounds-lengths-first : goal.offset_bounds-lengths-first
+offset_bounds-lengths-first c = omega (arith, number c)
+
+pub bounds-lengths-first : goal.bounds-lengths-first
+bounds-lengths-first c = number c.before
+
+pub overflow_add-end : goal.overflow_add-end
+overflow_add-end c = omega (arith, inside c)
+
+pub slice_bounds-put_variant-end : goal.slice_bounds-put_variant-end
+slice_bounds-put_variant-end c = omega (arith, inside c)
+
+pub loop-k-preserved : goal.loop-k-preserved
+loop-k-preserved c =
+    let letters = (entry c.before.before.before.before.before.before.before.before.before).args.letters.now in
+    let start = c.loop-k.start in
+    let next = c.loop-k.next in
+    let out = c.loop-k.out in
+    let place : c.after_variant-next.result ≡ after_variant next c.stated-size.result =
+    omega (arith, c.after_variant-next.ensures, room c.before.before.before.before.before.before, narrow (counted c.before.before.before.before.before.before.before.before.before).before.before.before) in
+    variants-more c.loop-k.invariant c.loop-k-test.true c.stated-size.ensures place
+    (c.put_variant.ensures ∙ ap (λ (v : Variant). put out next (encode_variant v))
+    (part-meant letters start (start + c.stated-size.result - start)))
+
+pub shape_of-out : goal.shape_of-out
+shape_of-out c = same c.before
+
+pub returns : goal.returns
+returns c =
+    segment-end _ c.args.out.now c.args.at c.requires.0 c.requires.1
+    c.wide-variants.ensures c.put_variants.ensures c.loop-k.invariant c.loop-k-test.false

@@ -1,0 +1,60 @@
+use Prim.Native.Nat.{◌+◌, ◌-◌, ◌<◌, ◌≤◌}
+use native.Mathlib.Omega.{arith}
+use mathlib.Core.Path.{sym, ◌∙◌}
+use borrow.Author.Rules.{rules}
+use lib.ListN.{length}
+use Rattle.text.specs.Letter.{meant}
+use Rattle.text.proofs.Likes.{meant-length}
+use Rattle.layout.proofs.Raised.{alike-part}
+use Rattle.writer.proofs.Cuts.{passing-number, passing-inside}
+use Rattle.writer.proofs.RepeatsInWrite.{Compared, compared-none, compared_same, compared-more, compared-end}
+use Rattle.writer.proofs.sound.repeated.Goals as goal
+use Rattle.writer.proofs.sound.repeated.Goals.{After-stated, In-loop-i}
+
+number :
+    (c : In-loop-i) →
+    (entry c.before).args.first + c.loop-i.i < length (entry c.before).args.lengths.now
+number c = passing-number c.loop-i.invariant.passing c.loop-i-test.true
+
+inside :
+    (c : After-stated) →
+    c.loop-i.start + c.stated.result ≤ length (entry c.before.before.before).args.letters.now
+inside c =
+    rw meant-length at (passing-inside c.loop-i.invariant.passing c.loop-i-test.true c.stated.ensures)
+
+pub loop-i-init : goal.loop-i-init
+loop-i-init c = compared-none _ c.requires
+
+pub overflow_add-first : goal.overflow_add-first
+overflow_add-first c = omega (arith, number c)
+
+pub offset_bounds-lengths-first : goal.offset_bounds-lengths-first
+offset_bounds-lengths-first c = omega (arith, number c)
+
+pub bounds-lengths-first : goal.bounds-lengths-first
+bounds-lengths-first c = number c.before
+
+pub overflow_add-end : goal.overflow_add-end
+overflow_add-end c = omega (arith, inside c)
+
+pub slice_bounds-alike_from_end-end : goal.slice_bounds-alike_from_end-end
+slice_bounds-alike_from_end-end c = omega (arith, inside c)
+
+pub returns-then-alike_from_end : goal.returns-then-alike_from_end
+returns-then-alike_from_end c =
+    let a = (entry c.before.before.before.before.before.before).args in
+    let start = c.loop-i.start in
+    let equal = sym (alike-part a.variant.now a.letters.now start (start + c.stated.result - start))
+    ∙ sym c.alike_from_end.ensures ∙ c.if-alike_from_end.true in
+    sym (compared_same c.loop-i.invariant c.loop-i-test.true c.stated.ensures equal)
+
+pub loop-i-preserved : goal.loop-i-preserved
+loop-i-preserved c =
+    let a = (entry c.before.before.before.before.before.before).args in
+    let start = c.loop-i.start in
+    let other = sym (alike-part a.variant.now a.letters.now start (start + c.stated.result - start))
+    ∙ sym c.alike_from_end.ensures ∙ c.if-alike_from_end.false in
+    compared-more c.loop-i.invariant c.loop-i-test.true c.stated.ensures other
+
+pub returns : goal.returns
+returns c = sym (compared-end c.loop-i.invariant c.loop-i-test.false)

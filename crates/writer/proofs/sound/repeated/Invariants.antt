@@ -1,0 +1,20 @@
+-- `writer::sound::repeated` meets its contract. The loop's invariant, `Compared`: the variant is equal to none of the
+-- first i, and is compared on from there. The measure is the number of variants left.
+use Prim.Native.Nat.{◌+◌, ◌-◌, ◌<◌, ◌≤◌}
+use native.Mathlib.Omega.{arith}
+use mathlib.Core.Path.{sym, ◌∙◌}
+use borrow.Author.Rules.{rules}
+use lib.ListN.{length}
+use Rattle.text.specs.Letter.{meant}
+use Rattle.text.proofs.Likes.{meant-length}
+use Rattle.layout.proofs.Raised.{alike-part}
+use Rattle.writer.proofs.Cuts.{passing-number, passing-inside}
+use Rattle.writer.proofs.RepeatsInWrite.{Compared, compared-none, compared_same, compared-more, compared-end}
+use Rattle.writer.proofs.sound.repeated.Given as goal
+
+abbrev pub invariant-loop-i : goal.invariant-loop-i
+invariant-loop-i l =
+    Compared (meant l.letters) l.lengths l.first l.from l.k (meant l.variant) l.start l.i
+
+abbrev pub decreases-loop-i : goal.decreases-loop-i
+decreases-loop-i l = l.k - l.i

@@ -1,0 +1,32 @@
+use Prim.Native.Nat.{◌-◌}
+use mathlib.Core.Path.{sym, ap, ◌∙◌}
+use borrow.Author.Rules.{rules}
+use Rattle.text.specs.Refusal.{told_amount}
+use Rattle.text.specs.Letter.{meant}
+use Rattle.writer.proofs.Cuts.{passing-behind}
+use Rattle.writer.proofs.GivenSegment.{segment-empty, VariantsAccepted}
+use Rattle.writer.proofs.GivenSegment.{accepted-none, accepted-refused, accepted-more, accepted-end}
+use Rattle.writer.proofs.sound.segment_given.Goals as goal
+
+pub returns-then-count-eq0 : goal.returns-then-count-eq0
+returns-then-count-eq0 c = sym (segment-empty _ _ _ _ c.wide-count.ensures.0 _ c.if-count-eq0.true)
+
+pub loop-k-init : goal.loop-k-init
+loop-k-init c =
+    accepted-none _ _ _ _ c.wide-count.ensures.0 c.if-count-eq0.false c.requires.1
+
+pub variant_given-requires : goal.variant_given-requires
+variant_given-requires c = passing-behind c.loop-k.invariant.passing c.loop-k-test.true
+
+pub returns-in-Refused : goal.returns-in-Refused
+returns-in-Refused c =
+    let e = sym c.variant_given.ensures ∙ ap told_amount c.in-Refused.is in
+    sym (accepted-refused c.loop-k.invariant _ _ c.loop-k-test.true e)
+
+pub loop-k-preserved : goal.loop-k-preserved
+loop-k-preserved c =
+    let e = sym c.variant_given.ensures ∙ ap told_amount c.in-Is.is in
+    accepted-more c.loop-k.invariant _ c.loop-k-test.true e
+
+pub returns : goal.returns
+returns c = sym (accepted-end c.loop-k.invariant c.loop-k-test.false)

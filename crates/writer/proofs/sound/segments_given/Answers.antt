@@ -1,0 +1,33 @@
+use Prim.Native.Nat.{◌-◌}
+use native.Mathlib.Omega.{arith}
+use mathlib.Core.Path.{sym, ap, ◌∙◌}
+use borrow.Author.Rules.{rules}
+use lib.ListN.{length}
+use Rattle.text.specs.Refusal.{told_amount}
+use Rattle.text.specs.Letter.{meant}
+use Rattle.writer.proofs.Texts.{matched-within}
+use Rattle.writer.proofs.GivenText.{SegmentsAccepted, accepted-none, accepted-refused, accepted-more, accepted-end}
+use Rattle.writer.proofs.sound.segments_given.Goals as goal
+
+pub loop-segment-init : goal.loop-segment-init
+loop-segment-init c = accepted-none c.requires
+
+pub segment_given-requires : goal.segment_given-requires
+segment_given-requires c = (c.loop-segment-test.true, matched-within c.loop-segment.invariant.matched c.loop-segment-test.true)
+
+pub returns-in-Refused : goal.returns-in-Refused
+returns-in-Refused c =
+    let e = sym c.segment_given.ensures ∙ ap told_amount c.in-Refused.is in
+    sym (accepted-refused c.loop-segment.invariant _ _ c.loop-segment-test.true e)
+
+pub overflow_add-variant : goal.overflow_add-variant
+overflow_add-variant c =
+    omega (arith, matched-within c.loop-segment.invariant.matched c.loop-segment-test.true, c.wide-variant.ensures)
+
+pub loop-segment-preserved : goal.loop-segment-preserved
+loop-segment-preserved c =
+    let e = sym c.segment_given.ensures ∙ ap told_amount c.in-Is.is in
+    accepted-more c.loop-segment.invariant _ _ c.loop-segment-test.true c.wide-variant.ensures.0 e
+
+pub returns : goal.returns
+returns c = sym (accepted-end c.loop-segment.invariant c.loop-segment-test.false)

@@ -1,0 +1,84 @@
+-- `writer::put_stretch` meets its contract. Each answer is a law of `writing`, from the tests that led to it and from what the called
+-- functions ensure; one law gives the answer and the buffer.
+use Prim.Native.Nat.{◌<◌}
+use native.Mathlib.Omega.{arith}
+use mathlib.Core.Path.{◌≡◌, refl, sym, ap, ◌∙◌}
+use borrow.Author.Rules.{rules}
+use borrow.Author.Tests.{not-true, not-false, lt-leb}
+use Rattle.text.specs.Refusal.{told_amount}
+use Rattle.text.specs.Letter.{meant}
+use Rattle.text.proofs.Likes.{meant-length}
+use Rattle.layout.specs.Bytes.{greatest_stretch}
+use Rattle.writer.specs.Writing.{Matching, needed}
+use Rattle.writer.proofs.GivenRaised.{matching-meant, needed-meant}
+use Rattle.writer.proofs.Writings.{Fitting, sums-match, counts-refused, lengths-refused, long-refused, given-refused}
+use Rattle.writer.proofs.Writings.{room-refused, refused-leaves, accepted-leaves}
+use Rattle.writer.proofs.writing.put_stretch.Goals as goal
+use Rattle.writer.proofs.writing.put_stretch.Goals.{Else-needed-gt-GREATEST_STRETCH, Else-not-lengths_sum, Start}
+
+matching : (c : Else-not-lengths_sum) → Matching (meant entryₚc.args.letters.now) entryₚc.args.lengths.now entryₚc.args.counts.now
+matching c =
+    let a = c.args in
+    matching-meant
+    (sums-match a.letters.now a.lengths.now a.counts.now
+    (sym c.counts_sum.ensures ∙ not-false _ c.if-not-counts_sum.false-raw)
+    (sym c.lengths_sum.ensures ∙ not-false _ c.if-not-lengths_sum.false-raw))
+
+-- raised letters need as many bytes
+same-need :
+    (c : Start)
+    → needed (meant c.args.letters.now) c.args.lengths.now c.args.counts.now
+    ≡ needed c.args.letters.now c.args.lengths.now c.args.counts.now
+same-need c = needed-meant _ _ _
+
+size :
+    (c : Else-needed-gt-GREATEST_STRETCH) →
+    c.text_bytes-needed.result
+    ≡ needed (meant enteredₚc.args.letters.now) enteredₚc.args.lengths.now enteredₚc.args.counts.now
+unfolding needed
+size c = let same = same-need enteredₚc in omega (arith, c.text_bytes-needed.ensures, c.if-needed-gt-GREATEST_STRETCH.false)
+
+fitting : (c : Else-needed-gt-GREATEST_STRETCH) → Fitting (meant enteredₚc.args.letters.now) enteredₚc.args.lengths.now enteredₚc.args.counts.now
+fitting c = record { matching = matching c.before.before; small = rw (← size c) c.if-needed-gt-GREATEST_STRETCH.false }
+
+pub returns-then-not-counts_sum : goal.returns-then-not-counts_sum
+returns-then-not-counts_sum c =
+    let e = sym c.counts_sum.ensures ∙ not-true _ c.if-not-counts_sum.true-raw in
+    refused-leaves _ c.refused_at_0.ensures (counts-refused _ _ _ _ e)
+
+pub returns-then-not-lengths_sum : goal.returns-then-not-lengths_sum
+returns-then-not-lengths_sum c =
+    let e = sym c.lengths_sum.ensures ∙ not-true _ c.if-not-lengths_sum.true-raw in
+    refused-leaves _ c.refused_at_0-then-not-lengths_sum.ensures (lengths-refused (meant c.args.letters.now) _ _ _ (rw (meant-length c.args.letters.now) e))
+
+pub returns-then-needed-gt-GREATEST_STRETCH : goal.returns-then-needed-gt-GREATEST_STRETCH
+unfolding needed
+returns-then-needed-gt-GREATEST_STRETCH c =
+    let n = needed (meant c.args.letters.now) c.args.lengths.now c.args.counts.now in
+    let same = same-need c.before.before.before.before.before.before.before.before.before.before.before in
+    let long : greatest_stretch < n = omega (arith, c.text_bytes-needed.ensures, c.if-needed-gt-GREATEST_STRETCH.true) in
+    refused-leaves _ c.refused_at_0-then-needed-gt-GREATEST_STRETCH.ensures (long-refused _ (matching c.before.before.before) (lt-leb n greatest_stretch long))
+
+pub segments_given-requires : goal.segments_given-requires
+segments_given-requires c = matching c.before.before
+
+pub returns-in-Refused : goal.returns-in-Refused
+returns-in-Refused c =
+    let e = sym c.segments_given.ensures ∙ ap told_amount c.in-Refused.is in
+    refused-leaves _ refl (given-refused _ (fitting c.before.before.before.before) _ _ e)
+
+pub returns-then-out-needed : goal.returns-then-out-needed
+returns-then-out-needed c =
+    let e = sym c.segments_given.ensures ∙ ap told_amount c.in_default.is in
+    refused-leaves _ c.refused_at_0-then-out-needed.ensures
+    (room-refused _ (fitting c.before.before.before.before.before) e (rw (← size c.before.before.before.before.before) c.if-out-needed.true))
+
+pub put_text-requires : goal.put_text-requires
+put_text-requires c =
+    ((fitting c.before.before.before.before.before).matching, rw (← size c.before.before.before.before.before) c.if-out-needed.false)
+
+pub returns : goal.returns
+returns c =
+    let e = sym c.segments_given.ensures ∙ ap told_amount c.in_default.is in
+    let n = size c.before.before.before.before.before.before.before.before in
+    rw (← n) at (accepted-leaves (fitting c.before.before.before.before.before.before.before.before) _ e (rw (← n) c.if-out-needed.false) c.put_text.ensures)
