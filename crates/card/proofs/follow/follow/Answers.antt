@@ -8,34 +8,34 @@ use Rattle.card.proofs.follow.follow.Goals as goal
 use Rattle.card.proofs.follow.follow.Goals.{In-loop-rest}
 
 -- a bit is left, so q is a row
-inside : (c : In-loop-rest) → c.loop-rest.q < 64
-inside c =
+inside : ((goal.at.In-loop-rest c).In-loop-rest : In-loop-rest) → c.loop-rest.q < 64
+inside (goal.at.In-loop-rest c).In-loop-rest =
     following-inside _ _ _ _ _ _ _ c.loop-rest.invariant c.ranges.state.fits c.loop-rest-test.true
 
 pub loop-rest-init : goal.loop-rest-init
 loop-rest-init c = following-none _ _ _
 
 pub offset_bounds-exits-q : goal.offset_bounds-exits-q
-offset_bounds-exits-q c = omega (arith, inside c.before)
+offset_bounds-exits-q c = omega (arith, inside (goal.at.offset_bounds-exits-q c).In-loop-rest)
 
 pub bounds-exits-q : goal.bounds-exits-q
 bounds-exits-q c =
-    omega (arith, inside c.before.before, c.requires)
+    omega (arith, inside (goal.at.bounds-exits-q c).In-loop-rest, c.requires)
 
 pub offset_bounds-firsts-q : goal.offset_bounds-firsts-q
-offset_bounds-firsts-q c = omega (arith, inside c.before.before)
+offset_bounds-firsts-q c = omega (arith, inside (goal.at.offset_bounds-firsts-q c).In-loop-rest)
 
 pub bounds-firsts-q : goal.bounds-firsts-q
 bounds-firsts-q c =
-    omega (arith, inside c.before.before.before, c.requires)
+    omega (arith, inside (goal.at.bounds-firsts-q c).In-loop-rest, c.requires)
 
 pub overflow_add-q : goal.overflow_add-q
-overflow_add-q c = omega (arith, inside c.before)
+overflow_add-q c = omega (arith, inside (goal.at.overflow_add-q c).In-loop-rest)
 
 pub loop-rest-preserved : goal.loop-rest-preserved
 loop-rest-preserved c =
     let h = c.loop-rest.invariant in
-    let l = inside c.before in
+    let l = inside (goal.at.loop-rest-preserved c).In-loop-rest in
     ⊎_elim
     (λ w. following-taken _ _ _ _ _ _ _ h _ _ l w.0.taken w.4 (w.5 ∙ w.3.ensures))
     (λ w. following-passed _ _ _ _ _ _ _ h _ _ l w.0.left w.1 w.2)

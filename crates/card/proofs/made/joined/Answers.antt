@@ -7,14 +7,14 @@ use Rattle.card.proofs.made.joined.Goals as goal
 use Rattle.card.proofs.made.joined.Goals.{Start}
 
 -- a card has 64 exits and 64 first ends
-full : (c : Start) → Full c.args.right.exits c.args.right.firsts
-full c = record { states = search rules; ends = search rules }
+full : ((goal.at.Start c).Start : Start) → Full c.args.right.exits c.args.right.firsts
+full (goal.at.Start c).Start = record { states = search rules; ends = search rules }
 
 pub loop-q-init : goal.loop-q-init
 loop-q-init c = changing-none _ _ _ (record { states = search rules; ends = search rules })
 
 pub follow-row-requires : goal.follow-row-requires
-follow-row-requires c = full c.before.before.before.before.before.before.before.before.before
+follow-row-requires c = full (goal.at.follow-row-requires c).Start
 
 pub loop-q-preserved : goal.loop-q-preserved
 loop-q-preserved c =

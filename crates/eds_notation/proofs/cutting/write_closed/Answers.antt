@@ -12,14 +12,14 @@ use Rattle.eds_notation.proofs.cutting.write_closed.Goals.{Else-not-is_within}
 
 -- the tape lies within its buffers
 lies :
-    (c : Else-not-is_within) →
+    ((goal.at.Else-not-is_within c).Else-not-is_within : Else-not-is_within) →
     within c.args.tape (length c.args.letters.now) (length c.args.lengths.now) ≡ true
-lies c = sym c.is_within.ensures ∙ not-false _ c.if-not-is_within.false-raw
+lies (goal.at.Else-not-is_within c).Else-not-is_within = sym c.is_within.ensures ∙ not-false _ c.if-not-is_within.false-raw
 
 inside :
-    (c : Else-not-is_within) →
+    ((goal.at.Else-not-is_within c).Else-not-is_within : Else-not-is_within) →
     Within c.args.tape (length c.args.letters.now) (length c.args.lengths.now)
-inside c = within-is _ _ _ (lies c)
+inside (goal.at.Else-not-is_within c).Else-not-is_within = within-is _ _ _ (lies (goal.at.Else-not-is_within c).Else-not-is_within)
 
 pub returns-then-counts-segments : goal.returns-then-counts-segments
 returns-then-counts-segments c =
@@ -31,16 +31,16 @@ returns-then-not-is_within c =
     (sym c.is_within.ensures ∙ not-true _ c.if-not-is_within.true-raw)
 
 pub overflow_sub-spelt : goal.overflow_sub-spelt
-overflow_sub-spelt c = (inside c.before.before).letters-open
+overflow_sub-spelt c = (inside (goal.at.overflow_sub-spelt c).Else-not-is_within).letters-open
 
 pub overflow_sub-variants : goal.overflow_sub-variants
-overflow_sub-variants c = (inside c.before.before.before.before).lengths-open
+overflow_sub-variants c = (inside (goal.at.overflow_sub-variants c).Else-not-is_within).lengths-open
 
 pub slice_bounds-write-end : goal.slice_bounds-write-end
-slice_bounds-write-end c = sym (length-take-le _ _ (letters-inside (inside c.before.before.before.before)))
+slice_bounds-write-end c = sym (length-take-le _ _ (letters-inside (inside (goal.at.slice_bounds-write-end c).Else-not-is_within)))
 
 pub slice_bounds-write-end-2 : goal.slice_bounds-write-end-2
-slice_bounds-write-end-2 c = sym (length-take-le _ _ (lengths-inside (inside c.before.before.before.before)))
+slice_bounds-write-end-2 c = sym (length-take-le _ _ (lengths-inside (inside (goal.at.slice_bounds-write-end-2 c).Else-not-is_within)))
 
 pub slice_bounds-write-end-3 : goal.slice_bounds-write-end-3
 slice_bounds-write-end-3 c = sym (length-take-le _ _ c.if-counts-segments.false)
@@ -49,4 +49,4 @@ pub returns : goal.returns
 returns c =
     let p = c.write.ensures in
     closed-done c.args.tape c.args.letters.now c.args.lengths.now c.args.counts.now c.args.out.now
-    c.if-counts-segments.false (lies c.before.before.before.before.before.before.before.before) _ _ p.0 p.1
+    c.if-counts-segments.false (lies (goal.at.returns c).Else-not-is_within) _ _ p.0 p.1

@@ -6,13 +6,13 @@ use native.Mathlib.Omega.{arith}
 use Rattle.layout.specs.Sizes.{text_bytes}
 use Rattle.eds_notation.proofs.Fillings.{fits_not, fits_last}
 use Rattle.eds_notation.proofs.filling.fits.Goals as goal
-use Rattle.eds_notation.proofs.filling.fits.Goals.{After-text_bytes}
+use Rattle.eds_notation.proofs.filling.fits.Goals.{After-text_bytes, After-wide}
 
-size : (c : After-text_bytes) →
-    let t = (S (E3 c.before.before)).args.tape in
+size : ((goal.at.After-text_bytes c).After-text_bytes : After-text_bytes) →
+    let t = (S (E3 (goal.at.After-text_bytes c).After-wide)).args.tape in
     c.text_bytes.result
     ≡ text_bytes (t.letters + c.wide.result) (t.lengths + 1 + c.wide-2.result) (t.counts + 1)
-size c =
+size (goal.at.After-text_bytes c).After-text_bytes =
     omega (
       arith,
       c.text_bytes.ensures,
@@ -48,4 +48,4 @@ returns-then-begun-gt254 c = fits_not _ _ _ λ f. omega (arith, f.variants, c.if
 pub returns : goal.returns
 returns c =
     fits_last _ _ _ c.if-begun.false c.if-letters-begun.false c.if-lengths-begun.false c.if-begun-gt254.false _ _ _ c.wide.ensures.0
-    c.wide-2.ensures.0 (size c)
+    c.wide-2.ensures.0 (size (goal.at.returns c).After-text_bytes)

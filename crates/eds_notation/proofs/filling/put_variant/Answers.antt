@@ -14,18 +14,18 @@ use Rattle.eds_notation.proofs.filling.put_variant.Goals.{Else-not-fits}
 
 -- there is room in a stretch, so that the numbers of the tape are sound
 room :
-    (c : Else-not-fits) →
+    ((goal.at.Else-not-fits c).Else-not-fits : Else-not-fits) →
     fits c.args.tape 0 c.args.another ≡ true
-room c = sym c.fits.ensures ∙ not-false _ c.if-not-fits.false-raw
+room (goal.at.Else-not-fits c).Else-not-fits = sym c.fits.ensures ∙ not-false _ c.if-not-fits.false-raw
 
 fitting :
-    (c : Else-not-fits) →
+    ((goal.at.Else-not-fits c).Else-not-fits : Else-not-fits) →
     Fitting c.args.tape 0 c.args.another
-fitting c = fits-is _ _ _ (room c)
+fitting (goal.at.Else-not-fits c).Else-not-fits = fits-is _ _ _ (room (goal.at.Else-not-fits c).Else-not-fits)
 
 -- the letters of the tape are there, and the lengths have room for one more
-there : (c : Else-not-fits) → c.args.tape.letters ≤ length c.args.letters.now
-there c = c.if-letters-end.false
+there : ((goal.at.Else-not-fits c).Else-not-fits : Else-not-fits) → c.args.tape.letters ≤ length c.args.letters.now
+there (goal.at.Else-not-fits c).Else-not-fits = c.if-letters-end.false
 
 pub returns-then-letters-end : goal.returns-then-letters-end
 returns-then-letters-end c = (c.full.ensures ∙ variant-far _ _ _ _ _ c.if-letters-end.true, full-leaves _ _ c.full.ensures _ _)
@@ -39,28 +39,30 @@ returns-then-not-fits c =
     (c.full-then-not-fits.ensures ∙ variant-full _ _ _ _ _ none, full-leaves _ _ c.full-then-not-fits.ensures _ _)
 
 pub overflow_sub-first : goal.overflow_sub-first
-overflow_sub-first c = (fitting c.before).lengths
+overflow_sub-first c = (fitting (goal.at.overflow_sub-first c).Else-not-fits).lengths
 
 pub overflow_sub-from : goal.overflow_sub-from
-overflow_sub-from c = (fitting c.before.before).letters
+overflow_sub-from c = (fitting (goal.at.overflow_sub-from c).Else-not-fits).letters
 
 pub stands-requires : goal.stands-requires
-stands-requires c = open-size _ _ _ (fitting c.before.before.before.before) (there c.before.before.before.before)
+stands-requires c = open-size _ _ _ (fitting (goal.at.stands-requires c).Else-not-fits) (there (goal.at.stands-requires c).Else-not-fits)
 
 pub returns-then-stands : goal.returns-then-stands
-returns-then-stands c = (
-  variant-repeated _ _ _ _ _ (there c.before.before.before.before.before.before) c.if-lengths-at.false (room c.before.before.before.before.before.before) _ c.stands.ensures c.if-stands.true,
-  wrong-leaves _ _ _,
-)
+returns-then-stands c =
+    (
+      variant-repeated _ _ _ _ _ (there (goal.at.returns-then-stands c).Else-not-fits) c.if-lengths-at.false (room (goal.at.returns-then-stands c).Else-not-fits) _ c.stands.ensures c.if-stands.true,
+      wrong-leaves _ _ _,
+    )
 
 pub overflow_cast-lengths : goal.overflow_cast-lengths
 overflow_cast-lengths c =
-    let f = fitting c.before.before.before.before.before.before.before in
+    let f = fitting (goal.at.overflow_cast-lengths c).Else-not-fits in
     omega (arith, f.spelt, f.letters, f.bytes)
 
 pub returns : goal.returns
-returns c = (
-  variant-done _ _ _ _ _ (there c.before.before.before.before.before.before.before) c.if-lengths-at.false (room c.before.before.before.before.before.before.before) _ c.stands.ensures
-      c.if-stands.false,
-  done-leaves _ _ _,
-)
+returns c =
+    (
+      variant-done _ _ _ _ _ (there (goal.at.returns c).Else-not-fits) c.if-lengths-at.false (room (goal.at.returns c).Else-not-fits) _ c.stands.ensures
+          c.if-stands.false,
+      done-leaves _ _ _,
+    )

@@ -7,14 +7,14 @@ use Rattle.layout.proofs.repetition.repeated.Goals as goal
 use Rattle.layout.proofs.repetition.repeated.Goals.{After-stands, At-loop-place}
 
 -- the variant has room at `at`
-room : (c : At-loop-place)
+room : ((goal.at.At-loop-place c).At-loop-place : At-loop-place)
     → c.args.at + 2 + length c.args.variant.now ≤ length c.args.stretch.now
-room c = omega arith
+room (goal.at.At-loop-place c).At-loop-place = omega arith
 
 -- what was compared
-compared : (c : After-stands)
+compared : ((goal.at.After-stands c).After-stands : After-stands)
     → alike c.args.variant.now (letters_at c.args.stretch.now c.loop-place.place) ≡ c.stands.result
-compared c =
+compared (goal.at.After-stands c).After-stands =
     let place = c.loop-place.place in
     ap (λ (n : ℕ). alike c.args.variant.now (take n (drop (place + 2) c.args.stretch.now))) (sym c.pair-letters.ensures.0)
     ∙ sym c.stands.ensures
@@ -34,8 +34,8 @@ loop-place-init c = (_, refl, omega arith)
 pub returns-then-stands : goal.returns-then-stands
 returns-then-stands c =
     let q = c.loop-place.invariant in
-    let found = before-found _ _ _ _ _ q.2 c.loop-place-test.true (compared c.before ∙ c.if-stands.true) in
-    sym (repeats-room _ _ _ _ (room c.before.before.before.before) ∙ q.1 ∙ found)
+    let found = before-found _ _ _ _ _ q.2 c.loop-place-test.true (compared (goal.at.returns-then-stands c).After-stands ∙ c.if-stands.true) in
+    sym (repeats-room _ _ _ _ (room (goal.at.returns-then-stands c).At-loop-place) ∙ q.1 ∙ found)
 
 pub overflow_add-place : goal.overflow_add-place
 overflow_add-place c = omega (arith, c.pair-letters.ensures.1)
@@ -43,10 +43,10 @@ overflow_add-place c = omega (arith, c.pair-letters.ensures.1)
 pub loop-place-preserved : goal.loop-place-preserved
 loop-place-preserved c =
     let q = c.loop-place.invariant in
-    let other = before-other _ _ _ _ _ q.2 c.loop-place-test.true (compared c.before ∙ c.if-stands.false) in
+    let other = before-other _ _ _ _ _ q.2 c.loop-place-test.true (compared (goal.at.loop-place-preserved c).After-stands ∙ c.if-stands.false) in
     rw c.pair-letters.ensures.0 (_, q.1 ∙ other, omega arith)
 
 pub returns : goal.returns
 returns c =
     let q = c.loop-place.invariant in
-    sym (repeats-room _ _ _ _ (room c.before) ∙ q.1 ∙ before-none _ _ _ _ _ c.loop-place-test.false)
+    sym (repeats-room _ _ _ _ (room (goal.at.returns c).At-loop-place) ∙ q.1 ∙ before-none _ _ _ _ _ c.loop-place-test.false)

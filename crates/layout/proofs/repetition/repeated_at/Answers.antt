@@ -7,25 +7,25 @@ use Rattle.layout.proofs.repetition.repeated_at.Goals as goal
 use Rattle.layout.proofs.repetition.repeated_at.Goals.{In-At-2}
 
 -- where the letters stand
-found : (c : In-At-2)
+found : ((goal.at.In-At-2 c).In-At-2 : In-At-2)
     → Whole
     c.args.stretch.now
     c.args.at
     c.in-At.start
     c.in-At.next
-found c = head-is _ _ _ _ (sym c.head.ensures ∙ ap told_part c.in-At.is)
+found (goal.at.In-At-2 c).In-At-2 = head-is _ _ _ _ (sym c.head.ensures ∙ ap told_part c.in-At.is)
 
 pub slice_bounds-repeated-count : goal.slice_bounds-repeated-count
-slice_bounds-repeated-count c = let w = found c.before in omega (arith, w.starts, w.ends)
+slice_bounds-repeated-count c = let w = found (goal.at.slice_bounds-repeated-count c).In-At-2 in omega (arith, w.starts, w.ends)
 
 pub slice_bounds-repeated-start : goal.slice_bounds-repeated-start
-slice_bounds-repeated-start c = let w = found c.before in omega (arith, w.starts, w.ends)
+slice_bounds-repeated-start c = let w = found (goal.at.slice_bounds-repeated-start c).In-At-2 in omega (arith, w.starts, w.ends)
 
 pub slice_bounds-repeated-end : goal.slice_bounds-repeated-end
-slice_bounds-repeated-end c = let w = found c.before in omega (arith, w.ends, w.inside)
+slice_bounds-repeated-end c = let w = found (goal.at.slice_bounds-repeated-end c).In-At-2 in omega (arith, w.ends, w.inside)
 
 pub returns-in-Refused : goal.returns-in-Refused
 returns-in-Refused c = sym (repeats-at-cut _ _ _ (head-not _ _ _ _ (sym c.head.ensures ∙ ap told_part c.in-Refused.is)))
 
 pub returns-in-At : goal.returns-in-At
-returns-in-At c = c.repeated.ensures ∙ repeats-at-whole _ _ _ _ _ (found c.before.before.before)
+returns-in-At c = c.repeated.ensures ∙ repeats-at-whole _ _ _ _ _ (found (goal.at.returns-in-At c).In-At-2)

@@ -10,8 +10,8 @@ use Rattle.layout.proofs.Overs.{emitted-length, Copied, copied_none, copied-room
 use Rattle.layout.proofs.variant.put_variant.Goals as goal
 use Rattle.layout.proofs.variant.put_variant.Goals.{Else-not-has_room}
 
-room : (c : Else-not-has_room) → Sₚc.args.at + 2 + length Sₚc.args.variant.now ≤ length Sₚc.args.out.now
-room c =
+room : ((goal.at.Else-not-has_room c).Else-not-has_room : Else-not-has_room) → Sₚc.args.at + 2 + length Sₚc.args.variant.now ≤ length Sₚc.args.out.now
+room (goal.at.Else-not-has_room c).Else-not-has_room =
     let a = Sₚc.args in
     let h : a.at + (2 + length a.variant.now) ≤ length a.out.now =
     leb-true _ _ (sym c.has_room.ensures ∙ not-false _ c.if-not-has_room.false-raw) in
@@ -24,19 +24,19 @@ returns-then-not-has_room c =
     (rw size (sym c.has_room.ensures ∙ not-true _ c.if-not-has_room.true-raw))
 
 pub overflow_add-start : goal.overflow_add-start
-overflow_add-start c = omega (arith, room c.before.before.before.before)
+overflow_add-start c = omega (arith, room (goal.at.overflow_add-start c).Else-not-has_room)
 
 pub loop-i-init : goal.loop-i-init
 loop-i-init c =
     let v = Sₚe.args.variant.now in
-    copied_none _ _ (meant v) (rw (meant-length v) (omega (arith, room c.before.before.before.before, c.put_word.auto.1.0)))
+    copied_none _ _ (meant v) (rw (meant-length v) (omega (arith, room (goal.at.loop-i-init c).Else-not-has_room, c.put_word.auto.1.0)))
 
 pub bounds-out-start : goal.bounds-out-start
 bounds-out-start c = copied-room c.loop-i.invariant (rw meant-length c.loop-i-test.true)
 
 pub loop-i-preserved : goal.loop-i-preserved
 loop-i-preserved c =
-    let v = (S c.before.before.before.before.before.before.before.before).args.variant.now in
+    let v = (S (goal.at.loop-i-preserved c).Else-not-has_room).args.variant.now in
     rw (c.raise.ensures, ← meant-at v c.loop-i.i)
     (copied_more c.loop-i.invariant (rw (meant-length v) c.loop-i-test.true))
 
@@ -49,7 +49,7 @@ returns c =
     let a = Sₚe.args in
     let v = meant a.variant.now in
     let n = meant-length a.variant.now in
-    let fits : a.at + 2 + length v ≤ length a.out.now = rw n (room c.before.before.before.before.before.before) in
+    let fits : a.at + 2 + length v ≤ length a.out.now = rw n (room (goal.at.returns c).Else-not-has_room) in
     let two : a.at + 2 ≤ length a.out.now = omega (arith, fits) in
     let word = c.put_word.ensures ∙ put-over a.out.now a.at _ two ∙ ap (λ m. over a.out.now a.at (word_bytes m)) (sym n) in
     variant-over _ a.at v fits word (copied-end c.loop-i.invariant (rw n c.loop-i-test.false))

@@ -4,6 +4,7 @@ use lib.ListN.{length-take}
 use borrow.Author.Rules.{rules}
 use Rattle.lines.proofs.Answering.{answered-refused, answered-long, answered-marked, lines-put}
 use Rattle.lines.proofs.answer.screened.Goals as goal
+use Rattle.lines.proofs.answer.screened.Goals.{In-Marked}
 
 pub slice_bounds-marks-end : goal.slice_bounds-marks-end
 slice_bounds-marks-end c =
@@ -11,7 +12,7 @@ slice_bounds-marks-end c =
     c.search_on.ensures.1 _ _ _ c.in-Marked.is
 
 pub slice_bounds-put_text-end : goal.slice_bounds-put_text-end
-slice_bounds-put_text-end c = simp length-take (omega (arith, array-share-prefix-marks c.before))
+slice_bounds-put_text-end c = simp length-take (omega (arith, array-share-prefix-marks (goal.at.slice_bounds-put_text-end c).In-Marked))
 
 pub returns-in-Refused : goal.returns-in-Refused
 returns-in-Refused c =

@@ -9,17 +9,17 @@ use Rattle.search.proofs.both.enter_both.Goals as goal
 use Rattle.search.proofs.both.enter_both.Goals.{In_default}
 
 -- nothing is wrong of the strand as given
-entry : (c : In_default)
+entry : ((goal.at.In_default c).In_default : In_default)
     → Entered c.args.pattern.now c.args.state.given c.args.bytes.now
-entry c = entered _ _ _ (sym c.enter.ensures ∙ ap told_verdict c.in_default.is)
+entry (goal.at.In_default c).In_default = entered _ _ _ (sym c.enter.ensures ∙ ap told_verdict c.in_default.is)
 
 pub returns-in-Refused : goal.returns-in-Refused
 returns-in-Refused c = sym (both-refused _ _ _ _ _ _ (sym c.enter.ensures ∙ ap told_verdict c.in-Refused.is) _)
 
 pub returns-then-not-is_state : goal.returns-then-not-is_state
 returns-then-not-is_state c =
-    sym (both-wrong _ _ _ _ (entry c.before.before) (sym c.is_state.ensures ∙ not-true _ c.if-not-is_state.true-raw) _)
+    sym (both-wrong _ _ _ _ (entry (goal.at.returns-then-not-is_state c).In_default) (sym c.is_state.ensures ∙ not-true _ c.if-not-is_state.true-raw) _)
 
 pub returns : goal.returns
 returns c =
-    sym (both-sound _ _ _ _ (entry c.before.before) (sym c.is_state.ensures ∙ not-false _ c.if-not-is_state.false-raw) _)
+    sym (both-sound _ _ _ _ (entry (goal.at.returns c).In_default) (sym c.is_state.ensures ∙ not-false _ c.if-not-is_state.false-raw) _)

@@ -10,8 +10,8 @@ use Rattle.search.proofs.entry.enter.Goals as goal
 use Rattle.search.proofs.entry.enter.Goals.{In_default}
 
 -- the pattern was found sound
-sound : (c : In_default) → SoundPattern c.args.pattern.now
-sound c = pattern-sound _ (sym c.check.ensures ∙ ap told_verdict c.in_default.is)
+sound : ((goal.at.In_default c).In_default : In_default) → SoundPattern c.args.pattern.now
+sound (goal.at.In_default c).In_default = pattern-sound _ (sym c.check.ensures ∙ ap told_verdict c.in_default.is)
 
 pub returns-in-Refused : goal.returns-in-Refused
 returns-in-Refused c =
@@ -19,15 +19,15 @@ returns-in-Refused c =
 
 pub returns-in-Refused-fits : goal.returns-in-Refused-fits
 returns-in-Refused-fits c =
-    sym (entering-long _ _ _ (sound c.before.before.before.before) c.fits.ensures c.in-Refused-fits.is _)
+    sym (entering-long _ _ _ (sound (goal.at.returns-in-Refused-fits c).In_default) c.fits.ensures c.in-Refused-fits.is _)
 
 pub returns-then-not-is_state : goal.returns-then-not-is_state
 returns-then-not-is_state c =
     let wrong = sym c.is_state.ensures ∙ not-true _ c.if-not-is_state.true-raw in
-    sym (entering-wrong _ _ _ (sound c.before.before.before.before.before) (fits-met _ c.fits.ensures c.in_default-fits.is) wrong _)
+    sym (entering-wrong _ _ _ (sound (goal.at.returns-then-not-is_state c).In_default) (fits-met _ c.fits.ensures c.in_default-fits.is) wrong _)
 
 pub returns : goal.returns
 returns c =
     let state = sym c.is_state.ensures ∙ not-false _ c.if-not-is_state.false-raw in
     let short = fits-met _ c.fits.ensures c.in_default-fits.is in
-    sym (entering-sound _ _ _ (record { sound = sound c.before.before.before.before.before; short = short; state = state }) _)
+    sym (entering-sound _ _ _ (record { sound = sound (goal.at.returns c).In_default; short = short; state = state }) _)

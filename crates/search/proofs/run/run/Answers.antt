@@ -9,16 +9,16 @@ use Rattle.search.proofs.Searches.{Searching, searching-none, searching-state, s
 use Rattle.search.proofs.Searches.{searching-walk, searching-length, byte-mark}
 use Rattle.search.proofs.Hits.{says-refused, says-left, says-sound, says-stopped}
 use Rattle.search.proofs.run.run.Goals as goal
-use Rattle.search.proofs.run.run.Goals.{After-slice_known-1, In-loop-walked}
+use Rattle.search.proofs.run.run.Goals.{After-keep-arg-1, After-slice_known-1, In-loop-walked}
 
 -- the stretch is no longer than a number can say
-narrow : (c : After-slice_known-1) → length c.args.stretch.now < 2 ^ 64
-narrow c = omega arith
+narrow : ((goal.at.After-slice_known-1 c).After-slice_known-1 : After-slice_known-1) → length c.args.stretch.now < 2 ^ 64
+narrow (goal.at.After-slice_known-1 c).After-slice_known-1 = omega arith
 
 -- a segment is left
-ahead : (c : In-loop-walked)
+ahead : ((goal.at.In-loop-walked c).In-loop-walked : In-loop-walked)
     → c.loop-walked.walked.passed < c.args.walk.count
-ahead c = omega (arith, c.loop-walked-test.true, c.loop-walked.invariant.0.walk.go.count)
+ahead (goal.at.In-loop-walked c).In-loop-walked = omega (arith, c.loop-walked-test.true, c.loop-walked.invariant.0.walk.go.count)
 
 pub loop-walked-init : goal.loop-walked-init
 loop-walked-init c = (searching-none _ _ _ _ _ _ c.requires.1.0.0, refl)
@@ -34,50 +34,50 @@ shape_of-marks-in-Refused c = c.loop-walked.invariant.1
 pub returns-in-Refused : goal.returns-in-Refused
 returns-in-Refused c =
     let wrong = sym c.over.ensures ∙ ap told_passed c.in-Refused.is in
-    says-refused c.loop-walked.invariant.0 c.requires.1.0.1 (ahead c.before.before.before.before) _ wrong
+    says-refused c.loop-walked.invariant.0 c.requires.1.0.1 (ahead (goal.at.returns-in-Refused c).In-loop-walked) _ wrong
 
 pub keep-requires : goal.keep-requires
 keep-requires c =
     let on = sym c.over.ensures ∙ ap told_passed c.in-To.is in
     let room = c.requires.1.1 kept in
-    searching-room c.loop-walked.invariant.0 on (ahead c.before.before.before.before.before) (omega (arith, room, c.loop-walked.invariant.1))
+    searching-room c.loop-walked.invariant.0 on (ahead (goal.at.keep-requires c).In-loop-walked) (omega (arith, room, c.loop-walked.invariant.1))
 
 pub overflow_add-ends : goal.overflow_add-ends
 overflow_add-ends c =
     let on = sym c.over.ensures ∙ ap told_passed c.in-To.is in
-    let w = searching-walk c.loop-walked.invariant.0 on (ahead c.before.before.before.before.before.before.before.before.before) _ (byte-mark c.in-To.hit)
-    (keep-requires c.before.before.before.before c.keep.lifetimes) _ c.keep.ensures (narrow c.before.before.before.before.before.before.before.before.before.before.before.before) c.past-walked.ensures in
+    let w = searching-walk c.loop-walked.invariant.0 on (ahead (goal.at.overflow_add-ends c).In-loop-walked) _ (byte-mark c.in-To.hit)
+    (keep-requires (goal.at.overflow_add-ends c).After-keep-arg-1 c.keep.lifetimes) _ c.keep.ensures (narrow (goal.at.overflow_add-ends c).After-slice_known-1) c.past-walked.ensures in
     omega (arith, w.few)
 
 pub shape_of-marks-then-stop-hit : goal.shape_of-marks-then-stop-hit
 shape_of-marks-then-stop-hit c =
     let on = sym c.over.ensures ∙ ap told_passed c.in-To.is in
-    searching-length c.loop-walked.invariant.0 on (ahead c.before.before.before.before.before.before.before.before.before.before) _ (byte-mark c.in-To.hit)
-    (keep-requires c.before.before.before.before.before c.keep.lifetimes) _ c.keep.ensures ∙ c.loop-walked.invariant.1
+    searching-length c.loop-walked.invariant.0 on (ahead (goal.at.shape_of-marks-then-stop-hit c).In-loop-walked) _ (byte-mark c.in-To.hit)
+    (keep-requires (goal.at.shape_of-marks-then-stop-hit c).After-keep-arg-1 c.keep.lifetimes) _ c.keep.ensures ∙ c.loop-walked.invariant.1
 
 pub returns-then-stop-hit : goal.returns-then-stop-hit
 returns-then-stop-hit c =
     let on = sym c.over.ensures ∙ ap told_passed c.in-To.is in
     let is = byte-mark c.in-To.hit in
-    let kept = keep-requires c.before.before.before.before.before c.keep.lifetimes in
-    let w = searching-walk c.loop-walked.invariant.0 on (ahead c.before.before.before.before.before.before.before.before.before.before) _ is kept _ c.keep.ensures (narrow c.before.before.before.before.before.before.before.before.before.before.before.before.before)
+    let kept = keep-requires (goal.at.returns-then-stop-hit c).After-keep-arg-1 c.keep.lifetimes in
+    let w = searching-walk c.loop-walked.invariant.0 on (ahead (goal.at.returns-then-stop-hit c).In-loop-walked) _ is kept _ c.keep.ensures (narrow (goal.at.returns-then-stop-hit c).After-slice_known-1)
     c.past-walked.ensures in
-    let z = searching-stopped c.loop-walked.invariant.0 on (ahead c.before.before.before.before.before.before.before.before.before.before) _ is kept _ c.keep.ensures (narrow c.before.before.before.before.before.before.before.before.before.before.before.before.before)
+    let z = searching-stopped c.loop-walked.invariant.0 on (ahead (goal.at.returns-then-stop-hit c).In-loop-walked) _ is kept _ c.keep.ensures (narrow (goal.at.returns-then-stop-hit c).After-slice_known-1)
     c.past-walked.ensures c.requires.1.0.1 c.if-stop-hit.true in
     says-stopped _ _ _ _ _ _ _ c.loop-walked.walked.passed _ _ _ _ z.0 z.1 w.few z.2 z.3
 
 pub loop-walked-smaller : goal.loop-walked-smaller
 loop-walked-smaller c =
-    going_less c.loop-walked.invariant.0.walk.go (ahead c.before.before.before.before.before.before.before.before.before.before) (narrow c.before.before.before.before.before.before.before.before.before.before.before.before.before) _ _ c.past-walked.ensures
+    going_less c.loop-walked.invariant.0.walk.go (ahead (goal.at.loop-walked-smaller c).In-loop-walked) (narrow (goal.at.loop-walked-smaller c).After-slice_known-1) _ _ c.past-walked.ensures
 
 pub loop-walked-preserved : goal.loop-walked-preserved
 loop-walked-preserved c =
     let on = sym c.over.ensures ∙ ap told_passed c.in-To.is in
     let is = byte-mark c.in-To.hit in
-    let kept = keep-requires c.before.before.before.before.before c.keep.lifetimes in (
-      searching-more c.loop-walked.invariant.0 on (ahead c.before.before.before.before.before.before.before.before.before.before) _ is kept _ c.keep.ensures (narrow c.before.before.before.before.before.before.before.before.before.before.before.before.before)
+    let kept = keep-requires (goal.at.loop-walked-preserved c).After-keep-arg-1 c.keep.lifetimes in (
+      searching-more c.loop-walked.invariant.0 on (ahead (goal.at.loop-walked-preserved c).In-loop-walked) _ is kept _ c.keep.ensures (narrow (goal.at.loop-walked-preserved c).After-slice_known-1)
           c.past-walked.ensures c.if-stop-hit.false,
-      searching-length c.loop-walked.invariant.0 on (ahead c.before.before.before.before.before.before.before.before.before.before) _ is kept _ c.keep.ensures ∙ c.loop-walked.invariant.1,
+      searching-length c.loop-walked.invariant.0 on (ahead (goal.at.loop-walked-preserved c).In-loop-walked) _ is kept _ c.keep.ensures ∙ c.loop-walked.invariant.1,
     )
 
 pub shape_of-marks-in-Refused-end : goal.shape_of-marks-in-Refused-end

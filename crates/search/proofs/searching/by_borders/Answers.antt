@@ -11,22 +11,22 @@ use Rattle.search.proofs.searching.by_borders.Goals as goal
 use Rattle.search.proofs.searching.by_borders.Goals.{In-Sound}
 
 -- nothing is wrong before the stretch is read
-entry : (c : In-Sound)
+entry : ((goal.at.In-Sound c).In-Sound : In-Sound)
     → Entered c.args.pattern.now 1 c.args.stretch.now
-entry c = entered _ _ _ (sym c.enter.ensures ∙ ap told_verdict c.in-Sound.is)
+entry (goal.at.In-Sound c).In-Sound = entered _ _ _ (sym c.enter.ensures ∙ ap told_verdict c.in-Sound.is)
 
 pub slice_bounds-bytes-end : goal.slice_bounds-bytes-end
-slice_bounds-bytes-end c = read-room _ _ _ c.read_on-bytes.ensures (entry c.before).sound
+slice_bounds-bytes-end c = read-room _ _ _ c.read_on-bytes.ensures (entry (goal.at.slice_bounds-bytes-end c).In-Sound).sound
 
 pub slice_bounds-read-end : goal.slice_bounds-read-end
-slice_bounds-read-end c = read_length _ _ _ c.read_on-bytes.ensures (entry c.before.before).sound
+slice_bounds-read-end c = read_length _ _ _ c.read_on-bytes.ensures (entry (goal.at.slice_bounds-read-end c).In-Sound).sound
 
 pub border_table-table-requires : goal.border_table-table-requires
-border_table-table-requires c = read-sized _ _ _ c.read_on-bytes.ensures (entry c.before.before).sound
+border_table-table-requires c = read-sized _ _ _ c.read_on-bytes.ensures (entry (goal.at.border_table-table-requires c).In-Sound).sound
 
 pub mark-sought-requires : goal.mark-sought-requires
 mark-sought-requires c =
-    let y = entry c.before.before.before.before.before in
+    let y = entry (goal.at.mark-sought-requires c).In-Sound in
     let z = read-sized _ _ _ c.read_on-bytes.ensures y.sound in (
       record { some = z.some; short = z.short; bases = z.bases; holds = c.border_table-table.ensures },
       read-state _ _ _ c.read_on-bytes.ensures y.sound _ y.state,
@@ -41,7 +41,7 @@ returns-in-Refused c =
 
 pub returns-in-Sound : goal.returns-in-Sound
 returns-in-Sound c =
-    let y = entry c.before.before.before.before.before.before.before.before.before in
+    let y = entry (goal.at.returns-in-Sound c).In-Sound in
     let read = read_is c.args.strand _ _ c.read_on-bytes.ensures y.sound in
     fresh-marked c.args.pattern.now _ c.args.stretch.now c.args.marks.now _ _ _
     (seek-sound c.args.pattern.now _ _ c.args.stretch.now c.args.marks.now y _ read _ _ c.mark-sought.ensures) c.summed.ensures

@@ -11,28 +11,28 @@ use Rattle.stretch.proofs.places.behind_variants.Goals as goal
 use Rattle.stretch.proofs.places.behind_variants.Goals.{After-word_at-letters, In-loop-i}
 
 -- the variant at the loop's place lies in the bytes
-fits : (c : In-loop-i) →
+fits : ((goal.at.In-loop-i c).In-loop-i : In-loop-i) →
     next_of c.args.stretch.now c.loop-i.at ≤ length c.args.stretch.now
-fits c =
+fits (goal.at.In-loop-i c).In-loop-i =
     stepping-fits _ (behind-grows c.args.stretch.now) _ _ _ _ _ c.loop-i.invariant c.loop-i-test.true c.requires
 
 -- so its length is there
-length-is : (c : After-word_at-letters) →
+length-is : ((goal.at.After-word_at-letters c).After-word_at-letters : After-word_at-letters) →
     c.word_at-letters.result ≡ word c.args.stretch.now c.loop-i.at
-length-is c = let l = fits c.before in c.word_at-letters.ensures.0 ∙ word-there _ _ (omega (arith, l))
+length-is (goal.at.After-word_at-letters c).After-word_at-letters = let l = fits (goal.at.After-word_at-letters c).In-loop-i in c.word_at-letters.ensures.0 ∙ word-there _ _ (omega (arith, l))
 
 pub loop-i-init : goal.loop-i-init
 loop-i-init c = stepping-none _ _ _
 
 pub overflow_add-at : goal.overflow_add-at
-overflow_add-at c = omega (arith, fits c.before)
+overflow_add-at c = omega (arith, fits (goal.at.overflow_add-at c).In-loop-i)
 
 pub overflow_add-at-in-loop-i : goal.overflow_add-at-in-loop-i
-overflow_add-at-in-loop-i c = omega (arith, fits c.before, length-is c)
+overflow_add-at-in-loop-i c = omega (arith, fits (goal.at.overflow_add-at-in-loop-i c).In-loop-i, length-is (goal.at.overflow_add-at-in-loop-i c).After-word_at-letters)
 
 pub loop-i-preserved : goal.loop-i-preserved
 loop-i-preserved c =
-    rw (length-is c) (stepping-more _ _ _ _ _ c.loop-i.invariant c.loop-i-test.true)
+    rw (length-is (goal.at.loop-i-preserved c).After-word_at-letters) (stepping-more _ _ _ _ _ c.loop-i.invariant c.loop-i-test.true)
 
 pub returns : goal.returns
 returns c = stepping-end _ _ _ _ _ c.loop-i.invariant c.loop-i-test.false

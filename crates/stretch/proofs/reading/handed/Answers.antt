@@ -11,9 +11,9 @@ use Rattle.stretch.proofs.reading.handed.Goals as goal
 use Rattle.stretch.proofs.reading.handed.Goals.{After-word_at}
 
 -- the variant's length is there
-word-is : (c : After-word_at) →
+word-is : ((goal.at.After-word_at c).After-word_at : After-word_at) →
     c.word_at.result ≡ word c.args.stretch.now c.behind_variants-place.result
-word-is c =
+word-is (goal.at.After-word_at c).After-word_at =
     let l = c.requires.0 in
     let there : c.behind_variants-place.result + 2 ≤ length c.args.stretch.now =
     omega (arith, l, c.behind_variants-place.ensures) in
@@ -24,4 +24,4 @@ overflow_add-at c =
     omega (arith, variants-grow c.args.stretch.now c.args.variant (c.args.at + 1))
 
 pub returns : goal.returns
-returns c = rw (word-is c, c.behind_variants-place.ensures)
+returns c = rw (word-is (goal.at.returns c).After-word_at, c.behind_variants-place.ensures)

@@ -17,58 +17,58 @@ use Rattle.vcf.proofs.measuring.measure.Goals as goal
 use Rattle.vcf.proofs.measuring.measure.Goals.{After-field-reference, After-first_wrong-wrong, After-is_placed, After-position-place, After-record, After-sound, Else-not-is_placed, Else-sound-eq0}
 
 abbrev L : After-field-reference → List ℕ
-L f = f.args.line.now
+L (goal.at.After-field-reference f).After-field-reference = f.args.line.now
 
 abbrev N : After-field-reference → List ℕ
-N f = f.args.name.now
+N (goal.at.After-field-reference f).After-field-reference = f.args.name.now
 
 -- what is asked is asked of its fields
-place : (c : After-position-place) → c.position-place.result ≡ position (L c.before.before)
-place c = c.position-place.ensures ∙ ap position_of c.field-stated.ensures
+place : ((goal.at.After-position-place c).After-position-place : After-position-place) → c.position-place.result ≡ position (L (goal.at.After-position-place c).After-field-reference)
+place (goal.at.After-position-place c).After-position-place = c.position-place.ensures ∙ ap position_of c.field-stated.ensures
 
-placing : (c : After-is_placed) → c.is_placed.result ≡ placed (field (L Fₚc) 3) (position (L Fₚc))
-placing c = c.is_placed.ensures ∙ ap₂ placed Fₚc.field.ensures (place c.before)
+placing : ((goal.at.After-is_placed c).After-is_placed : After-is_placed) → c.is_placed.result ≡ placed (field (L Fₚc) 3) (position (L Fₚc))
+placing (goal.at.After-is_placed c).After-is_placed = c.is_placed.ensures ∙ ap₂ placed Fₚc.field.ensures (place (goal.at.After-is_placed c).After-position-place)
 
-size : (f : After-field-reference) → length f.field-reference.result.now ≡ length (field (L f) 3)
-size f = ap length f.field-reference.ensures
+size : ((goal.at.After-field-reference f).After-field-reference : After-field-reference) → length f.field-reference.result.now ≡ length (field (L (goal.at.After-field-reference f).After-field-reference) 3)
+size (goal.at.After-field-reference f).After-field-reference = ap length f.field-reference.ensures
 
-wrong : (c : After-first_wrong-wrong) → c.first_wrong-wrong.result ≡ first_not letter (field (L (F c.before.before)) 3)
-wrong c = c.first_wrong-wrong.ensures ∙ ap (first_not letter) (F c.before.before).field.ensures
+wrong : ((goal.at.After-first_wrong-wrong c).After-first_wrong-wrong : After-first_wrong-wrong) → c.first_wrong-wrong.result ≡ first_not letter (field (L (F (goal.at.After-first_wrong-wrong c).After-is_placed)) 3)
+wrong (goal.at.After-first_wrong-wrong c).After-first_wrong-wrong = c.first_wrong-wrong.ensures ∙ ap (first_not letter) (F (goal.at.After-first_wrong-wrong c).After-is_placed).field.ensures
 
 -- what the tests that were passed say
-put : (e : Else-not-is_placed) → placed (field (L (F e.before)) 3) (position (L (F e.before))) ≡ true
-put e = sym (placing e.before) ∙ not-false _ e.if-not-is_placed.false-raw
+put : ((goal.at.Else-not-is_placed e).Else-not-is_placed : Else-not-is_placed) → placed (field (L (F (goal.at.Else-not-is_placed e).After-is_placed)) 3) (position (L (F (goal.at.Else-not-is_placed e).After-is_placed))) ≡ true
+put (goal.at.Else-not-is_placed e).Else-not-is_placed = sym (placing (goal.at.Else-not-is_placed e).After-is_placed) ∙ not-false _ e.if-not-is_placed.false-raw
 
-spelt : (s : After-sound) → length (field (L FSₚs) 3) ≤ s.first_wrong-wrong.result
-spelt s = rw (size FSₚs) at s.if-wrong-bases.false
+spelt : ((goal.at.After-sound s).After-sound : After-sound) → length (field (L FSₚs) 3) ≤ s.first_wrong-wrong.result
+spelt (goal.at.After-sound s).After-sound = rw (size FSₚs) at s.if-wrong-bases.false
 
-sound : (e : Else-sound-eq0) → is_record (N (FS e.before)) (L (FS e.before)) ≡ true
-sound e = sounds (is_record _ _) (position (L (FS e.before))) e.sound.ensures e.if-sound-eq0.false
+sound : ((goal.at.Else-sound-eq0 e).Else-sound-eq0 : Else-sound-eq0) → is_record (N (FS (goal.at.Else-sound-eq0 e).After-sound)) (L (FS (goal.at.Else-sound-eq0 e).After-sound)) ≡ true
+sound (goal.at.Else-sound-eq0 e).Else-sound-eq0 = sounds (is_record _ _) (position (L (FS (goal.at.Else-sound-eq0 e).After-sound))) e.sound.ensures e.if-sound-eq0.false
 
 needed :
-    (r : After-record) →
-    r.«record».result
+    ((goal.at.After-record r).After-record : After-record) →
+    (goal.at.After-record r).After-record.«record».result
     ≡ tally_in (opened nothing) [] (meant (field (L FSₚSₚr) 3) ∷ alternates (meant (field (L FSₚSₚr) 4)))
-needed r =
+needed (goal.at.After-record r).After-record =
     let ref = FSₚSₚr.field in
     let alt = r.field-alt in
-    r.«record».ensures
+    (goal.at.After-record r).After-record.«record».ensures
     ∙ ap (λ (t : Needed). tally_in (opened t) [] (meant ref.result.now ∷ alternates (meant alt.result.now))) r.nothing-nothing.ensures
     ∙ ap₂ (λ (a b : List ℕ). tally_in (opened nothing) [] (meant a ∷ alternates (meant b))) ref.ensures alt.ensures
 
 pub returns-then-not-is_placed : goal.returns-then-not-is_placed
-returns-then-not-is_placed c = c.refused.ensures ∙ measure-place _ _ (sym (placing c.before.before) ∙ not-true _ c.if-not-is_placed.true-raw)
+returns-then-not-is_placed c = c.refused.ensures ∙ measure-place _ _ (sym (placing (goal.at.returns-then-not-is_placed c).After-is_placed) ∙ not-true _ c.if-not-is_placed.true-raw)
 
 pub returns-then-wrong-bases : goal.returns-then-wrong-bases
 returns-then-wrong-bases c =
     c.refused-then-wrong-bases.ensures
-    ∙ measure-letter _ _ (put c.before.before.before) (wrong c.before.before) (rw (size (F c.before.before.before.before)) at c.if-wrong-bases.true)
+    ∙ measure-letter _ _ (put (goal.at.returns-then-wrong-bases c).Else-not-is_placed) (wrong (goal.at.returns-then-wrong-bases c).After-first_wrong-wrong) (rw (size (F (goal.at.returns-then-wrong-bases c).After-is_placed)) at c.if-wrong-bases.true)
 
 pub returns-then-sound-eq0 : goal.returns-then-sound-eq0
 returns-then-sound-eq0 c =
     let p = put E1ₚs in
     c.refused-then-sound-eq0.ensures
-    ∙ measure-unsound _ _ p (wrong c.before.before.before.before) (spelt c.before.before)
+    ∙ measure-unsound _ _ p (wrong (goal.at.returns-then-sound-eq0 c).After-first_wrong-wrong) (spelt (goal.at.returns-then-sound-eq0 c).After-sound)
     (unsound (is_record _ _) (position (L FSₚs)) c.sound.ensures (placed-some _ _ p) c.if-sound-eq0.true)
 
 pub record-requires : goal.record-requires
@@ -76,21 +76,21 @@ record-requires c = rw c.nothing-nothing.ensures sane-nothing
 
 pub overflow_sub-segment : goal.overflow_sub-segment
 overflow_sub-segment c =
-    measure-some _ _ (put E1ₚs) (wrong c.before.before.before.before.before.before.before.before.before) (spelt c.before.before.before.before.before.before.before) (sound c.before.before.before.before.before.before) (needed c.before.before.before) c.in-Fits.is
+    measure-some _ _ (put E1ₚs) (wrong (goal.at.overflow_sub-segment c).After-first_wrong-wrong) (spelt (goal.at.overflow_sub-segment c).After-sound) (sound (goal.at.overflow_sub-segment c).Else-sound-eq0) (needed (goal.at.overflow_sub-segment c).After-record) c.in-Fits.is
 
 pub returns-in-Long : goal.returns-in-Long
 returns-in-Long c =
     c.refused-in-Long.ensures
-    ∙ measure-long _ _ (put E1ₚs) (wrong c.before.before.before.before.before.before.before.before.before) (spelt c.before.before.before.before.before.before.before) (sound c.before.before.before.before.before.before) (needed c.before.before.before)
+    ∙ measure-long _ _ (put E1ₚs) (wrong (goal.at.returns-in-Long c).After-first_wrong-wrong) (spelt (goal.at.returns-in-Long c).After-sound) (sound (goal.at.returns-in-Long c).Else-sound-eq0) (needed (goal.at.returns-in-Long c).After-record)
     c.in-Long.is
 
 pub returns-in-Repeated : goal.returns-in-Repeated
 returns-in-Repeated c =
     c.refused-in-Repeated.ensures
-    ∙ measure-repeated _ _ (put E1ₚs) (wrong c.before.before.before.before.before.before.before.before.before.before) (spelt c.before.before.before.before.before.before.before.before) (sound c.before.before.before.before.before.before.before) (needed c.before.before.before.before)
+    ∙ measure-repeated _ _ (put E1ₚs) (wrong (goal.at.returns-in-Repeated c).After-first_wrong-wrong) (spelt (goal.at.returns-in-Repeated c).After-sound) (sound (goal.at.returns-in-Repeated c).Else-sound-eq0) (needed (goal.at.returns-in-Repeated c).After-record)
     c.in-Repeated.is
 
 pub returns-in-Fits : goal.returns-in-Fits
 returns-in-Fits c =
-    measure-fits _ _ (put E1ₚs) (wrong c.before.before.before.before.before.before.before.before.before) (spelt c.before.before.before.before.before.before.before) (sound c.before.before.before.before.before.before) (needed c.before.before.before)
+    measure-fits _ _ (put E1ₚs) (wrong (goal.at.returns-in-Fits c).After-first_wrong-wrong) (spelt (goal.at.returns-in-Fits c).After-sound) (sound (goal.at.returns-in-Fits c).Else-sound-eq0) (needed (goal.at.returns-in-Fits c).After-record)
     c.in-Fits.is (place E1ₚs.before.before) (size FSₚs)

@@ -8,21 +8,21 @@ use Rattle.vcf.proofs.Emitting.{Alleles, alleles-none, alleles-room, alleles-kep
 use Rattle.vcf.proofs.put.put_alleles.Goals as goal
 use Rattle.vcf.proofs.put.put_alleles.Goals.{After-after_variant-next, After-end_of-end, After-slice_known-1}
 
-narrow : (c : After-slice_known-1) → length c.args.out.now < 18446744073709551616
-narrow c = omega arith
+narrow : ((goal.at.After-slice_known-1 c).After-slice_known-1 : After-slice_known-1) → length c.args.out.now < 18446744073709551616
+narrow (goal.at.After-slice_known-1 c).After-slice_known-1 = omega arith
 
 -- the place after the allele
-place : (c : After-after_variant-next) →
+place : ((goal.at.After-after_variant-next c).After-after_variant-next : After-after_variant-next) →
     c.after_variant-next.result ≡ after_variant Dₚc.before.loop.next (Dₚc.end_of_lem.result - Dₚc.before.loop.from)
-place c =
+place (goal.at.After-after_variant-next c).After-after_variant-next =
     let h = alleles-room c.loop-at.inv c.end_of-end.ensures in
     let k = alleles-kept c.loop-at.inv c.end_of-end.ensures in
-    omega (arith, c.after_variant-next.ensures, narrow c.before.before.before.before.before.before.before.before)
+    omega (arith, c.after_variant-next.ensures, narrow (goal.at.After-after_variant-next c).After-slice_known-1)
 
 -- fewer bytes are left after it
-ends : (d : After-end_of-end) → (d.loop-at.from ≤ d.end_of-end.result) ×
+ends : ((goal.at.After-end_of-end d).After-end_of-end : After-end_of-end) → (d.loop-at.from ≤ d.end_of-end.result) ×
     (d.end_of-end.result ≤ length d.args.alt.now)
-ends d = let e = d.end_of-end.ensures in (e.behind, omega (arith, e.inside, d.loop-at.invariant.inside))
+ends (goal.at.After-end_of-end d).After-end_of-end = let e = d.end_of-end.ensures in (e.behind, omega (arith, e.inside, d.loop-at.invariant.inside))
 
 less : (n from end : ℕ) → from ≤ end → end ≤ n → (end ≡ n → ⊥) → n - (end + 1) < n - from
 less n from end a b c = omega (arith, c)
@@ -36,14 +36,14 @@ shape_of-out-then-end-alt c =
 
 pub returns-then-end-alt : goal.returns-then-end-alt
 returns-then-end-alt c =
-    alleles-end c.loop-at.inv c.end_of-end.ensures c.put_variant.ensures (place c.before) c.if-end-alt.true
+    alleles-end c.loop-at.inv c.end_of-end.ensures c.put_variant.ensures (place (goal.at.returns-then-end-alt c).After-after_variant-next) c.if-end-alt.true
 
 pub overflow_add-from : goal.overflow_add-from
 overflow_add-from c = omega (arith, c.if-end-alt.false)
 
 pub loop-at-smaller : goal.loop-at-smaller
-loop-at-smaller c = less _ _ _ (ends c.before.before.before.before.before.before.before).0 (ends c.before.before.before.before.before.before.before).1 c.if-end-alt.false
+loop-at-smaller c = less _ _ _ (ends (goal.at.loop-at-smaller c).After-end_of-end).0 (ends (goal.at.loop-at-smaller c).After-end_of-end).1 c.if-end-alt.false
 
 pub loop-at-preserved : goal.loop-at-preserved
 loop-at-preserved c =
-    alleles-more c.loop-at.inv c.end_of-end.ensures c.put_variant.ensures (place c.before) c.if-end-alt.false
+    alleles-more c.loop-at.inv c.end_of-end.ensures c.put_variant.ensures (place (goal.at.loop-at-preserved c).After-after_variant-next) c.if-end-alt.false

@@ -14,28 +14,28 @@ use Rattle.vcf.proofs.put.put_record.Goals as goal
 use Rattle.vcf.proofs.put.put_record.Goals.{After-after_variant-next, After-count-alleles, After-slice_known-1, Else-is_none, Start}
 
 size :
-    (s : Start) →
+    ((goal.at.Start s).Start : Start) →
     length (segment_of s.args.reference.now s.args.alt.now)
     ≡ segment_bytes (length s.args.reference.now) 1 + length (alleles_of s.args.alt.now)
-size s = segment-size s.args.reference.now s.args.alt.now
+size (goal.at.Start s).Start = segment-size s.args.reference.now s.args.alt.now
 
-narrow : (c : After-slice_known-1) → length c.args.out.now < 18446744073709551616
-narrow c = omega arith
+narrow : ((goal.at.After-slice_known-1 c).After-slice_known-1 : After-slice_known-1) → length c.args.out.now < 18446744073709551616
+narrow (goal.at.After-slice_known-1 c).After-slice_known-1 = omega arith
 
 -- the place after REF
-next : (v : After-after_variant-next) → v.after_variant-next.result ≡ after_variant (Sₚv.args.at + 1) (length Sₚv.args.reference.now)
-next v = omega (arith, v.after_variant-next.ensures, size v.before.before.before.before, v.requires.1, narrow v.before)
+next : ((goal.at.After-after_variant-next v).After-after_variant-next : After-after_variant-next) → v.after_variant-next.result ≡ after_variant (Sₚv.args.at + 1) (length Sₚv.args.reference.now)
+next (goal.at.After-after_variant-next v).After-after_variant-next = omega (arith, v.after_variant-next.ensures, size (goal.at.After-after_variant-next v).Start, v.requires.1, narrow (goal.at.After-after_variant-next v).After-slice_known-1)
 
-some : (c : Else-is_none) → none (S c.before.before).args.alt.now ≡ false
-some c = sym c.is_none.ensures ∙ c.if-is_none.false
+some : ((goal.at.Else-is_none c).Else-is_none : Else-is_none) → none (S (goal.at.Else-is_none c).After-after_variant-next).args.alt.now ≡ false
+some (goal.at.Else-is_none c).Else-is_none = sym c.is_none.ensures ∙ c.if-is_none.false
 
 -- at most 255 variants
-few : (k : After-count-alleles) → 1 + k.count-alleles.result ≤ 255
-few k =
-    omega (arith, few-pieces k.args.alt.now (some k.before) k.requires.0, k.count-alleles.ensures)
+few : ((goal.at.After-count-alleles k).After-count-alleles : After-count-alleles) → 1 + k.count-alleles.result ≤ 255
+few (goal.at.After-count-alleles k).After-count-alleles =
+    omega (arith, few-pieces k.args.alt.now (some (goal.at.After-count-alleles k).Else-is_none) k.requires.0, k.count-alleles.ensures)
 
 pub overflow_add-start : goal.overflow_add-start
-overflow_add-start c = omega (arith, size c.before.before.before, c.requires.1, narrow c)
+overflow_add-start c = omega (arith, size (goal.at.overflow_add-start c).Start, c.requires.1, narrow (goal.at.overflow_add-start c).After-slice_known-1)
 
 pub shape_of-out-then-is_none : goal.shape_of-out-then-is_none
 shape_of-out-then-is_none c =
@@ -46,20 +46,20 @@ returns-then-is_none c =
     let ref = c.args.reference.now in
     let alt = c.args.alt.now in
     let n = sym c.is_none.ensures ∙ c.if-is_none.true in (
-      omega (arith, none-size ref alt n, next c.before.before.before.before.before.before.before.before.before.before),
+      omega (arith, none-size ref alt n, next (goal.at.returns-then-is_none c).After-after_variant-next),
       segment-put-none ref alt _ _ c.requires.1 _ (one_more alt n) (omega arith) _ c.put_variants.ensures _ c.put_variant.ensures n,
     )
 
 pub count-alleles-requires : goal.count-alleles-requires
-count-alleles-requires c = few-pieces c.args.alt.now (some c) c.requires.0
+count-alleles-requires c = few-pieces c.args.alt.now (some (goal.at.count-alleles-requires c).Else-is_none) c.requires.0
 
 pub overflow_add-alleles : goal.overflow_add-alleles
-overflow_add-alleles c = omega (arith, few c)
+overflow_add-alleles c = omega (arith, few (goal.at.overflow_add-alleles c).After-count-alleles)
 
 pub put_alleles-requires : goal.put_alleles-requires
 put_alleles-requires c =
-    let z = ap length (alleles-bytes c.args.alt.now (some c.before.before.before.before.before.before.before.before.before.before)) in
-    omega (arith, size c.before.before.before.before.before.before.before.before.before.before.before.before.before.before.before.before, c.requires.1, z, next c.before.before.before.before.before.before.before.before.before.before.before.before, c.put_variant-2.auto.1.0, c.put_variants-2.auto.1.0)
+    let z = ap length (alleles-bytes c.args.alt.now (some (goal.at.put_alleles-requires c).Else-is_none)) in
+    omega (arith, size (goal.at.put_alleles-requires c).Start, c.requires.1, z, next (goal.at.put_alleles-requires c).After-after_variant-next, c.put_variant-2.auto.1.0, c.put_variants-2.auto.1.0)
 
 pub shape_of-out : goal.shape_of-out
 shape_of-out c =
@@ -69,12 +69,12 @@ pub returns : goal.returns
 returns c =
     let ref = c.args.reference.now in
     let alt = c.args.alt.now in
-    let e = some c.before.before.before.before.before.before.before.before.before.before.before.before.before in
+    let e = some (goal.at.returns c).Else-is_none in
     let z = ap length (alleles-bytes alt e) in
     let w = c.put_alleles.ensures in
     let x = c.put_variant-2.new.1.0 in
-    let last = w.1 ∙ ap (over x c.after_variant-next.result) (alleles-bytes alt e) ∙ ap (λ (n : ℕ). over x n (alleles_of alt)) (next c.before.before.before.before.before.before.before.before.before.before.before.before.before.before.before) in (
-      omega (arith, size c.before.before.before.before.before.before.before.before.before.before.before.before.before.before.before.before.before.before.before, w.0, next c.before.before.before.before.before.before.before.before.before.before.before.before.before.before.before),
-      segment-put ref alt _ _ c.requires.1 _ (counted-all alt e _ c.count-alleles.ensures) (few c.before.before.before.before.before.before.before.before.before.before.before.before) _ c.put_variants-2.ensures _
+    let last = w.1 ∙ ap (over x c.after_variant-next.result) (alleles-bytes alt e) ∙ ap (λ (n : ℕ). over x n (alleles_of alt)) (next (goal.at.returns c).After-after_variant-next) in (
+      omega (arith, size (goal.at.returns c).Start, w.0, next (goal.at.returns c).After-after_variant-next),
+      segment-put ref alt _ _ c.requires.1 _ (counted-all alt e _ c.count-alleles.ensures) (few (goal.at.returns c).After-count-alleles) _ c.put_variants-2.ensures _
           c.put_variant-2.ensures _ last,
     )

@@ -16,19 +16,19 @@ use Rattle.vcf.proofs.put.put_text.Goals as goal
 use Rattle.vcf.proofs.put.put_text.Goals.{At-loop-put}
 
 abbrev W : At-loop-put → List ℕ
-W l = Sₚl.args.window.now
+W (goal.at.At-loop-put l).At-loop-put = Sₚl.args.window.now
 
 -- its bases after the last record
-within : (l : At-loop-put) → l.loop-put.put.base ≤ length (W l)
-within l = rw (meant-length (W l)) at l.loop-put.invariant.within
+within : ((goal.at.At-loop-put l).At-loop-put : At-loop-put) → l.loop-put.put.base ≤ length (W (goal.at.At-loop-put l).At-loop-put)
+within (goal.at.At-loop-put l).At-loop-put = rw (meant-length (W (goal.at.At-loop-put l).At-loop-put)) at l.loop-put.invariant.within
 
 behind :
-    (l : At-loop-put) →
+    ((goal.at.At-loop-put l).At-loop-put : At-loop-put) →
     let base = l.loop-put.put.base in
-    meant (take (length (W l) - base) (drop base (W l))) ≡ take (length (meant (W l)) - base) (drop base (meant (W l)))
-behind l =
+    meant (take (length (W (goal.at.At-loop-put l).At-loop-put) - base) (drop base (W (goal.at.At-loop-put l).At-loop-put))) ≡ take (length (meant (W (goal.at.At-loop-put l).At-loop-put)) - base) (drop base (meant (W (goal.at.At-loop-put l).At-loop-put)))
+behind (goal.at.At-loop-put l).At-loop-put =
     let base = l.loop-put.put.base in
-    part-meant (W l) base (length (W l) - base) ∙ rw (meant-length (W l))
+    part-meant (W (goal.at.At-loop-put l).At-loop-put) base (length (W (goal.at.At-loop-put l).At-loop-put) - base) ∙ rw (meant-length (W (goal.at.At-loop-put l).At-loop-put))
 
 pub loop-put-init : goal.loop-put-init
 loop-put-init c = putting-none c.requires _ c.put_segments.auto.1.0
@@ -51,14 +51,14 @@ loop-put-preserved c =
     w.0.0 w.0.1 w.0.2 w.1
 
 pub slice_bounds-put_gap-count : goal.slice_bounds-put_gap-count
-slice_bounds-put_gap-count c = within c.before.before
+slice_bounds-put_gap-count c = within (goal.at.slice_bounds-put_gap-count c).At-loop-put
 
 pub slice_bounds-put_gap-start : goal.slice_bounds-put_gap-start
-slice_bounds-put_gap-start c = omega (arith, within c.before.before)
+slice_bounds-put_gap-start c = omega (arith, within (goal.at.slice_bounds-put_gap-start c).At-loop-put)
 
 pub put_gap-requires : goal.put_gap-requires
 put_gap-requires c =
-    rw (behind c.before.before.before.before) (last-room c.loop-put.invariant c.loop-put-test.false)
+    rw (behind (goal.at.put_gap-requires c).At-loop-put) (last-room c.loop-put.invariant c.loop-put-test.false)
 
 pub shape_of-out : goal.shape_of-out
 shape_of-out c =
@@ -69,4 +69,4 @@ unfolding word_bytes
 returns c =
     putting-end c.loop-put.invariant c.loop-put-test.false _ c.requires
     (c.put_segments.ensures ∙ put-over c.args.out.now 0 _ (readable-room c.requires)) _
-    (rw (behind c.before.before.before.before.before.before.before) at c.put_gap.ensures.1)
+    (rw (behind (goal.at.returns c).At-loop-put) at c.put_gap.ensures.1)

@@ -10,17 +10,17 @@ use Rattle.watch.proofs.sight.sight.Goals as goal
 use Rattle.watch.proofs.sight.sight.Goals.{Start}
 
 -- a record holds 64 bytes, and its pattern no more
-full : (c : Start) → length c.args.item.pattern ≡ 64
-full c = search rules
+full : ((goal.at.Start c).Start : Start) → length c.args.item.pattern ≡ 64
+full (goal.at.Start c).Start = search rules
 
-short : (c : Start) → c.args.item.m ≤ 64
-short c = sound-short _ c.requires.spells
+short : ((goal.at.Start c).Start : Start) → c.args.item.m ≤ 64
+short (goal.at.Start c).Start = sound-short _ c.requires.spells
 
 pub slice_bounds-bytes-end : goal.slice_bounds-bytes-end
-slice_bounds-bytes-end c = omega (arith, full c.before.before.before, short c.before.before.before)
+slice_bounds-bytes-end c = omega (arith, full (goal.at.slice_bounds-bytes-end c).Start, short (goal.at.slice_bounds-bytes-end c).Start)
 
 pub slice_bounds-pattern-end : goal.slice_bounds-pattern-end
-slice_bounds-pattern-end c = bases-length _ _ (short c.before.before.before.before) (full c.before.before.before.before)
+slice_bounds-pattern-end c = bases-length _ _ (short (goal.at.slice_bounds-pattern-end c).Start) (full (goal.at.slice_bounds-pattern-end c).Start)
 
 pub first_end-requires : goal.first_end-requires
 first_end-requires c =

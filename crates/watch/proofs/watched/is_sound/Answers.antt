@@ -11,8 +11,8 @@ use Rattle.watch.proofs.watched.is_sound.Goals as goal
 use Rattle.watch.proofs.watched.is_sound.Goals.{Start}
 
 -- a record holds 64 bytes
-full : (c : Start) → length c.args.item.pattern ≡ 64
-full c = search rules
+full : ((goal.at.Start c).Start : Start) → length c.args.item.pattern ≡ 64
+full (goal.at.Start c).Start = search rules
 
 -- src/watched.rt:19:13
 -- src/watched.rt:21:9
@@ -21,11 +21,11 @@ returns-then-m-gt-GREATEST_PATTERN c = wrong-long _ c.if-m-gt-GREATEST_PATTERN.t
 
 -- src/watched.rt:24:17
 pub slice_bounds-bytes-end : goal.slice_bounds-bytes-end
-slice_bounds-bytes-end c = omega (arith, full c.before.before.before, c.if-m-gt-GREATEST_PATTERN.false)
+slice_bounds-bytes-end c = omega (arith, full (goal.at.slice_bounds-bytes-end c).Start, c.if-m-gt-GREATEST_PATTERN.false)
 
 -- src/watched.rt:24:17
 pub slice_bounds-check-end : goal.slice_bounds-check-end
-slice_bounds-check-end c = bases-length _ _ c.if-m-gt-GREATEST_PATTERN.false (full c.before.before.before.before)
+slice_bounds-check-end c = bases-length _ _ c.if-m-gt-GREATEST_PATTERN.false (full (goal.at.slice_bounds-check-end c).Start)
 
 -- src/watched.rt:26:34
 -- src/watched.rt:16:1

@@ -16,30 +16,30 @@ use Rattle.writer.proofs.SegmentBytes.{VariantsPut, variants-room, variants-more
 use Rattle.writer.proofs.bytes.put_segment.Goals as goal
 use Rattle.writer.proofs.bytes.put_segment.Goals.{After-slice_known-1, After-stated-size, At-loop-k, In-loop-k}
 
-narrow : (c : After-slice_known-1) → length c.args.out.now < 18446744073709551616
-narrow c = omega arith
+narrow : ((goal.at.After-slice_known-1 c).After-slice_known-1 : After-slice_known-1) → length c.args.out.now < 18446744073709551616
+narrow (goal.at.After-slice_known-1 c).After-slice_known-1 = omega arith
 
-same : (c : At-loop-k) → length c.loop-k.out ≡ length entryₚc.args.out.now
-same c = emitted-length c.loop-k.invariant.emitted ∙ countedₚc.put-variants.auto.1.0
+same : ((goal.at.At-loop-k c).At-loop-k : At-loop-k) → length c.loop-k.out ≡ length entryₚc.args.out.now
+same (goal.at.At-loop-k c).At-loop-k = emitted-length c.loop-k.invariant.emitted ∙ countedₚc.put-variants.auto.1.0
 
 -- the next variant: its number is that of a length, its letters are there, and its bytes fit
 number :
-    (c : In-loop-k) →
-    (entry c.before).args.first + c.loop-k.k < length (entry c.before).args.lengths.now
-number c = passing-number c.loop-k.invariant.passing c.loop-k-test.true
+    ((goal.at.In-loop-k c).In-loop-k : In-loop-k) →
+    (entry (goal.at.In-loop-k c).At-loop-k).args.first + c.loop-k.k < length (entry (goal.at.In-loop-k c).At-loop-k).args.lengths.now
+number (goal.at.In-loop-k c).In-loop-k = passing-number c.loop-k.invariant.passing c.loop-k-test.true
 
 inside :
-    (c : After-stated-size) →
-    c.loop-k.start + c.stated-size.result ≤ length (entry c.before.before.before).args.letters.now
-inside c =
+    ((goal.at.After-stated-size c).After-stated-size : After-stated-size) →
+    c.loop-k.start + c.stated-size.result ≤ length (entry (goal.at.After-stated-size c).At-loop-k).args.letters.now
+inside (goal.at.After-stated-size c).After-stated-size =
     rw meant-length at (passing-inside c.loop-k.invariant.passing c.loop-k-test.true c.stated-size.ensures)
 
 room :
-    (c : After-stated-size) →
-    after_variant c.loop-k.next c.stated-size.result ≤ length (entry c.before.before.before).args.out.now
-room c =
+    ((goal.at.After-stated-size c).After-stated-size : After-stated-size) →
+    after_variant c.loop-k.next c.stated-size.result ≤ length (entry (goal.at.After-stated-size c).At-loop-k).args.out.now
+room (goal.at.After-stated-size c).After-stated-size =
     let h = variants-room c.loop-k.invariant c.loop-k-test.true c.stated-size.ensures in
-    rw (same c.before.before.before) at h
+    rw (same (goal.at.After-stated-size c).At-loop-k) at h
 
 pub overflow_add-next : goal.overflow_add-next
 overflow_add-next c =
@@ -50,34 +50,34 @@ loop-k-init c =
     segment-none _ c.args.out.now c.args.at c.requires.0 c.requires.1 c.wide-variants.ensures.0 c.put_variants.auto.1.0
 
 pub overflow_add-first : goal.overflow_add-first
-overflow_add-first c = omega (arith, number c)
+overflow_add-first c = omega (arith, number (goal.at.overflow_add-first c).In-loop-k)
 
 pub offset_bounds-lengths-first : goal.offset_bounds-lengths-first
-offset_bounds-lengths-first c = omega (arith, number c)
+offset_bounds-lengths-first c = omega (arith, number (goal.at.offset_bounds-lengths-first c).In-loop-k)
 
 pub bounds-lengths-first : goal.bounds-lengths-first
-bounds-lengths-first c = number c.before
+bounds-lengths-first c = number (goal.at.bounds-lengths-first c).In-loop-k
 
 pub overflow_add-end : goal.overflow_add-end
-overflow_add-end c = omega (arith, inside c)
+overflow_add-end c = omega (arith, inside (goal.at.overflow_add-end c).After-stated-size)
 
 pub slice_bounds-put_variant-end : goal.slice_bounds-put_variant-end
-slice_bounds-put_variant-end c = omega (arith, inside c)
+slice_bounds-put_variant-end c = omega (arith, inside (goal.at.slice_bounds-put_variant-end c).After-stated-size)
 
 pub loop-k-preserved : goal.loop-k-preserved
 loop-k-preserved c =
-    let letters = (entry c.before.before.before.before.before.before.before.before.before).args.letters.now in
+    let letters = (entry (goal.at.loop-k-preserved c).At-loop-k).args.letters.now in
     let start = c.loop-k.start in
     let next = c.loop-k.next in
     let out = c.loop-k.out in
     let place : c.after_variant-next.result ≡ after_variant next c.stated-size.result =
-    omega (arith, c.after_variant-next.ensures, room c.before.before.before.before.before.before, narrow (counted c.before.before.before.before.before.before.before.before.before).before.before.before) in
+    omega (arith, c.after_variant-next.ensures, room (goal.at.loop-k-preserved c).After-stated-size, narrow (counted (goal.at.loop-k-preserved c).At-loop-k).before.before.before) in
     variants-more c.loop-k.invariant c.loop-k-test.true c.stated-size.ensures place
     (c.put_variant.ensures ∙ ap (λ (v : Variant). put out next (encode_variant v))
     (part-meant letters start (start + c.stated-size.result - start)))
 
 pub shape_of-out : goal.shape_of-out
-shape_of-out c = same c.before
+shape_of-out c = same (goal.at.shape_of-out c).At-loop-k
 
 pub returns : goal.returns
 returns c =

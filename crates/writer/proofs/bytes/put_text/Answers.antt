@@ -13,20 +13,20 @@ use Rattle.writer.proofs.TextBytes.{SegmentsPut, segments-none, segments-room, s
 use Rattle.writer.proofs.bytes.put_text.Goals as goal
 use Rattle.writer.proofs.bytes.put_text.Goals.{After-slice_known-1, After-text_bytes-at, At-loop-segment}
 
-same : (c : At-loop-segment) → length c.loop-segment.out ≡ length entryₚc.args.out.now
-same c = emitted-length c.loop-segment.invariant.emitted ∙ c.put_segments.auto.1.0
+same : ((goal.at.At-loop-segment c).At-loop-segment : At-loop-segment) → length c.loop-segment.out ≡ length entryₚc.args.out.now
+same (goal.at.At-loop-segment c).At-loop-segment = emitted-length c.loop-segment.invariant.emitted ∙ c.put_segments.auto.1.0
 
-narrow : (c : After-slice_known-1) → length c.args.out.now < 18446744073709551616
-narrow c = omega arith
+narrow : ((goal.at.After-slice_known-1 c).After-slice_known-1 : After-slice_known-1) → length c.args.out.now < 18446744073709551616
+narrow (goal.at.After-slice_known-1 c).After-slice_known-1 = omega arith
 
 -- the next segment's place lies in the buffer
 place :
-    (c : After-text_bytes-at) →
+    ((goal.at.After-text_bytes-at c).After-text_bytes-at : After-text_bytes-at) →
     let d = c.loop-segment in c.text_bytes-at.result ≡ text_bytes d.letter d.variant d.segment
-place c =
+place (goal.at.After-text_bytes-at c).After-text_bytes-at =
     let h = segments-room c.loop-segment.invariant c.loop-segment-test.true in
-    let l = narrow c.before.before.before.before.before.before.before.before in
-    omega (arith, same c.before.before.before, c.text_bytes-at.ensures)
+    let l = narrow (goal.at.After-text_bytes-at c).After-slice_known-1 in
+    omega (arith, same (goal.at.After-text_bytes-at c).At-loop-segment, c.text_bytes-at.ensures)
 
 pub loop-segment-init : goal.loop-segment-init
 loop-segment-init c =
@@ -35,7 +35,7 @@ loop-segment-init c =
 pub put_segment-letter-requires : goal.put_segment-letter-requires
 put_segment-letter-requires c =
     let i = c.loop-segment.invariant in
-    (matched-within i.matched c.loop-segment-test.true, rw (place c.before) (segments-room i c.loop-segment-test.true))
+    (matched-within i.matched c.loop-segment-test.true, rw (place (goal.at.put_segment-letter-requires c).After-text_bytes-at) (segments-room i c.loop-segment-test.true))
 
 pub overflow_add-variant : goal.overflow_add-variant
 overflow_add-variant c =
@@ -44,14 +44,14 @@ overflow_add-variant c =
 pub loop-segment-preserved : goal.loop-segment-preserved
 loop-segment-preserved c =
     let w = c.put_segment-letter.ensures in
-    segments-more c.loop-segment.invariant c.loop-segment-test.true c.wide-variant.ensures.0 w.0 (rw (place c.before.before.before.before.before) at w.1)
+    segments-more c.loop-segment.invariant c.loop-segment-test.true c.wide-variant.ensures.0 w.0 (rw (place (goal.at.loop-segment-preserved c).After-text_bytes-at) at w.1)
 
 pub shape_of-out : goal.shape_of-out
-shape_of-out c = same c.before
+shape_of-out c = same (goal.at.shape_of-out c).At-loop-segment
 
 pub returns : goal.returns
 unfolding needed word_bytes
 returns c =
-    let room : first_segment ≤ length (entry c.before).args.out.now = omega (arith, (entry c.before).pre.1) in
+    let room : first_segment ≤ length (entry (goal.at.returns c).At-loop-segment).args.out.now = omega (arith, (entry (goal.at.returns c).At-loop-segment).pre.1) in
     text-over _ _ _ _ room (c.put_segments.ensures ∙ put-over _ 0 _ room)
     (segments-end c.loop-segment.invariant c.loop-segment-test.false)

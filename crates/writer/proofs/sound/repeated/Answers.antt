@@ -9,40 +9,40 @@ use Rattle.layout.proofs.Raised.{alike-part}
 use Rattle.writer.proofs.Cuts.{passing-number, passing-inside}
 use Rattle.writer.proofs.RepeatsInWrite.{Compared, compared-none, compared_same, compared-more, compared-end}
 use Rattle.writer.proofs.sound.repeated.Goals as goal
-use Rattle.writer.proofs.sound.repeated.Goals.{After-stated, In-loop-i}
+use Rattle.writer.proofs.sound.repeated.Goals.{After-stated, At-loop-i, In-loop-i}
 
 number :
-    (c : In-loop-i) →
-    (entry c.before).args.first + c.loop-i.i < length (entry c.before).args.lengths.now
-number c = passing-number c.loop-i.invariant.passing c.loop-i-test.true
+    ((goal.at.In-loop-i c).In-loop-i : In-loop-i) →
+    (entry (goal.at.In-loop-i c).At-loop-i).args.first + c.loop-i.i < length (entry (goal.at.In-loop-i c).At-loop-i).args.lengths.now
+number (goal.at.In-loop-i c).In-loop-i = passing-number c.loop-i.invariant.passing c.loop-i-test.true
 
 inside :
-    (c : After-stated) →
-    c.loop-i.start + c.stated.result ≤ length (entry c.before.before.before).args.letters.now
-inside c =
+    ((goal.at.After-stated c).After-stated : After-stated) →
+    c.loop-i.start + c.stated.result ≤ length (entry (goal.at.After-stated c).At-loop-i).args.letters.now
+inside (goal.at.After-stated c).After-stated =
     rw meant-length at (passing-inside c.loop-i.invariant.passing c.loop-i-test.true c.stated.ensures)
 
 pub loop-i-init : goal.loop-i-init
 loop-i-init c = compared-none _ c.requires
 
 pub overflow_add-first : goal.overflow_add-first
-overflow_add-first c = omega (arith, number c)
+overflow_add-first c = omega (arith, number (goal.at.overflow_add-first c).In-loop-i)
 
 pub offset_bounds-lengths-first : goal.offset_bounds-lengths-first
-offset_bounds-lengths-first c = omega (arith, number c)
+offset_bounds-lengths-first c = omega (arith, number (goal.at.offset_bounds-lengths-first c).In-loop-i)
 
 pub bounds-lengths-first : goal.bounds-lengths-first
-bounds-lengths-first c = number c.before
+bounds-lengths-first c = number (goal.at.bounds-lengths-first c).In-loop-i
 
 pub overflow_add-end : goal.overflow_add-end
-overflow_add-end c = omega (arith, inside c)
+overflow_add-end c = omega (arith, inside (goal.at.overflow_add-end c).After-stated)
 
 pub slice_bounds-alike_from_end-end : goal.slice_bounds-alike_from_end-end
-slice_bounds-alike_from_end-end c = omega (arith, inside c)
+slice_bounds-alike_from_end-end c = omega (arith, inside (goal.at.slice_bounds-alike_from_end-end c).After-stated)
 
 pub returns-then-alike_from_end : goal.returns-then-alike_from_end
 returns-then-alike_from_end c =
-    let a = (entry c.before.before.before.before.before.before).args in
+    let a = (entry (goal.at.returns-then-alike_from_end c).At-loop-i).args in
     let start = c.loop-i.start in
     let equal = sym (alike-part a.variant.now a.letters.now start (start + c.stated.result - start))
     ∙ sym c.alike_from_end.ensures ∙ c.if-alike_from_end.true in
@@ -50,7 +50,7 @@ returns-then-alike_from_end c =
 
 pub loop-i-preserved : goal.loop-i-preserved
 loop-i-preserved c =
-    let a = (entry c.before.before.before.before.before.before).args in
+    let a = (entry (goal.at.loop-i-preserved c).At-loop-i).args in
     let start = c.loop-i.start in
     let other = sym (alike-part a.variant.now a.letters.now start (start + c.stated.result - start))
     ∙ sym c.alike_from_end.ensures ∙ c.if-alike_from_end.false in

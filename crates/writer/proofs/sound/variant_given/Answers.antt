@@ -12,26 +12,26 @@ use Rattle.writer.proofs.GivenSegment.{given-wrong, given-again, given-sound}
 use Rattle.writer.proofs.sound.variant_given.Goals as goal
 use Rattle.writer.proofs.sound.variant_given.Goals.{After-stated}
 
-inside : (c : After-stated) → entryₚc.args.at + c.stated.result ≤ length entryₚc.args.letters.now
-inside c = rw meant-length at (next-in entryₚc.requires c.stated.ensures)
+inside : ((goal.at.After-stated c).After-stated : After-stated) → entryₚc.args.at + c.stated.result ≤ length entryₚc.args.letters.now
+inside (goal.at.After-stated c).After-stated = rw meant-length at (next-in entryₚc.requires c.stated.ensures)
 
 pub overflow_add-end : goal.overflow_add-end
-overflow_add-end c = omega (arith, inside c)
+overflow_add-end c = omega (arith, inside (goal.at.overflow_add-end c).After-stated)
 
 pub slice_bounds-variant-end : goal.slice_bounds-variant-end
-slice_bounds-variant-end c = omega (arith, inside c)
+slice_bounds-variant-end c = omega (arith, inside (goal.at.slice_bounds-variant-end c).After-stated)
 
 pub overflow_add-place : goal.overflow_add-place
-overflow_add-place c = omega (arith, inside c.before.before.before)
+overflow_add-place c = omega (arith, inside (goal.at.overflow_add-place c).After-stated)
 
 pub returns-then-wrong-end : goal.returns-then-wrong-end
 returns-then-wrong-end c =
     let a = entryₚd.args in
     let w = first_part a.letters.now a.at (a.at + c.stated.result - a.at) c.first_wrong-wrong.ensures in
-    sym (given-wrong _ _ _ _ _ c.stated.ensures w (rw meant-length (inside c.before.before.before)) c.if-wrong-end.true)
+    sym (given-wrong _ _ _ _ _ c.stated.ensures w (rw meant-length (inside (goal.at.returns-then-wrong-end c).After-stated)) c.if-wrong-end.true)
 
 pub repeated-requires : goal.repeated-requires
-repeated-requires c = before-in (entry c.before.before.before).requires
+repeated-requires c = before-in (entry (goal.at.repeated-requires c).After-stated).requires
 
 pub returns-then-repeated : goal.returns-then-repeated
 returns-then-repeated c =

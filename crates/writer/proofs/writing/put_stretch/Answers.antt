@@ -16,8 +16,8 @@ use Rattle.writer.proofs.Writings.{room-refused, refused-leaves, accepted-leaves
 use Rattle.writer.proofs.writing.put_stretch.Goals as goal
 use Rattle.writer.proofs.writing.put_stretch.Goals.{Else-needed-gt-GREATEST_STRETCH, Else-not-lengths_sum, Start}
 
-matching : (c : Else-not-lengths_sum) → Matching (meant entryₚc.args.letters.now) entryₚc.args.lengths.now entryₚc.args.counts.now
-matching c =
+matching : ((goal.at.Else-not-lengths_sum c).Else-not-lengths_sum : Else-not-lengths_sum) → Matching (meant entryₚc.args.letters.now) entryₚc.args.lengths.now entryₚc.args.counts.now
+matching (goal.at.Else-not-lengths_sum c).Else-not-lengths_sum =
     let a = c.args in
     matching-meant
     (sums-match a.letters.now a.lengths.now a.counts.now
@@ -26,20 +26,20 @@ matching c =
 
 -- raised letters need as many bytes
 same-need :
-    (c : Start)
+    ((goal.at.Start c).Start : Start)
     → needed (meant c.args.letters.now) c.args.lengths.now c.args.counts.now
     ≡ needed c.args.letters.now c.args.lengths.now c.args.counts.now
-same-need c = needed-meant _ _ _
+same-need (goal.at.Start c).Start = needed-meant _ _ _
 
 size :
-    (c : Else-needed-gt-GREATEST_STRETCH) →
+    ((goal.at.Else-needed-gt-GREATEST_STRETCH c).Else-needed-gt-GREATEST_STRETCH : Else-needed-gt-GREATEST_STRETCH) →
     c.text_bytes-needed.result
     ≡ needed (meant enteredₚc.args.letters.now) enteredₚc.args.lengths.now enteredₚc.args.counts.now
 unfolding needed
-size c = let same = same-need enteredₚc in omega (arith, c.text_bytes-needed.ensures, c.if-needed-gt-GREATEST_STRETCH.false)
+size (goal.at.Else-needed-gt-GREATEST_STRETCH c).Else-needed-gt-GREATEST_STRETCH = let same = same-need enteredₚc in omega (arith, c.text_bytes-needed.ensures, c.if-needed-gt-GREATEST_STRETCH.false)
 
-fitting : (c : Else-needed-gt-GREATEST_STRETCH) → Fitting (meant enteredₚc.args.letters.now) enteredₚc.args.lengths.now enteredₚc.args.counts.now
-fitting c = record { matching = matching c.before.before; small = rw (← size c) c.if-needed-gt-GREATEST_STRETCH.false }
+fitting : ((goal.at.Else-needed-gt-GREATEST_STRETCH c).Else-needed-gt-GREATEST_STRETCH : Else-needed-gt-GREATEST_STRETCH) → Fitting (meant enteredₚc.args.letters.now) enteredₚc.args.lengths.now enteredₚc.args.counts.now
+fitting (goal.at.Else-needed-gt-GREATEST_STRETCH c).Else-needed-gt-GREATEST_STRETCH = record { matching = matching (goal.at.Else-needed-gt-GREATEST_STRETCH c).Else-not-lengths_sum; small = rw (← size (goal.at.Else-needed-gt-GREATEST_STRETCH c).Else-needed-gt-GREATEST_STRETCH) c.if-needed-gt-GREATEST_STRETCH.false }
 
 pub returns-then-not-counts_sum : goal.returns-then-not-counts_sum
 returns-then-not-counts_sum c =
@@ -55,30 +55,30 @@ pub returns-then-needed-gt-GREATEST_STRETCH : goal.returns-then-needed-gt-GREATE
 unfolding needed
 returns-then-needed-gt-GREATEST_STRETCH c =
     let n = needed (meant c.args.letters.now) c.args.lengths.now c.args.counts.now in
-    let same = same-need c.before.before.before.before.before.before.before.before.before.before.before in
+    let same = same-need (goal.at.returns-then-needed-gt-GREATEST_STRETCH c).Start in
     let long : greatest_stretch < n = omega (arith, c.text_bytes-needed.ensures, c.if-needed-gt-GREATEST_STRETCH.true) in
-    refused-leaves _ c.refused_at_0-then-needed-gt-GREATEST_STRETCH.ensures (long-refused _ (matching c.before.before.before) (lt-leb n greatest_stretch long))
+    refused-leaves _ c.refused_at_0-then-needed-gt-GREATEST_STRETCH.ensures (long-refused _ (matching (goal.at.returns-then-needed-gt-GREATEST_STRETCH c).Else-not-lengths_sum) (lt-leb n greatest_stretch long))
 
 pub segments_given-requires : goal.segments_given-requires
-segments_given-requires c = matching c.before.before
+segments_given-requires c = matching (goal.at.segments_given-requires c).Else-not-lengths_sum
 
 pub returns-in-Refused : goal.returns-in-Refused
 returns-in-Refused c =
     let e = sym c.segments_given.ensures ∙ ap told_amount c.in-Refused.is in
-    refused-leaves _ refl (given-refused _ (fitting c.before.before.before.before) _ _ e)
+    refused-leaves _ refl (given-refused _ (fitting (goal.at.returns-in-Refused c).Else-needed-gt-GREATEST_STRETCH) _ _ e)
 
 pub returns-then-out-needed : goal.returns-then-out-needed
 returns-then-out-needed c =
     let e = sym c.segments_given.ensures ∙ ap told_amount c.in_default.is in
     refused-leaves _ c.refused_at_0-then-out-needed.ensures
-    (room-refused _ (fitting c.before.before.before.before.before) e (rw (← size c.before.before.before.before.before) c.if-out-needed.true))
+    (room-refused _ (fitting (goal.at.returns-then-out-needed c).Else-needed-gt-GREATEST_STRETCH) e (rw (← size (goal.at.returns-then-out-needed c).Else-needed-gt-GREATEST_STRETCH) c.if-out-needed.true))
 
 pub put_text-requires : goal.put_text-requires
 put_text-requires c =
-    ((fitting c.before.before.before.before.before).matching, rw (← size c.before.before.before.before.before) c.if-out-needed.false)
+    ((fitting (goal.at.put_text-requires c).Else-needed-gt-GREATEST_STRETCH).matching, rw (← size (goal.at.put_text-requires c).Else-needed-gt-GREATEST_STRETCH) c.if-out-needed.false)
 
 pub returns : goal.returns
 returns c =
     let e = sym c.segments_given.ensures ∙ ap told_amount c.in_default.is in
-    let n = size c.before.before.before.before.before.before.before.before in
-    rw (← n) at (accepted-leaves (fitting c.before.before.before.before.before.before.before.before) _ e (rw (← n) c.if-out-needed.false) c.put_text.ensures)
+    let n = size (goal.at.returns c).Else-needed-gt-GREATEST_STRETCH in
+    rw (← n) at (accepted-leaves (fitting (goal.at.returns c).Else-needed-gt-GREATEST_STRETCH) _ e (rw (← n) c.if-out-needed.false) c.put_text.ensures)

@@ -11,11 +11,11 @@ use Rattle.card.proofs.cards.Card.empty.Goals as goal
 use Rattle.card.proofs.cards.Card.empty.Goals.{In-Sound}
 
 -- the pattern was found sound
-sound : (c : In-Sound) → SoundPattern c.args.pattern.now
-sound c = pattern-sound _ (sym c.check.ensures ∙ ap told_verdict c.in-Sound.is)
+sound : ((goal.at.In-Sound c).In-Sound : In-Sound) → SoundPattern c.args.pattern.now
+sound (goal.at.In-Sound c).In-Sound = pattern-sound _ (sym c.check.ensures ∙ ap told_verdict c.in-Sound.is)
 
 pub overflow_cast-m : goal.overflow_cast-m
-overflow_cast-m c = let short = (sound c.before).short in record { fits = omega arith }
+overflow_cast-m c = let short = (sound (goal.at.overflow_cast-m c).In-Sound).short in record { fits = omega arith }
 
 pub returns-in-Refused : goal.returns-in-Refused
 returns-in-Refused c =
@@ -23,4 +23,4 @@ returns-in-Refused c =
     c.refused.ensures ∙ ap made (sym (empty-on-wrong _ _ _ _ wrong))
 
 pub returns-in-Sound : goal.returns-in-Sound
-returns-in-Sound c = c.accepted.ensures ∙ nothing-made _ _ _ c.read_on.ensures (sound c.before.before.before) _ c.lone.ensures
+returns-in-Sound c = c.accepted.ensures ∙ nothing-made _ _ _ c.read_on.ensures (sound (goal.at.returns-in-Sound c).In-Sound) _ c.lone.ensures

@@ -13,21 +13,21 @@ use Rattle.card.proofs.cards.Card.join.Goals as goal
 use Rattle.card.proofs.cards.Card.join.Goals.{Else-not-same_pattern, Else-not-well_formed, Else-not-well_formed-2, Else-self-right}
 
 -- the left card was found well formed, then the right one, then both of one pattern
-left : (c : Else-not-well_formed) → well_formed (card_in c.args.self) ≡ true
-left c = passed c.well-formed.ensures c.if-not-well_formed.left
+left : ((goal.at.Else-not-well_formed c).Else-not-well_formed : Else-not-well_formed) → well_formed (card_in c.args.self) ≡ true
+left (goal.at.Else-not-well_formed c).Else-not-well_formed = passed c.well-formed.ensures c.if-not-well_formed.left
 
-right : (c : Else-not-well_formed-2) → well_formed (card_in c.args.right) ≡ true
-right c = passed c.well_formed-2.ensures c.if-not-well_formed-2.left
+right : ((goal.at.Else-not-well_formed-2 c).Else-not-well_formed-2 : Else-not-well_formed-2) → well_formed (card_in c.args.right) ≡ true
+right (goal.at.Else-not-well_formed-2 c).Else-not-well_formed-2 = passed c.well_formed-2.ensures c.if-not-well_formed-2.left
 
-alike : (c : Else-not-same_pattern)
+alike : ((goal.at.Else-not-same_pattern c).Else-not-same_pattern : Else-not-same_pattern)
     → same_pattern (card_in c.args.self) (card_in c.args.right) ≡ true
-alike c = passed c.same_pattern.ensures c.if-not-same_pattern.left
+alike (goal.at.Else-not-same_pattern c).Else-not-same_pattern = passed c.same_pattern.ensures c.if-not-same_pattern.left
 
 -- the cards can be joined
-fits : (c : Else-self-right)
+fits : ((goal.at.Else-self-right c).Else-self-right : Else-self-right)
     → join (card_in c.args.self) (card_in c.args.right) ≡ ok (joined (card_in c.args.self) (card_in c.args.right))
-fits c =
-    join-fits _ _ (left c.before.before.before.before.before.before.before) (right c.before.before.before.before.before) (alike c.before.before.before) c.if-self-right.left
+fits (goal.at.Else-self-right c).Else-self-right =
+    join-fits _ _ (left (goal.at.Else-self-right c).Else-not-well_formed) (right (goal.at.Else-self-right c).Else-not-well_formed-2) (alike (goal.at.Else-self-right c).Else-not-same_pattern) c.if-self-right.left
 
 pub returns-then-not-well_formed : goal.returns-then-not-well_formed
 returns-then-not-well_formed c =
@@ -36,22 +36,22 @@ returns-then-not-well_formed c =
 pub returns-then-not-well_formed-2 : goal.returns-then-not-well_formed-2
 returns-then-not-well_formed-2 c =
     let wrong = failed c.well_formed-2.ensures c.if-not-well_formed-2.taken in
-    c.refused-then-not-well_formed-2.ensures ∙ ap made (sym (join-right-malformed _ _ (left c.before.before.before) wrong))
+    c.refused-then-not-well_formed-2.ensures ∙ ap made (sym (join-right-malformed _ _ (left (goal.at.returns-then-not-well_formed-2 c).Else-not-well_formed) wrong))
 
 pub returns-then-not-same_pattern : goal.returns-then-not-same_pattern
 returns-then-not-same_pattern c =
     let wrong = failed c.same_pattern.ensures c.if-not-same_pattern.taken in
-    c.refused-then-not-same_pattern.ensures ∙ ap made (sym (join-differ _ _ (left c.before.before.before.before.before) (right c.before.before.before) wrong))
+    c.refused-then-not-same_pattern.ensures ∙ ap made (sym (join-differ _ _ (left (goal.at.returns-then-not-same_pattern c).Else-not-well_formed) (right (goal.at.returns-then-not-same_pattern c).Else-not-well_formed-2) wrong))
 
 pub overflow_sub-self : goal.overflow_sub-self
-overflow_sub-self c = ((well _).0 (left c.before.before.before.before.before)).count
+overflow_sub-self c = ((well _).0 (left (goal.at.overflow_sub-self c).Else-not-well_formed)).count
 
 pub returns-then-self-right : goal.returns-then-self-right
 returns-then-self-right c =
-    c.refused-then-self-right.ensures ∙ ap made (sym (join-long _ _ (left c.before.before.before.before.before.before.before.before) (right c.before.before.before.before.before.before) (alike c.before.before.before.before) c.if-self-right.taken))
+    c.refused-then-self-right.ensures ∙ ap made (sym (join-long _ _ (left (goal.at.returns-then-self-right c).Else-not-well_formed) (right (goal.at.returns-then-self-right c).Else-not-well_formed-2) (alike (goal.at.returns-then-self-right c).Else-not-same_pattern) c.if-self-right.taken))
 
 pub joined-requires : goal.joined-requires
-joined-requires c = fits c
+joined-requires c = fits (goal.at.joined-requires c).Else-self-right
 
 pub returns : goal.returns
-returns c = c.accepted.ensures ∙ ap accepted c.joined.ensures ∙ ap made (sym (fits c.before.before))
+returns c = c.accepted.ensures ∙ ap accepted c.joined.ensures ∙ ap made (sym (fits (goal.at.returns c).Else-self-right))

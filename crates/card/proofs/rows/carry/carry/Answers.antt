@@ -8,9 +8,9 @@ use Rattle.card.proofs.rows.carry.carry.Goals as goal
 use Rattle.card.proofs.rows.carry.carry.Goals.{After-shared_slice_known-in-loop-i-1}
 
 -- the letter that is read is a byte
-byte : (c : After-shared_slice_known-in-loop-i-1)
+byte : ((goal.at.After-shared_slice_known-in-loop-i-1 c).After-shared_slice_known-in-loop-i-1 : After-shared_slice_known-in-loop-i-1)
     → get_or c.args.variant.now c.loop-i.i 0 < 256
-byte c = omega (arith, c.shared_slice_known-in-loop-i-1.given c.loop-i.i)
+byte (goal.at.After-shared_slice_known-in-loop-i-1 c).After-shared_slice_known-in-loop-i-1 = omega (arith, c.shared_slice_known-in-loop-i-1.given c.loop-i.i)
 
 pub loop-i-init : goal.loop-i-init
 loop-i-init c = carrying-none _ _ _ _ c.requires
@@ -19,13 +19,13 @@ pub returns-then-d-eq0 : goal.returns-then-d-eq0
 returns-then-d-eq0 c = carrying-dead _ _ _ _ c.requires _ _ _ c.loop-i.invariant c.if-d-eq0.true
 
 pub overflow_cast-c : goal.overflow_cast-c
-overflow_cast-c c = omega (arith, byte c)
+overflow_cast-c c = omega (arith, byte (goal.at.overflow_cast-c c).After-shared_slice_known-in-loop-i-1)
 
 pub offset_bounds-masks-c : goal.offset_bounds-masks-c
-offset_bounds-masks-c c = omega (arith, byte c)
+offset_bounds-masks-c c = omega (arith, byte (goal.at.offset_bounds-masks-c c).After-shared_slice_known-in-loop-i-1)
 
 pub bounds-masks-c : goal.bounds-masks-c
-bounds-masks-c c = byte c.before
+bounds-masks-c c = byte (goal.at.bounds-masks-c c).After-shared_slice_known-in-loop-i-1
 
 pub overflow_shr-finished : goal.overflow_shr-finished
 overflow_shr-finished c =
@@ -33,7 +33,7 @@ overflow_shr-finished c =
 
 pub loop-i-preserved : goal.loop-i-preserved
 loop-i-preserved c =
-    carrying-more _ _ _ _ _ _ _ _ c.requires c.loop-i.invariant c.loop-i-test.true _ refl (byte c.before.before) refl
+    carrying-more _ _ _ _ _ _ _ _ c.requires c.loop-i.invariant c.loop-i-test.true _ refl (byte (goal.at.loop-i-preserved c).After-shared_slice_known-in-loop-i-1) refl
 
 pub returns : goal.returns
 returns c =

@@ -11,17 +11,17 @@ use Rattle.card.specs.RowStep.{Covers}
 use Rattle.card.proofs.RowsHeld.{exits-in, even}
 use Rattle.card.proofs.RowWalks.{sound-opens, Rowing, rowing-none, rowing-readable, rowing_more, rowing-all, rowing-dead}
 use Rattle.card.proofs.rows.passes.rows_over.Goals as goal
-use Rattle.card.proofs.rows.passes.rows_over.Goals.{At-loop-walk}
+use Rattle.card.proofs.rows.passes.rows_over.Goals.{After-open, At-loop-walk}
 
 -- the lists keep their lengths
-even-states : (a : At-loop-walk)
+even-states : ((goal.at.At-loop-walk a).At-loop-walk : At-loop-walk)
     → length a.loop-walk.exits ≡ length a.args.exits.now
-even-states a =
+even-states (goal.at.At-loop-walk a).At-loop-walk =
     a.loop-walk.invariant.0.states ∙ sym a.requires.3.states
 
-even-ends : (a : At-loop-walk)
+even-ends : ((goal.at.At-loop-walk a).At-loop-walk : At-loop-walk)
     → length a.loop-walk.firsts ≡ length a.args.firsts.now
-even-ends a =
+even-ends (goal.at.At-loop-walk a).At-loop-walk =
     a.loop-walk.invariant.0.ends ∙ sym a.requires.3.ends
 
 pub overflow_sub-live : goal.overflow_sub-live
@@ -31,19 +31,19 @@ overflow_sub-live c =
 
 pub returns-in_default : goal.returns-in_default
 returns-in_default c =
-    absurd (sound-opens _ _ c.requires.2 c.before.before.«open».ensures c.in_default.is)
+    absurd (sound-opens _ _ c.requires.2 (goal.at.returns-in_default c).After-open.«open».ensures c.in_default.is)
 
 pub loop-walk-init : goal.loop-walk-init
 loop-walk-init c =
     let p = c.requires in
-    let opening = open_is _ c.before.before.before.«open».ensures c.in-At.is in
+    let opening = open_is _ (goal.at.loop-walk-init c).After-open.«open».ensures c.in-At.is in
     (p.3, rowing-none _ _ _ _ p.0 p.2 p.4 _ c.low-live.ensures opening)
 
 pub shape_of-exits-then-live-eq0 : goal.shape_of-exits-then-live-eq0
-shape_of-exits-then-live-eq0 c = even-states c.before.before.before
+shape_of-exits-then-live-eq0 c = even-states (goal.at.shape_of-exits-then-live-eq0 c).At-loop-walk
 
 pub shape_of-firsts-then-live-eq0 : goal.shape_of-firsts-then-live-eq0
-shape_of-firsts-then-live-eq0 c = even-ends c.before.before.before
+shape_of-firsts-then-live-eq0 c = even-ends (goal.at.shape_of-firsts-then-live-eq0 c).At-loop-walk
 
 pub returns-then-live-eq0 : goal.returns-then-live-eq0
 returns-then-live-eq0 c =
@@ -72,10 +72,10 @@ loop-walk-preserved c =
     (over.0, rowing_more c.loop-walk.invariant.1 c.loop-walk-test.true _ _ _ over.1 _ c.past-walk.ensures)
 
 pub shape_of-exits : goal.shape_of-exits
-shape_of-exits c = even-states c.before.before
+shape_of-exits c = even-states (goal.at.shape_of-exits c).At-loop-walk
 
 pub shape_of-firsts : goal.shape_of-firsts
-shape_of-firsts c = even-ends c.before.before
+shape_of-firsts c = even-ends (goal.at.shape_of-firsts c).At-loop-walk
 
 pub returns : goal.returns
 returns c = let i = c.loop-walk.invariant in (i.0, rowing-all i.1 c.loop-walk-test.false)

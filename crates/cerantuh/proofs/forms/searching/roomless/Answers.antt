@@ -11,8 +11,8 @@ use Rattle.cerantuh.proofs.forms.searching.roomless.Goals as goal
 use Rattle.cerantuh.proofs.forms.searching.roomless.Goals.{In-Sound}
 
 -- the pattern was found sound
-sound : (c : In-Sound) → pattern c.args.pattern.now (ok (tt {0})) ≡ ok tt
-sound c = sym c.check.ensures ∙ ap told_verdict c.in-Sound.is
+sound : ((goal.at.In-Sound c).In-Sound : In-Sound) → pattern c.args.pattern.now (ok (tt {0})) ≡ ok tt
+sound (goal.at.In-Sound c).In-Sound = sym c.check.ensures ∙ ap told_verdict c.in-Sound.is
 
 pub code-requires : goal.code-requires
 code-requires c =
@@ -32,9 +32,9 @@ returns-in-Refused c =
 pub returns-in-Refused-check : goal.returns-in-Refused-check
 returns-in-Refused-check c =
     let wrong = sym c.check-in-Sound.ensures ∙ ap told_checked c.in-Refused-check.is in
-    c.code-in-Refused-check.ensures ∙ sym (ap coded (short-stretch _ _ 0 0 (omega arith) (sound c.before.before.before.before.before) _ _ wrong))
+    c.code-in-Refused-check.ensures ∙ sym (ap coded (short-stretch _ _ 0 0 (omega arith) (sound (goal.at.returns-in-Refused-check c).In-Sound) _ _ wrong))
 
 pub returns-in-Sound-check : goal.returns-in-Sound-check
 returns-in-Sound-check c =
     let good = sym c.check-in-Sound.ensures ∙ ap told_checked c.in-Sound-check.is in
-    sym (ap coded (short-sound _ _ 0 0 (omega arith) (sound c.before.before.before) _ good))
+    sym (ap coded (short-sound _ _ 0 0 (omega arith) (sound (goal.at.returns-in-Sound-check c).In-Sound) _ good))

@@ -3,6 +3,7 @@ use borrow.Author.Rules.{rules}
 use Rattle.text.specs.Letter.{meant}
 use Rattle.search.proofs.BorderChains.{Chain, chain-none, chain-less, chain_more, chain-all}
 use Rattle.search.proofs.borders.begun.begun.Goals as goal
+use Rattle.search.proofs.borders.begun.begun.Goals.{After-k-1}
 
 pub overflow_shl-bits : goal.overflow_shl-bits
 overflow_shl-bits c = omega arith
@@ -17,7 +18,7 @@ pub bounds-table-k : goal.bounds-table-k
 bounds-table-k c = omega arith
 
 pub overflow_shl-bits-in-loop-k : goal.overflow_shl-bits-in-loop-k
-overflow_shl-bits-in-loop-k c = omega (arith, loop-less c)
+overflow_shl-bits-in-loop-k c = omega (arith, loop-less (goal.at.overflow_shl-bits-in-loop-k c).After-k-1)
 
 pub loop-k-smaller : goal.loop-k-smaller
 loop-k-smaller c =

@@ -4,6 +4,7 @@ use lib.ListN.{length-take}
 use Rattle.text.specs.Letter.{meant}
 use Rattle.search.proofs.BorderEnds.{Ending, ending-none, ending-some, ending-more, ending-all}
 use Rattle.search.proofs.borders.begun.longest_end.Goals as goal
+use Rattle.search.proofs.borders.begun.longest_end.Goals.{In-loop-k}
 
 pub loop-k-init : goal.loop-k-init
 loop-k-init c = ending-none c.args.variant.now c.requires.1
@@ -17,7 +18,7 @@ overflow_sub-k c =
     ending-some c.requires.0 c.loop-k.invariant c.alike_suffix.ensures c.loop-k-test.true-raw
 
 pub loop-k-smaller : goal.loop-k-smaller
-loop-k-smaller c = omega (arith, sub-k c)
+loop-k-smaller c = omega (arith, sub-k (goal.at.loop-k-smaller c).In-loop-k)
 
 pub loop-k-preserved : goal.loop-k-preserved
 loop-k-preserved c =

@@ -10,16 +10,16 @@ use Rattle.search.proofs.Eithers.{passed-not, passed-own, passed-turned}
 use Rattle.search.proofs.Eithers.{Uniting, uniting-none, uniting-own, uniting-turned, uniting-room, uniting-more, uniting-refused}
 use Rattle.search.proofs.Eithers.{uniting-left, uniting-sound}
 use Rattle.search.proofs.both.run.run_both.Goals as goal
-use Rattle.search.proofs.both.run.run_both.Goals.{After-slice_known-1, In-loop-walked}
+use Rattle.search.proofs.both.run.run_both.Goals.{After-past-walked, After-slice_known-1, In-To, In-loop-walked}
 
 -- the stretch is no longer than a number can say
-narrow : (c : After-slice_known-1) → length c.args.stretch.now < 2 ^ 64
-narrow c = omega arith
+narrow : ((goal.at.After-slice_known-1 c).After-slice_known-1 : After-slice_known-1) → length c.args.stretch.now < 2 ^ 64
+narrow (goal.at.After-slice_known-1 c).After-slice_known-1 = omega arith
 
 -- a segment is left
-ahead : (c : In-loop-walked)
+ahead : ((goal.at.In-loop-walked c).In-loop-walked : In-loop-walked)
     → c.loop-walked.walked.passed < c.args.walk.count
-ahead c = omega (arith, c.loop-walked-test.true, c.loop-walked.invariant.0.walk.go.count)
+ahead (goal.at.In-loop-walked c).In-loop-walked = omega (arith, c.loop-walked-test.true, c.loop-walked.invariant.0.walk.go.count)
 
 pub loop-walked-init : goal.loop-walked-init
 loop-walked-init c = (uniting-none _ _ _ _ _ _ c.requires.1.1.0, refl)
@@ -38,21 +38,21 @@ shape_of-marks-in-Refused c = c.loop-walked.invariant.1
 pub returns-in-Refused : goal.returns-in-Refused
 returns-in-Refused c =
     let wrong = passed-not c.over.ensures.0 c.over.ensures.1 c.in-Refused.is in
-    uniting-refused c.loop-walked.invariant.0 (ahead c.before.before.before.before) _ _ wrong
+    uniting-refused c.loop-walked.invariant.0 (ahead (goal.at.returns-in-Refused c).In-loop-walked) _ _ wrong
 
 pub bounds-marks-k : goal.bounds-marks-k
 bounds-marks-k c =
     let own = passed-own c.over.ensures.0 c.over.ensures.1 c.in-To.is in
     let turned = passed-turned c.over.ensures.0 c.over.ensures.1 c.in-To.is in
     let room = c.requires.1.1.1 in
-    uniting-room c.loop-walked.invariant.0 own turned (ahead c.before.before.before.before) (omega (arith, room, c.loop-walked.invariant.1))
+    uniting-room c.loop-walked.invariant.0 own turned (ahead (goal.at.bounds-marks-k c).In-loop-walked) (omega (arith, room, c.loop-walked.invariant.1))
 
 pub overflow_add-ends : goal.overflow_add-ends
-overflow_add-ends c = let m = (loop-again c).0.walk in omega (arith, m.few)
+overflow_add-ends c = let m = (loop-again (goal.at.overflow_add-ends c).After-past-walked).0.walk in omega (arith, m.few)
 
 pub loop-walked-smaller : goal.loop-walked-smaller
 loop-walked-smaller c =
-    going_less c.loop-walked.invariant.0.walk.go (ahead c.before.before.before.before.before) (narrow c.before.before.before.before.before.before.before.before) _ _ c.past-walked.ensures
+    going_less c.loop-walked.invariant.0.walk.go (ahead (goal.at.loop-walked-smaller c).In-loop-walked) (narrow (goal.at.loop-walked-smaller c).After-slice_known-1) _ _ c.past-walked.ensures
 
 pub loop-walked-preserved : goal.loop-walked-preserved
 loop-walked-preserved c =
@@ -60,7 +60,7 @@ loop-walked-preserved c =
     let own = passed-own c.over.ensures.0 c.over.ensures.1 r.1 in
     let turned = passed-turned c.over.ensures.0 c.over.ensures.1 r.1 in
     let mark = byte-mark (r.0.1.1.1.0 || r.0.1.1.1.1.0) in (
-      uniting-more c.loop-walked.invariant.0 own turned (ahead c.before.before.before.before.before) _ mark (slice-write-marks c.before) (narrow c.before.before.before.before.before.before.before.before) c.past-walked.ensures,
+      uniting-more c.loop-walked.invariant.0 own turned (ahead (goal.at.loop-walked-preserved c).In-loop-walked) _ mark (slice-write-marks (goal.at.loop-walked-preserved c).In-To) (narrow (goal.at.loop-walked-preserved c).After-slice_known-1) c.past-walked.ensures,
       length-set c.loop-walked.marks c.loop-walked.walked.passed _ ∙ c.loop-walked.invariant.1,
     )
 

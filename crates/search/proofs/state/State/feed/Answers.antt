@@ -13,9 +13,9 @@ use Rattle.search.proofs.state.State.feed.Goals as goal
 use Rattle.search.proofs.state.State.feed.Goals.{In_default}
 
 -- nothing is wrong before the segment is read
-entry : (c : In_default)
+entry : ((goal.at.In_default c).In_default : In_default)
     → Entered c.args.pattern.now c.args.self.bits c.args.segment.now
-entry c = entered _ _ _ (sym c.enter.ensures ∙ ap told_verdict c.in_default.is)
+entry (goal.at.In_default c).In_default = entered _ _ _ (sym c.enter.ensures ∙ ap told_verdict c.in_default.is)
 
 pub returns-in-Refused : goal.returns-in-Refused
 returns-in-Refused c =
@@ -23,14 +23,14 @@ returns-in-Refused c =
     sym (fed-not _ _ _ _ _ _ wrong)
 
 pub slice_bounds-bytes-end : goal.slice_bounds-bytes-end
-slice_bounds-bytes-end c = read-room _ _ _ c.read_on-bytes.ensures (entry c.before).sound
+slice_bounds-bytes-end c = read-room _ _ _ c.read_on-bytes.ensures (entry (goal.at.slice_bounds-bytes-end c).In_default).sound
 
 pub slice_bounds-read-end : goal.slice_bounds-read-end
-slice_bounds-read-end c = read_length _ _ _ c.read_on-bytes.ensures (entry c.before.before).sound
+slice_bounds-read-end c = read_length _ _ _ c.read_on-bytes.ensures (entry (goal.at.slice_bounds-read-end c).In_default).sound
 
 pub run-requires : goal.run-requires
 run-requires c =
-    let y = entry c.before.before.before.before.before.before.before.before in
+    let y = entry (goal.at.run-requires c).In_default in
     let z = read-sound _ _ _ c.read_on-bytes.ensures y.sound in
     let w = lone-begins c.args.segment.now c.lone-walk.ensures in (
       (
@@ -45,12 +45,12 @@ run-requires c =
 
 pub returns-in-Refused-run : goal.returns-in-Refused-run
 returns-in-Refused-run c =
-    let y = entry c.before.before.before.before.before.before.before.before.before.before.before.before.before in
+    let y = entry (goal.at.returns-in-Refused-run c).In_default in
     let read = read_is _ _ _ c.read_on-bytes.ensures y.sound in
     sym (fed-refused _ _ _ _ _ read y c.lone-walk.ensures (c.run.ensures.1.0 refl) _ _ (ap told_sought c.in-Refused-run.is))
 
 pub returns-in-Marked : goal.returns-in-Marked
 returns-in-Marked c =
-    let y = entry c.before.before.before.before.before.before.before.before.before.before.before.before.before in
+    let y = entry (goal.at.returns-in-Marked c).In_default in
     let read = read_is _ _ _ c.read_on-bytes.ensures y.sound in
     sym (fed-next _ _ _ _ _ read y c.lone-walk.ensures (c.run.ensures.1.0 refl) _ _ _ _ (ap told_sought c.in-Marked.is))

@@ -12,18 +12,18 @@ use Rattle.search.proofs.BitScans.{masks-short}
 use Rattle.search.proofs.ReadOns.{read_is, read_length, read-room, read-sound, read-state}
 use Rattle.search.proofs.Hits.{told-clear, told-ends, few-some, first-not, first-is, hit-closed, hit-walk}
 use Rattle.search.proofs.state.State.first.Goals as goal
-use Rattle.search.proofs.state.State.first.Goals.{In-At-2, In_default}
+use Rattle.search.proofs.state.State.first.Goals.{After-open, In-At-2, In_default}
 
 -- nothing is wrong before the stretch is read
-entry : (c : In_default)
+entry : ((goal.at.In_default c).In_default : In_default)
     → Entered c.args.pattern.now c.args.self.bits c.args.stretch.now
-entry c = entered _ _ _ (sym c.enter.ensures ∙ ap told_verdict c.in_default.is)
+entry (goal.at.In_default c).In_default = entered _ _ _ (sym c.enter.ensures ∙ ap told_verdict c.in_default.is)
 
 -- the stretch was opened
-opening : (v : In-At-2)
+opening : ((goal.at.In-At-2 v).In-At-2 : In-At-2)
     → Opening v.args.stretch.now
     v.in-At.walk
-opening v = open_is _ v.before.before.«open».ensures v.in-At.is
+opening (goal.at.In-At-2 v).In-At-2 = open_is _ (goal.at.In-At-2 v).After-open.«open».ensures v.in-At.is
 
 pub returns-in-Refused : goal.returns-in-Refused
 returns-in-Refused c =
@@ -31,21 +31,21 @@ returns-in-Refused c =
     sym (first-not _ _ _ _ _ _ wrong)
 
 pub slice_bounds-bytes-end : goal.slice_bounds-bytes-end
-slice_bounds-bytes-end c = read-room _ _ _ c.read_on-bytes.ensures (entry c.before).sound
+slice_bounds-bytes-end c = read-room _ _ _ c.read_on-bytes.ensures (entry (goal.at.slice_bounds-bytes-end c).In_default).sound
 
 pub slice_bounds-read-end : goal.slice_bounds-read-end
-slice_bounds-read-end c = read_length _ _ _ c.read_on-bytes.ensures (entry c.before.before).sound
+slice_bounds-read-end c = read_length _ _ _ c.read_on-bytes.ensures (entry (goal.at.slice_bounds-read-end c).In_default).sound
 
 pub returns-in-Refused-open : goal.returns-in-Refused-open
 returns-in-Refused-open c =
-    let y = entry c.before.before.before.before.before.before.before.before in
+    let y = entry (goal.at.returns-in-Refused-open c).In_default in
     let read = read_is _ _ _ c.read_on-bytes.ensures y.sound in
-    let closed = hit-closed _ _ _ y.short _ _ (open-not _ c.before.before.before.«open».ensures c.in-Refused-open.is).0 in
+    let closed = hit-closed _ _ _ y.short _ _ (open-not _ (goal.at.returns-in-Refused-open c).After-open.«open».ensures c.in-Refused-open.is).0 in
     sym (first-is _ _ _ _ _ read y _ (sym closed))
 
 pub run-requires : goal.run-requires
 run-requires c =
-    let y = entry c.before.before.before.before.before.before.before.before.before.before.before in
+    let y = entry (goal.at.run-requires c).In_default in
     let z = read-sound _ _ _ c.read_on-bytes.ensures y.sound in (
       (
         record {
@@ -54,15 +54,15 @@ run-requires c =
         },
         read-state _ _ _ c.read_on-bytes.ensures y.sound _ y.state,
       ),
-      (((opening c.before.before.before.before).begins, omega (arith, y.short)), λ kept. absurd (false≢true (sym kept))),
+      (((opening (goal.at.run-requires c).In-At-2).begins, omega (arith, y.short)), λ kept. absurd (false≢true (sym kept))),
     )
 
 pub returns-then-ends-eq0 : goal.returns-then-ends-eq0
 returns-then-ends-eq0 c =
-    let y = entry c.before.before.before.before.before.before.before.before.before.before.before.before.before.before.before.before.before in
+    let y = entry (goal.at.returns-then-ends-eq0 c).In_default in
     let read = read_is _ _ _ c.read_on-bytes.ensures y.sound in
     let told = told-clear _ _ _ _ c.in-Marked.is c.if-ends-eq0.true in
-    let all = (c.run.ensures.0 refl).0 ∙ sym (hit-walk _ _ _ (opening c.before.before.before.before.before.before.before.before.before.before) y.short) in
+    let all = (c.run.ensures.0 refl).0 ∙ sym (hit-walk _ _ _ (opening (goal.at.returns-then-ends-eq0 c).In-At-2) y.short) in
     sym (first-is _ _ _ _ _ read y _ (sym told ∙ all))
 
 pub overflow_sub-result : goal.overflow_sub-result
@@ -71,16 +71,16 @@ overflow_sub-result c =
 
 pub returns-in-Refused-run : goal.returns-in-Refused-run
 returns-in-Refused-run c =
-    let y = entry c.before.before.before.before.before.before.before.before.before.before.before.before.before.before.before.before in
+    let y = entry (goal.at.returns-in-Refused-run c).In_default in
     let read = read_is _ _ _ c.read_on-bytes.ensures y.sound in
     let told = ap told_hit c.in-Refused-run.is in
-    let all = (c.run.ensures.0 refl).0 ∙ sym (hit-walk _ _ _ (opening c.before.before.before.before.before.before.before.before.before) y.short) in
+    let all = (c.run.ensures.0 refl).0 ∙ sym (hit-walk _ _ _ (opening (goal.at.returns-in-Refused-run c).In-At-2) y.short) in
     sym (first-is _ _ _ _ _ read y _ (sym told ∙ all))
 
 pub returns-else-ends-eq0 : goal.returns-else-ends-eq0
 returns-else-ends-eq0 c =
-    let y = entry c.before.before.before.before.before.before.before.before.before.before.before.before.before.before.before.before.before in
+    let y = entry (goal.at.returns-else-ends-eq0 c).In_default in
     let read = read_is _ _ _ c.read_on-bytes.ensures y.sound in
     let told = told-ends _ _ _ _ c.in-Marked.is c.if-ends-eq0.false in
-    let all = (c.run.ensures.0 refl).0 ∙ sym (hit-walk _ _ _ (opening c.before.before.before.before.before.before.before.before.before.before) y.short) in
+    let all = (c.run.ensures.0 refl).0 ∙ sym (hit-walk _ _ _ (opening (goal.at.returns-else-ends-eq0 c).In-At-2) y.short) in
     sym (first-is _ _ _ _ _ read y _ (sym told ∙ all))

@@ -11,19 +11,19 @@ use Rattle.search.proofs.state.State.through.Goals as goal
 use Rattle.search.proofs.state.State.through.Goals.{In-Sound}
 
 -- nothing is wrong before the stretch is read
-entry : (c : In-Sound)
+entry : ((goal.at.In-Sound c).In-Sound : In-Sound)
     → Entered c.args.pattern.now c.args.self.bits c.args.stretch.now
-entry c = entered _ _ _ (sym c.enter.ensures ∙ ap told_verdict c.in-Sound.is)
+entry (goal.at.In-Sound c).In-Sound = entered _ _ _ (sym c.enter.ensures ∙ ap told_verdict c.in-Sound.is)
 
 pub slice_bounds-bytes-end : goal.slice_bounds-bytes-end
-slice_bounds-bytes-end c = read-room _ _ _ c.read_on-bytes.ensures (entry c.before).sound
+slice_bounds-bytes-end c = read-room _ _ _ c.read_on-bytes.ensures (entry (goal.at.slice_bounds-bytes-end c).In-Sound).sound
 
 pub slice_bounds-read-end : goal.slice_bounds-read-end
-slice_bounds-read-end c = read_length _ _ _ c.read_on-bytes.ensures (entry c.before.before).sound
+slice_bounds-read-end c = read_length _ _ _ c.read_on-bytes.ensures (entry (goal.at.slice_bounds-read-end c).In-Sound).sound
 
 pub mark-requires : goal.mark-requires
 mark-requires c =
-    let y = entry c.before.before.before.before.before in
+    let y = entry (goal.at.mark-requires c).In-Sound in
     let z = read-sound _ _ _ c.read_on-bytes.ensures y.sound in (
       record { some = z.some; short = z.short; bases = z.bases; holds = masks-short _ _ z.short c.complements-table.ensures },
       read-state _ _ _ c.read_on-bytes.ensures y.sound _ y.state,
@@ -37,6 +37,6 @@ returns-in-Refused c =
 
 pub returns-in-Sound : goal.returns-in-Sound
 returns-in-Sound c =
-    let y = entry c.before.before.before.before.before.before.before.before in
+    let y = entry (goal.at.returns-in-Sound c).In-Sound in
     let read = read_is _ _ _ c.read_on-bytes.ensures y.sound in
     seek-sound _ _ _ _ c.args.marks.now y _ read _ _ c.mark.ensures

@@ -15,44 +15,44 @@ use Rattle.vcf.proofs.records.record.sound.Goals as goal
 use Rattle.vcf.proofs.records.record.sound.Goals.{Else-not-is_allele, Else-not-more_than, Else-not-same}
 
 abbrev name_of : Else-not-more_than → List ℕ
-name_of c = c.args.name.now
+name_of (goal.at.Else-not-more_than c).Else-not-more_than = c.args.name.now
 
 abbrev line_of : Else-not-more_than → List ℕ
-line_of c = c.args.line.now
+line_of (goal.at.Else-not-more_than c).Else-not-more_than = c.args.line.now
 
 -- what the tests that were passed say
-enough : (c : Else-not-more_than) → ltb 7 (length (pieces 0x09 (line_of c))) ≡ true
-enough c = sym c.more_than.ensures ∙ not-false _ c.if-not-more_than.false-raw
+enough : ((goal.at.Else-not-more_than c).Else-not-more_than : Else-not-more_than) → ltb 7 (length (pieces 0x09 (line_of (goal.at.Else-not-more_than c).Else-not-more_than))) ≡ true
+enough (goal.at.Else-not-more_than c).Else-not-more_than = sym c.more_than.ensures ∙ not-false _ c.if-not-more_than.false-raw
 
-named : (c : Else-not-same) → same (field (line_of c.before.before.before) 0) (name_of c.before.before.before) ≡ true
-named c =
-    through (λ (x : List ℕ). same x (name_of c.before.before.before)) c.field-chromosome.ensures c.same.ensures
+named : ((goal.at.Else-not-same c).Else-not-same : Else-not-same) → same (field (line_of (goal.at.Else-not-same c).Else-not-more_than) 0) (name_of (goal.at.Else-not-same c).Else-not-more_than) ≡ true
+named (goal.at.Else-not-same c).Else-not-same =
+    through (λ (x : List ℕ). same x (name_of (goal.at.Else-not-same c).Else-not-more_than)) c.field-chromosome.ensures c.same.ensures
     (not-false _ c.if-not-same.false-raw)
 
-refd : (c : Else-not-is_allele) → allele (field (line_of c.before.before.before.before.before.before) 3) ≡ true
-refd c = through allele c.field-reference.ensures c.is_allele.ensures (not-false _ c.if-not-is_allele.false-raw)
+refd : ((goal.at.Else-not-is_allele c).Else-not-is_allele : Else-not-is_allele) → allele (field (line_of (goal.at.Else-not-is_allele c).Else-not-more_than) 3) ≡ true
+refd (goal.at.Else-not-is_allele c).Else-not-is_allele = through allele c.field-reference.ensures c.is_allele.ensures (not-false _ c.if-not-is_allele.false-raw)
 
 pub returns-then-not-more_than : goal.returns-then-not-more_than
 returns-then-not-more_than c = sym (few-fields _ _ (sym c.more_than.ensures ∙ not-true _ c.if-not-more_than.true-raw))
 
 pub returns-then-not-same : goal.returns-then-not-same
 returns-then-not-same c =
-    let e = through (λ (x : List ℕ). same x (name_of c.before.before.before)) c.field-chromosome.ensures c.same.ensures
+    let e = through (λ (x : List ℕ). same x (name_of (goal.at.returns-then-not-same c).Else-not-more_than)) c.field-chromosome.ensures c.same.ensures
     (not-true _ c.if-not-same.true-raw) in
-    sym (wrong_name _ _ (enough c.before.before.before) e)
+    sym (wrong_name _ _ (enough (goal.at.returns-then-not-same c).Else-not-more_than) e)
 
 pub returns-then-not-is_allele : goal.returns-then-not-is_allele
 returns-then-not-is_allele c =
     let e = through allele c.field-reference.ensures c.is_allele.ensures (not-true _ c.if-not-is_allele.true-raw) in
-    sym (wrong-reference _ _ (enough c.before.before.before.before.before.before) (named c.before.before.before) e)
+    sym (wrong-reference _ _ (enough (goal.at.returns-then-not-is_allele c).Else-not-more_than) (named (goal.at.returns-then-not-is_allele c).Else-not-same) e)
 
 pub returns-then-not-are_alternates : goal.returns-then-not-are_alternates
 returns-then-not-are_alternates c =
     let e = through alternates_sound c.field-alt.ensures c.are_alternates.ensures (not-true _ c.if-not-are_alternates.true-raw) in
-    sym (wrong-alternates _ _ (enough c.before.before.before.before.before.before.before.before.before) (named c.before.before.before.before.before.before) (refd c.before.before.before) e)
+    sym (wrong-alternates _ _ (enough (goal.at.returns-then-not-are_alternates c).Else-not-more_than) (named (goal.at.returns-then-not-are_alternates c).Else-not-same) (refd (goal.at.returns-then-not-are_alternates c).Else-not-is_allele) e)
 
 pub returns : goal.returns
 returns c =
     let e = through alternates_sound c.field-alt.ensures c.are_alternates.ensures (not-false _ c.if-not-are_alternates.false-raw) in
     c.position.ensures ∙ ap position_of c.field-stated.ensures ∙ sym
-    (stated-position _ _ (enough c.before.before.before.before.before.before.before.before.before.before.before) (named c.before.before.before.before.before.before.before.before) (refd c.before.before.before.before.before) e)
+    (stated-position _ _ (enough (goal.at.returns c).Else-not-more_than) (named (goal.at.returns c).Else-not-same) (refd (goal.at.returns c).Else-not-is_allele) e)

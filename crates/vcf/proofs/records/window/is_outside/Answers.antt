@@ -8,19 +8,19 @@ use Rattle.vcf.proofs.records.window.is_outside.Goals as goal
 use Rattle.vcf.proofs.records.window.is_outside.Goals.{Else-window-eq0}
 
 -- the window has a base
-some : (c : Else-window-eq0) → length (meant c.args.window.now) ≡ 0 → ⊥
-some c e = c.if-window-eq0.false (sym (meant-length c.args.window.now) ∙ e)
+some : ((goal.at.Else-window-eq0 c).Else-window-eq0 : Else-window-eq0) → length (meant c.args.window.now) ≡ 0 → ⊥
+some (goal.at.Else-window-eq0 c).Else-window-eq0 e = c.if-window-eq0.false (sym (meant-length c.args.window.now) ∙ e)
 
 pub returns-then-window-eq0 : goal.returns-then-window-eq0
 returns-then-window-eq0 c = let w = c.args.window.now in sym (outside-empty (meant w) _ _ _ (meant-length w ∙ c.if-window-eq0.true))
 
 pub returns-then-end-first : goal.returns-then-end-first
-returns-then-end-first c = sym (outside-before _ _ _ _ (some c.before) c.if-end-first.true)
+returns-then-end-first c = sym (outside-before _ _ _ _ (some (goal.at.returns-then-end-first c).Else-window-eq0) c.if-end-first.true)
 
 pub returns-then-position-first : goal.returns-then-position-first
-returns-then-position-first c = sym (outside-early _ _ _ _ (some c.before.before) c.if-end-first.false c.if-position-first.true)
+returns-then-position-first c = sym (outside-early _ _ _ _ (some (goal.at.returns-then-position-first c).Else-window-eq0) c.if-end-first.false c.if-position-first.true)
 
 pub returns : goal.returns
 returns c =
     let w = c.args.window.now in
-    rw (← meant-length w) (outside_behind (meant w) _ _ _ (some c.before.before) c.if-end-first.false c.if-position-first.false)
+    rw (← meant-length w) (outside_behind (meant w) _ _ _ (some (goal.at.returns c).Else-window-eq0) c.if-end-first.false c.if-position-first.false)

@@ -14,11 +14,11 @@ use Rattle.vcf.proofs.survey.needed.repeated.Goals.{Else-alike}
 
 -- it is not REF
 other :
-    (c : Else-alike) →
+    ((goal.at.Else-alike c).Else-alike : Else-alike) →
     let a = start_ofₚc.args in
     among (meant a.allele.now) (meant a.reference.now ∷ take a.k (pieces 0x2C (meant a.alt.now)))
     ≡ among (meant a.allele.now) (take a.k (pieces 0x2C (meant a.alt.now)))
-other c = among-rest start_ofₚc.args.allele.now start_ofₚc.args.reference.now _ (sym c.alike.ensures ∙ c.if-alike.false)
+other (goal.at.Else-alike c).Else-alike = among-rest start_ofₚc.args.allele.now start_ofₚc.args.reference.now _ (sym c.alike.ensures ∙ c.if-alike.false)
 
 pub returns-then-alike : goal.returns-then-alike
 returns-then-alike c = among_first c.args.allele.now c.args.reference.now _
@@ -30,13 +30,13 @@ loop-i-init c = compared-none _ _ _
 pub returns-then-alike-2 : goal.returns-then-alike-2
 returns-then-alike-2 c =
     let r = compared_same c.loop-i.invariant c.loop-i-test.true c.end_of-end.ensures (sym c.alike-in-loop-i.ensures ∙ c.if-alike-2.true) in
-    sym (other c.before.before.before.before.before.before ∙ r)
+    sym (other (goal.at.returns-then-alike-2 c).Else-alike ∙ r)
 
 pub returns-then-end-alt : goal.returns-then-end-alt
 returns-then-end-alt c =
     let r = compared-missing c.loop-i.invariant c.loop-i-test.true c.end_of-end.ensures
     (sym c.alike-in-loop-i.ensures ∙ c.if-alike-2.false) c.if-end-alt.true in
-    sym (other c.before.before.before.before.before.before.before ∙ r)
+    sym (other (goal.at.returns-then-end-alt c).Else-alike ∙ r)
 
 pub overflow_add-from : goal.overflow_add-from
 overflow_add-from c = omega (arith, c.if-end-alt.false)
@@ -47,4 +47,4 @@ loop-i-preserved c =
     c.if-end-alt.false
 
 pub returns : goal.returns
-returns c = sym (other c.before.before ∙ compared-end c.loop-i.invariant c.loop-i-test.false)
+returns c = sym (other (goal.at.returns c).Else-alike ∙ compared-end c.loop-i.invariant c.loop-i-test.false)

@@ -12,12 +12,12 @@ use Rattle.vcf.proofs.survey.surveying.survey.Goals as goal
 use Rattle.vcf.proofs.survey.surveying.survey.Goals.{Else-not-is_headed, Else-not-is_placed}
 
 -- what the tests that were passed say
-P1 : (e : Else-not-is_placed) → placed e.args.window.now
+P1 : ((goal.at.Else-not-is_placed e).Else-not-is_placed : Else-not-is_placed) → placed e.args.window.now
     e.args.first ≡ true
-P1 e = sym e.is_placed.ensures ∙ not-false _ e.if-not-is_placed.false-raw
+P1 (goal.at.Else-not-is_placed e).Else-not-is_placed = sym e.is_placed.ensures ∙ not-false _ e.if-not-is_placed.false-raw
 
-P2 : (e : Else-not-is_headed) → prefix heading e.args.file.now ≡ true
-P2 e = sym e.is_headed.ensures ∙ not-false _ e.if-not-is_headed.false-raw
+P2 : ((goal.at.Else-not-is_headed e).Else-not-is_headed : Else-not-is_headed) → prefix heading e.args.file.now ≡ true
+P2 (goal.at.Else-not-is_headed e).Else-not-is_headed = sym e.is_headed.ensures ∙ not-false _ e.if-not-is_headed.false-raw
 
 pub returns-then-not-is_placed : goal.returns-then-not-is_placed
 returns-then-not-is_placed c =
@@ -27,16 +27,16 @@ returns-then-not-is_placed c =
 pub returns-then-not-is_headed : goal.returns-then-not-is_headed
 returns-then-not-is_headed c =
     rw c.refused-then-not-is_headed.ensures
-    (survey-heading _ _ _ _ (P1 c.before.before.before) (sym c.is_headed.ensures ∙ not-true _ c.if-not-is_headed.true-raw))
+    (survey-heading _ _ _ _ (P1 (goal.at.returns-then-not-is_headed c).Else-not-is_placed) (sym c.is_headed.ensures ∙ not-true _ c.if-not-is_headed.true-raw))
 
 pub returns-then-wrong-window : goal.returns-then-wrong-window
 returns-then-wrong-window c =
     rw c.refused-then-wrong-window.ensures
-    (survey-letter _ _ _ _ (P1 c.before.before.before.before.before) (P2 c.before.before.before) _ c.first_wrong-wrong.ensures c.if-wrong-window.true)
+    (survey-letter _ _ _ _ (P1 (goal.at.returns-then-wrong-window c).Else-not-is_placed) (P2 (goal.at.returns-then-wrong-window c).Else-not-is_headed) _ c.first_wrong-wrong.ensures c.if-wrong-window.true)
 
 pub scan-requires : goal.scan-requires
 scan-requires c =
-    survey-placed c.args.file.now _ _ c.args.name.now (P1 c.before.before.before.before)
+    survey-placed c.args.file.now _ _ c.args.name.now (P1 (goal.at.scan-requires c).Else-not-is_placed)
 
 pub returns-in-Wrong : goal.returns-in-Wrong
 returns-in-Wrong c =

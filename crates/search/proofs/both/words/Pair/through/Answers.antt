@@ -14,19 +14,19 @@ use Rattle.search.proofs.both.words.Pair.through.Goals as goal
 use Rattle.search.proofs.both.words.Pair.through.Goals.{In-Sound}
 
 -- nothing is wrong before the stretch is read
-entry : (c : In-Sound)
+entry : ((goal.at.In-Sound c).In-Sound : In-Sound)
     → EnteredBoth c.args.pattern.now c.args.self.given c.args.self.opposite c.args.stretch.now
-entry c = both-entered _ _ _ _ (sym c.enter_both.ensures ∙ ap told_verdict c.in-Sound.is)
+entry (goal.at.In-Sound c).In-Sound = both-entered _ _ _ _ (sym c.enter_both.ensures ∙ ap told_verdict c.in-Sound.is)
 
 pub slice_bounds-bytes-end : goal.slice_bounds-bytes-end
-slice_bounds-bytes-end c = read-room Opposite _ _ c.read_on-bytes.ensures (entry c.before).own.sound
+slice_bounds-bytes-end c = read-room Opposite _ _ c.read_on-bytes.ensures (entry (goal.at.slice_bounds-bytes-end c).In-Sound).own.sound
 
 pub slice_bounds-masks_both-end : goal.slice_bounds-masks_both-end
-slice_bounds-masks_both-end c = read_length Opposite _ _ c.read_on-bytes.ensures (entry c.before.before).own.sound
+slice_bounds-masks_both-end c = read_length Opposite _ _ c.read_on-bytes.ensures (entry (goal.at.slice_bounds-masks_both-end c).In-Sound).own.sound
 
 pub mark_both-requires : goal.mark_both-requires
 mark_both-requires c =
-    let e = entry c.before.before.before.before.before in
+    let e = entry (goal.at.mark_both-requires c).In-Sound in
     let y = e.own.sound in
     let z = strand-sound Opposite _ y in
     let read = read_is Opposite _ _ c.read_on-bytes.ensures y in (
@@ -49,4 +49,4 @@ returns-in-Refused c =
 
 pub returns-in-Sound : goal.returns-in-Sound
 returns-in-Sound c =
-    both-seek-sound _ _ _ _ c.args.marks.now (entry c.before.before.before.before.before.before.before.before) _ _ c.mark_both.ensures
+    both-seek-sound _ _ _ _ c.args.marks.now (entry (goal.at.returns-in-Sound c).In-Sound) _ _ c.mark_both.ensures

@@ -8,25 +8,25 @@ use Rattle.vcf.proofs.Tallying.{sane-opened, sane-tallied, record-none, record-s
 use Rattle.vcf.proofs.survey.needed.Needed.record.Goals as goal
 use Rattle.vcf.proofs.survey.needed.Needed.record.Goals.{After-open-begun, After-variant-first}
 
-begun : (c : After-open-begun) → Sane c.«open».result
-begun c = rw c.«open».ensures (sane-opened c.args.self c.requires)
+begun : ((goal.at.After-open-begun c).After-open-begun : After-open-begun) → Sane (goal.at.After-open-begun c).After-open-begun.«open».result
+begun (goal.at.After-open-begun c).After-open-begun = rw (goal.at.After-open-begun c).After-open-begun.«open».ensures (sane-opened c.args.self c.requires)
 
-whole : (v : After-variant-first) → v.variant-first.result ≡ tallied (opened v.args.self)
+whole : ((goal.at.After-variant-first v).After-variant-first : After-variant-first) → v.variant-first.result ≡ tallied (opened v.args.self)
     (length v.args.reference.now) false
-whole v = v.variant-first.ensures ∙ rw v.before.«open».ensures
+whole (goal.at.After-variant-first v).After-variant-first = v.variant-first.ensures ∙ rw (goal.at.After-variant-first v).After-open-begun.«open».ensures
 
 pub variant-first-requires : goal.variant-first-requires
-variant-first-requires c = begun c
+variant-first-requires c = begun (goal.at.variant-first-requires c).After-open-begun
 
 pub returns-then-is_none : goal.returns-then-is_none
-returns-then-is_none c = record-none Sₚv.args.self Sₚv.args.reference.now _ _ (whole c.before.before)
+returns-then-is_none c = record-none Sₚv.args.self Sₚv.args.reference.now _ _ (whole (goal.at.returns-then-is_none c).After-variant-first)
     (sym c.is_none.ensures ∙ c.if-is_none.true)
 
 pub alternates-requires : goal.alternates-requires
 alternates-requires c =
-    rw c.variant-first.ensures (sane-tallied c.before.before.before.«open».result (length Sₚv.args.reference.now) false (begun c.before.before.before))
+    rw c.variant-first.ensures (sane-tallied (goal.at.alternates-requires c).After-open-begun.«open».result (length Sₚv.args.reference.now) false (begun (goal.at.alternates-requires c).After-open-begun))
 
 pub returns : goal.returns
 returns c = let v =
-    c.before.before.before in record-some (S v).args.self (S v).args.reference.now _ _ (whole v)
+    (goal.at.returns c).After-variant-first in record-some (S v).args.self (S v).args.reference.now _ _ (whole v)
     (sym c.is_none.ensures ∙ c.if-is_none.false) _ c.alternates.ensures

@@ -12,69 +12,69 @@ use Rattle.vcf.specs.Records.{beyond, comment}
 use Rattle.vcf.proofs.Tallying.{sane-gap}
 use Rattle.vcf.proofs.Scanning.{step-comment, step-unsound, step-early, step-over, step-apart, step-bounds, step_in}
 use Rattle.vcf.proofs.survey.scan.Reached.line.Goals as goal
-use Rattle.vcf.proofs.survey.scan.Reached.line.Goals.{After-behind-end, Else-is_comment, Else-not-agrees}
+use Rattle.vcf.proofs.survey.scan.Reached.line.Goals.{After-behind-end, After-record-next, Else-is_comment, Else-not-agrees}
 
-plain : (c : Else-is_comment) → comment c.args.line.now ≡ false
-plain c = sym c.is_comment.ensures ∙ c.if-is_comment.false
+plain : ((goal.at.Else-is_comment c).Else-is_comment : Else-is_comment) → comment c.args.line.now ≡ false
+plain (goal.at.Else-is_comment c).Else-is_comment = sym c.is_comment.ensures ∙ c.if-is_comment.false
 
 -- the position after REF
 ending :
-    (b : After-behind-end) →
+    ((goal.at.After-behind-end b).After-behind-end : After-behind-end) →
     b.behind-end.result ≡ min beyond (b.sound-position.result + length (meant b.field-reference.result.now))
-ending b = b.behind-end.ensures ∙ rw (← meant-length b.field-reference.result.now)
+ending (goal.at.After-behind-end b).After-behind-end = b.behind-end.ensures ∙ rw (← meant-length b.field-reference.result.now)
 
 bounds :
-    (k : Else-not-agrees) →
+    ((goal.at.Else-not-agrees k).Else-not-agrees : Else-not-agrees) →
     (SₚBₚk.args.first ≤ Rₚk.sound.result)
     × (SₚBₚk.args.self.base ≤ Rₚk.sound.result - SₚBₚk.args.first)
     × (SₚBₚk.args.first ≤ Bₚk.behind.result)
-bounds k =
-    step-bounds _ _ _ Sₚb.args.self _ (plain k.before.before.before.before.before.before.before.before.before) _ k.sound-position.ensures k.if-position-eq0.false k.if-position-from.false _
-    (ap meant k.field-reference.ensures) Sₚb.requires.put _ (ending k.before.before.before.before)
+bounds (goal.at.Else-not-agrees k).Else-not-agrees =
+    step-bounds _ _ _ Sₚb.args.self _ (plain (goal.at.Else-not-agrees k).Else-is_comment) _ k.sound-position.ensures k.if-position-eq0.false k.if-position-from.false _
+    (ap meant k.field-reference.ensures) Sₚb.requires.put _ (ending (goal.at.Else-not-agrees k).After-behind-end)
     (sym k.if-is_outside.false ∙ k.is_outside.ensures) (sym (not-false _ k.if-not-agrees.false-raw) ∙ k.agrees.ensures) Sₚb.requires.passed
 
 pub returns-then-is_comment : goal.returns-then-is_comment
 returns-then-is_comment c = step-comment _ _ _ _ _ (sym c.is_comment.ensures ∙ c.if-is_comment.true)
 
 pub returns-then-position-eq0 : goal.returns-then-position-eq0
-returns-then-position-eq0 c = step-unsound _ _ _ _ _ (plain c.before.before) (sym c.sound-position.ensures ∙ c.if-position-eq0.true)
+returns-then-position-eq0 c = step-unsound _ _ _ _ _ (plain (goal.at.returns-then-position-eq0 c).Else-is_comment) (sym c.sound-position.ensures ∙ c.if-position-eq0.true)
 
 pub returns-then-position-from : goal.returns-then-position-from
 returns-then-position-from c =
-    step-early _ _ _ _ _ (plain c.before.before.before) _ c.sound-position.ensures c.if-position-eq0.false c.if-position-from.true
+    step-early _ _ _ _ _ (plain (goal.at.returns-then-position-from c).Else-is_comment) _ c.sound-position.ensures c.if-position-eq0.false c.if-position-from.true
 
 pub returns-then-is_outside : goal.returns-then-is_outside
 returns-then-is_outside c =
-    step-over _ _ _ _ _ (plain c.before.before.before.before.before.before.before) _ c.sound-position.ensures c.if-position-eq0.false c.if-position-from.false _ (ap meant c.field-reference.ensures)
-    Sₚb.requires.put _ (ending c.before.before)
+    step-over _ _ _ _ _ (plain (goal.at.returns-then-is_outside c).Else-is_comment) _ c.sound-position.ensures c.if-position-eq0.false c.if-position-from.false _ (ap meant c.field-reference.ensures)
+    Sₚb.requires.put _ (ending (goal.at.returns-then-is_outside c).After-behind-end)
     (sym c.if-is_outside.true ∙ c.is_outside.ensures)
 
 pub returns-then-not-agrees : goal.returns-then-not-agrees
 returns-then-not-agrees c =
-    step-apart _ _ _ _ _ (plain c.before.before.before.before.before.before.before.before.before) _ c.sound-position.ensures c.if-position-eq0.false c.if-position-from.false _ (ap meant c.field-reference.ensures)
-    Sₚb.requires.put _ (ending c.before.before.before.before)
+    step-apart _ _ _ _ _ (plain (goal.at.returns-then-not-agrees c).Else-is_comment) _ c.sound-position.ensures c.if-position-eq0.false c.if-position-from.false _ (ap meant c.field-reference.ensures)
+    Sₚb.requires.put _ (ending (goal.at.returns-then-not-agrees c).After-behind-end)
     (sym c.if-is_outside.false ∙ c.is_outside.ensures) (sym (not-true _ c.if-not-agrees.true-raw) ∙ c.agrees.ensures)
 
 pub overflow_sub-position : goal.overflow_sub-position
-overflow_sub-position c = let h = bounds c.before in omega (arith, h)
+overflow_sub-position c = let h = bounds (goal.at.overflow_sub-position c).Else-not-agrees in omega (arith, h)
 
 pub overflow_sub-position-2 : goal.overflow_sub-position-2
-overflow_sub-position-2 c = let h = bounds c.before in omega (arith, h)
+overflow_sub-position-2 c = let h = bounds (goal.at.overflow_sub-position-2 c).Else-not-agrees in omega (arith, h)
 
 pub record-next-requires : goal.record-next-requires
 record-next-requires c =
-    rw c.gap-before.ensures (sane-gap c.args.self.needed ((R c.before.before).sound.result - c.args.first - c.args.self.base)
+    rw c.gap-before.ensures (sane-gap c.args.self.needed ((R (goal.at.record-next-requires c).Else-not-agrees).sound.result - c.args.first - c.args.self.base)
     c.requires.sane)
 
 pub overflow_sub-result : goal.overflow_sub-result
-overflow_sub-result c = let h = bounds c.before.before.before in omega (arith, h)
+overflow_sub-result c = let h = bounds (goal.at.overflow_sub-result c).Else-not-agrees in omega (arith, h)
 
 pub overflow_add-result : goal.overflow_add-result
-overflow_add-result c = let s = S (B c.before.before.before) in omega (arith, s.pre.few, s.pre.inside, meant-length s.args.window.now)
+overflow_add-result c = let s = S (B (goal.at.overflow_add-result c).Else-not-agrees) in omega (arith, s.pre.few, s.pre.inside, meant-length s.args.window.now)
 
 pub returns : goal.returns
 returns c =
-    step_in _ _ _ _ _ (plain c.before.before.before.before.before.before.before.before.before.before.before.before) _ c.sound-position.ensures c.if-position-eq0.false c.if-position-from.false _ (ap meant c.field-reference.ensures)
-    Sₚb.requires.put _ (ending c.before.before.before.before.before.before.before)
+    step_in _ _ _ _ _ (plain (goal.at.returns c).Else-is_comment) _ c.sound-position.ensures c.if-position-eq0.false c.if-position-from.false _ (ap meant c.field-reference.ensures)
+    Sₚb.requires.put _ (ending (goal.at.returns c).After-behind-end)
     (sym c.if-is_outside.false ∙ c.is_outside.ensures) (sym (not-false _ c.if-not-agrees.false-raw) ∙ c.agrees.ensures)
-    _ (ap meant c.field-alt.ensures) _ _ c.gap-before.ensures c.«record».ensures
+    _ (ap meant c.field-alt.ensures) _ _ c.gap-before.ensures (goal.at.returns c).After-record-next.«record».ensures
