@@ -8,8 +8,8 @@ use Rattle.card.proofs.follow.follow.Goals as goal
 use Rattle.card.proofs.follow.follow.Goals.{In-loop-rest}
 
 -- a bit is left, so q is a row
-inside : ((goal.at.In-loop-rest c).In-loop-rest : In-loop-rest) → c.loop-rest.q < 64
-inside (goal.at.In-loop-rest c).In-loop-rest =
+inside : (c : In-loop-rest) → c.loop-rest.q < 64
+inside c =
     following-inside _ _ _ _ _ _ _ c.loop-rest.invariant c.ranges.state.fits c.loop-rest-test.true
 
 pub loop-rest-init : goal.loop-rest-init

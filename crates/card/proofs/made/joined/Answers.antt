@@ -7,8 +7,8 @@ use Rattle.card.proofs.made.joined.Goals as goal
 use Rattle.card.proofs.made.joined.Goals.{Start}
 
 -- a card has 64 exits and 64 first ends
-full : ((goal.at.Start c).Start : Start) → Full c.args.right.exits c.args.right.firsts
-full (goal.at.Start c).Start = record { states = search rules; ends = search rules }
+full : (c : Start) → Full c.args.right.exits c.args.right.firsts
+full c = record { states = search rules; ends = search rules }
 
 pub loop-q-init : goal.loop-q-init
 loop-q-init c = changing-none _ _ _ (record { states = search rules; ends = search rules })

@@ -10,14 +10,14 @@ use Rattle.card.proofs.test.well_formed.Goals as goal
 use Rattle.card.proofs.test.well_formed.Goals.{Else-not-is_padded, Start}
 
 -- the pattern was found padded
-padded : ((goal.at.Else-not-is_padded c).Else-not-is_padded : Else-not-is_padded)
+padded : (c : Else-not-is_padded)
     → let card = c.args.card in
     is_padded card.pattern card.m ≡ true
-padded (goal.at.Else-not-is_padded c).Else-not-is_padded = passed c.is_padded.ensures c.if-not-is_padded.false-raw
+padded c = passed c.is_padded.ensures c.if-not-is_padded.false-raw
 
 -- a card has 64 exits and 64 first ends
-full : ((goal.at.Start c).Start : Start) → Full c.args.card.exits c.args.card.firsts
-full (goal.at.Start c).Start = record { states = search rules; ends = search rules }
+full : (c : Start) → Full c.args.card.exits c.args.card.firsts
+full c = record { states = search rules; ends = search rules }
 
 pub returns-then-m-gt-GREATEST_PATTERN : goal.returns-then-m-gt-GREATEST_PATTERN
 returns-then-m-gt-GREATEST_PATTERN c = formed-long _ c.if-m-gt-GREATEST_PATTERN.true

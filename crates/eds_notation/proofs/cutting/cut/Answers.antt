@@ -12,14 +12,14 @@ use Rattle.eds_notation.proofs.cutting.cut.Goals.{Else-not-is_within}
 
 -- the tape lies within its buffers
 lies :
-    ((goal.at.Else-not-is_within c).Else-not-is_within : Else-not-is_within) →
+    (c : Else-not-is_within) →
     within c.args.tape (length c.args.letters.now) (length c.args.lengths.now) ≡ true
-lies (goal.at.Else-not-is_within c).Else-not-is_within = sym c.is_within.ensures ∙ not-false _ c.if-not-is_within.false-raw
+lies c = sym c.is_within.ensures ∙ not-false _ c.if-not-is_within.false-raw
 
 inside :
-    ((goal.at.Else-not-is_within c).Else-not-is_within : Else-not-is_within) →
+    (c : Else-not-is_within) →
     Within c.args.tape (length c.args.letters.now) (length c.args.lengths.now)
-inside (goal.at.Else-not-is_within c).Else-not-is_within = within-is _ _ _ (lies (goal.at.Else-not-is_within c).Else-not-is_within)
+inside c = within-is _ _ _ (lies c)
 
 pub returns-then-not-is_within : goal.returns-then-not-is_within
 returns-then-not-is_within c = cut-not _ _ _ (sym c.is_within.ensures ∙ not-true _ c.if-not-is_within.true-raw)

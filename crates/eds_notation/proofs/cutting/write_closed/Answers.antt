@@ -12,14 +12,14 @@ use Rattle.eds_notation.proofs.cutting.write_closed.Goals.{Else-not-is_within}
 
 -- the tape lies within its buffers
 lies :
-    ((goal.at.Else-not-is_within c).Else-not-is_within : Else-not-is_within) →
+    (c : Else-not-is_within) →
     within c.args.tape (length c.args.letters.now) (length c.args.lengths.now) ≡ true
-lies (goal.at.Else-not-is_within c).Else-not-is_within = sym c.is_within.ensures ∙ not-false _ c.if-not-is_within.false-raw
+lies c = sym c.is_within.ensures ∙ not-false _ c.if-not-is_within.false-raw
 
 inside :
-    ((goal.at.Else-not-is_within c).Else-not-is_within : Else-not-is_within) →
+    (c : Else-not-is_within) →
     Within c.args.tape (length c.args.letters.now) (length c.args.lengths.now)
-inside (goal.at.Else-not-is_within c).Else-not-is_within = within-is _ _ _ (lies (goal.at.Else-not-is_within c).Else-not-is_within)
+inside c = within-is _ _ _ (lies c)
 
 pub returns-then-counts-segments : goal.returns-then-counts-segments
 returns-then-counts-segments c =

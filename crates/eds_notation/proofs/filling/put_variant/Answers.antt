@@ -14,18 +14,18 @@ use Rattle.eds_notation.proofs.filling.put_variant.Goals.{Else-not-fits}
 
 -- there is room in a stretch, so that the numbers of the tape are sound
 room :
-    ((goal.at.Else-not-fits c).Else-not-fits : Else-not-fits) →
+    (c : Else-not-fits) →
     fits c.args.tape 0 c.args.another ≡ true
-room (goal.at.Else-not-fits c).Else-not-fits = sym c.fits.ensures ∙ not-false _ c.if-not-fits.false-raw
+room c = sym c.fits.ensures ∙ not-false _ c.if-not-fits.false-raw
 
 fitting :
-    ((goal.at.Else-not-fits c).Else-not-fits : Else-not-fits) →
+    (c : Else-not-fits) →
     Fitting c.args.tape 0 c.args.another
-fitting (goal.at.Else-not-fits c).Else-not-fits = fits-is _ _ _ (room (goal.at.Else-not-fits c).Else-not-fits)
+fitting c = fits-is _ _ _ (room c)
 
 -- the letters of the tape are there, and the lengths have room for one more
-there : ((goal.at.Else-not-fits c).Else-not-fits : Else-not-fits) → c.args.tape.letters ≤ length c.args.letters.now
-there (goal.at.Else-not-fits c).Else-not-fits = c.if-letters-end.false
+there : (c : Else-not-fits) → c.args.tape.letters ≤ length c.args.letters.now
+there c = c.if-letters-end.false
 
 pub returns-then-letters-end : goal.returns-then-letters-end
 returns-then-letters-end c = (c.full.ensures ∙ variant-far _ _ _ _ _ c.if-letters-end.true, full-leaves _ _ c.full.ensures _ _)
@@ -48,11 +48,10 @@ pub stands-requires : goal.stands-requires
 stands-requires c = open-size _ _ _ (fitting (goal.at.stands-requires c).Else-not-fits) (there (goal.at.stands-requires c).Else-not-fits)
 
 pub returns-then-stands : goal.returns-then-stands
-returns-then-stands c =
-    (
-      variant-repeated _ _ _ _ _ (there (goal.at.returns-then-stands c).Else-not-fits) c.if-lengths-at.false (room (goal.at.returns-then-stands c).Else-not-fits) _ c.stands.ensures c.if-stands.true,
-      wrong-leaves _ _ _,
-    )
+returns-then-stands c = (
+  variant-repeated _ _ _ _ _ (there (goal.at.returns-then-stands c).Else-not-fits) c.if-lengths-at.false (room (goal.at.returns-then-stands c).Else-not-fits) _ c.stands.ensures c.if-stands.true,
+  wrong-leaves _ _ _,
+)
 
 pub overflow_cast-lengths : goal.overflow_cast-lengths
 overflow_cast-lengths c =
@@ -60,9 +59,8 @@ overflow_cast-lengths c =
     omega (arith, f.spelt, f.letters, f.bytes)
 
 pub returns : goal.returns
-returns c =
-    (
-      variant-done _ _ _ _ _ (there (goal.at.returns c).Else-not-fits) c.if-lengths-at.false (room (goal.at.returns c).Else-not-fits) _ c.stands.ensures
-          c.if-stands.false,
-      done-leaves _ _ _,
-    )
+returns c = (
+  variant-done _ _ _ _ _ (there (goal.at.returns c).Else-not-fits) c.if-lengths-at.false (room (goal.at.returns c).Else-not-fits) _ c.stands.ensures
+      c.if-stands.false,
+  done-leaves _ _ _,
+)

@@ -6,8 +6,8 @@ use Rattle.layout.proofs.Overs.{over-two, put-over, put-short}
 use Rattle.layout.proofs.number.put_word.Goals as goal
 use Rattle.layout.proofs.number.put_word.Goals.{Else-not-has_room}
 
-room : ((goal.at.Else-not-has_room c).Else-not-has_room : Else-not-has_room) → c.args.at + 2 ≤ length c.args.out.now
-room (goal.at.Else-not-has_room c).Else-not-has_room = leb-true _ _ (sym c.has_room.ensures ∙ not-false _ c.if-not-has_room.false-raw)
+room : (c : Else-not-has_room) → c.args.at + 2 ≤ length c.args.out.now
+room c = leb-true _ _ (sym c.has_room.ensures ∙ not-false _ c.if-not-has_room.false-raw)
 
 pub returns-then-not-has_room : goal.returns-then-not-has_room
 unfolding word_bytes

@@ -5,8 +5,8 @@ use Rattle.layout.proofs.Stands.{word-there, word_none}
 use Rattle.layout.proofs.number.word_at.Goals as goal
 use Rattle.layout.proofs.number.word_at.Goals.{Else-not-has_room}
 
-room : ((goal.at.Else-not-has_room c).Else-not-has_room : Else-not-has_room) → c.args.at + 2 ≤ length c.args.bytes.now
-room (goal.at.Else-not-has_room c).Else-not-has_room = leb-true _ _ (sym c.has_room.ensures ∙ not-false _ c.if-not-has_room.false-raw)
+room : (c : Else-not-has_room) → c.args.at + 2 ≤ length c.args.bytes.now
+room c = leb-true _ _ (sym c.has_room.ensures ∙ not-false _ c.if-not-has_room.false-raw)
 
 pub returns-then-not-has_room : goal.returns-then-not-has_room
 returns-then-not-has_room c = (sym (word_none _ _ (sym c.has_room.ensures ∙ not-true _ c.if-not-has_room.true-raw)), omega arith)

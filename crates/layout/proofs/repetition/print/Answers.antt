@@ -7,13 +7,13 @@ use Rattle.layout.proofs.repetition.print.Goals as goal
 use Rattle.layout.proofs.repetition.print.Goals.{In-At-2}
 
 -- where the letters stand
-found : ((goal.at.In-At-2 c).In-At-2 : In-At-2)
+found : (c : In-At-2)
     → Whole
     c.args.stretch.now
     c.args.at
     c.in-At.start
     c.in-At.next
-found (goal.at.In-At-2 c).In-At-2 = head-is _ _ _ _ (sym c.head.ensures ∙ ap told_part c.in-At.is)
+found c = head-is _ _ _ _ (sym c.head.ensures ∙ ap told_part c.in-At.is)
 
 pub returns-then-count-eq1 : goal.returns-then-count-eq1
 returns-then-count-eq1 c = sym (print-lone _ _ _ c.if-count-eq1.true)

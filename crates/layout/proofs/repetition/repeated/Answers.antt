@@ -7,14 +7,14 @@ use Rattle.layout.proofs.repetition.repeated.Goals as goal
 use Rattle.layout.proofs.repetition.repeated.Goals.{After-stands, At-loop-place}
 
 -- the variant has room at `at`
-room : ((goal.at.At-loop-place c).At-loop-place : At-loop-place)
+room : (c : At-loop-place)
     → c.args.at + 2 + length c.args.variant.now ≤ length c.args.stretch.now
-room (goal.at.At-loop-place c).At-loop-place = omega arith
+room c = omega arith
 
 -- what was compared
-compared : ((goal.at.After-stands c).After-stands : After-stands)
+compared : (c : After-stands)
     → alike c.args.variant.now (letters_at c.args.stretch.now c.loop-place.place) ≡ c.stands.result
-compared (goal.at.After-stands c).After-stands =
+compared c =
     let place = c.loop-place.place in
     ap (λ (n : ℕ). alike c.args.variant.now (take n (drop (place + 2) c.args.stretch.now))) (sym c.pair-letters.ensures.0)
     ∙ sym c.stands.ensures

@@ -10,8 +10,8 @@ use Rattle.layout.proofs.Overs.{emitted-length, Copied, copied_none, copied-room
 use Rattle.layout.proofs.variant.put_variant.Goals as goal
 use Rattle.layout.proofs.variant.put_variant.Goals.{Else-not-has_room}
 
-room : ((goal.at.Else-not-has_room c).Else-not-has_room : Else-not-has_room) → Sₚc.args.at + 2 + length Sₚc.args.variant.now ≤ length Sₚc.args.out.now
-room (goal.at.Else-not-has_room c).Else-not-has_room =
+room : (c : Else-not-has_room) → Sₚc.args.at + 2 + length Sₚc.args.variant.now ≤ length Sₚc.args.out.now
+room c =
     let a = Sₚc.args in
     let h : a.at + (2 + length a.variant.now) ≤ length a.out.now =
     leb-true _ _ (sym c.has_room.ensures ∙ not-false _ c.if-not-has_room.false-raw) in

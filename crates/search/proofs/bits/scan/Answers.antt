@@ -10,9 +10,9 @@ use Rattle.search.proofs.bits.scan.Goals as goal
 use Rattle.search.proofs.bits.scan.Goals.{After-shared_slice_known-1}
 
 -- the letter that is read is a byte
-byte : ((goal.at.After-shared_slice_known-1 c).After-shared_slice_known-1 : After-shared_slice_known-1)
+byte : (c : After-shared_slice_known-1)
     → get_or c.args.variant.now c.loop-i.i 0 < 256
-byte (goal.at.After-shared_slice_known-1 c).After-shared_slice_known-1 = omega (arith, c.shared_slice_known-1.given c.loop-i.i)
+byte c = omega (arith, c.shared_slice_known-1.given c.loop-i.i)
 
 pub loop-i-init : goal.loop-i-init
 loop-i-init c = turning-none P _ _ _ _ _ (omega arith) y

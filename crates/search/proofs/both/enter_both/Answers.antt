@@ -9,9 +9,9 @@ use Rattle.search.proofs.both.enter_both.Goals as goal
 use Rattle.search.proofs.both.enter_both.Goals.{In_default}
 
 -- nothing is wrong of the strand as given
-entry : ((goal.at.In_default c).In_default : In_default)
+entry : (c : In_default)
     → Entered c.args.pattern.now c.args.state.given c.args.bytes.now
-entry (goal.at.In_default c).In_default = entered _ _ _ (sym c.enter.ensures ∙ ap told_verdict c.in_default.is)
+entry c = entered _ _ _ (sym c.enter.ensures ∙ ap told_verdict c.in_default.is)
 
 pub returns-in-Refused : goal.returns-in-Refused
 returns-in-Refused c = sym (both-refused _ _ _ _ _ _ (sym c.enter.ensures ∙ ap told_verdict c.in-Refused.is) _)

@@ -10,8 +10,8 @@ use Rattle.search.proofs.entry.enter.Goals as goal
 use Rattle.search.proofs.entry.enter.Goals.{In_default}
 
 -- the pattern was found sound
-sound : ((goal.at.In_default c).In_default : In_default) → SoundPattern c.args.pattern.now
-sound (goal.at.In_default c).In_default = pattern-sound _ (sym c.check.ensures ∙ ap told_verdict c.in_default.is)
+sound : (c : In_default) → SoundPattern c.args.pattern.now
+sound c = pattern-sound _ (sym c.check.ensures ∙ ap told_verdict c.in_default.is)
 
 pub returns-in-Refused : goal.returns-in-Refused
 returns-in-Refused c =

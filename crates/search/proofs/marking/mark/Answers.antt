@@ -18,9 +18,9 @@ abbrev segments : Seen → ℕ
 segments x = x.segments
 
 -- the stretch was opened
-opening : ((goal.at.In-At-2 v).In-At-2 : In-At-2)
+opening : (v : In-At-2)
     → Opening v.args.stretch.now v.in-At.walk
-opening (goal.at.In-At-2 v).In-At-2 = open_is _ (goal.at.In-At-2 v).After-open.«open».ensures v.in-At.is
+opening v = open_is _ (goal.at.In-At-2 v).After-open.«open».ensures v.in-At.is
 
 pub returns-in-Refused : goal.returns-in-Refused
 returns-in-Refused c = into-not _ _ _ _ _ _ (open-not _ (goal.at.returns-in-Refused c).After-open.«open».ensures c.in-Refused.is).1

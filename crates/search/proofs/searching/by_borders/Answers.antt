@@ -11,9 +11,9 @@ use Rattle.search.proofs.searching.by_borders.Goals as goal
 use Rattle.search.proofs.searching.by_borders.Goals.{In-Sound}
 
 -- nothing is wrong before the stretch is read
-entry : ((goal.at.In-Sound c).In-Sound : In-Sound)
+entry : (c : In-Sound)
     → Entered c.args.pattern.now 1 c.args.stretch.now
-entry (goal.at.In-Sound c).In-Sound = entered _ _ _ (sym c.enter.ensures ∙ ap told_verdict c.in-Sound.is)
+entry c = entered _ _ _ (sym c.enter.ensures ∙ ap told_verdict c.in-Sound.is)
 
 pub slice_bounds-bytes-end : goal.slice_bounds-bytes-end
 slice_bounds-bytes-end c = read-room _ _ _ c.read_on-bytes.ensures (entry (goal.at.slice_bounds-bytes-end c).In-Sound).sound

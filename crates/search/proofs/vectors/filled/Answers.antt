@@ -12,13 +12,13 @@ use Rattle.search.proofs.vectors.filled.Goals as goal
 use Rattle.search.proofs.vectors.filled.Goals.{After-shared_slice_known-1, In-loop-k}
 
 -- the base that is entered
-near : ((goal.at.In-loop-k c).In-loop-k : In-loop-k) → c.loop-k.k < length (bases c.args.pattern.now)
-near (goal.at.In-loop-k c).In-loop-k = rw (← c.loop-k.invariant.0) c.loop-k-test.true
+near : (c : In-loop-k) → c.loop-k.k < length (bases c.args.pattern.now)
+near c = rw (← c.loop-k.invariant.0) c.loop-k-test.true
 
 -- it is a byte
-byte : ((goal.at.After-shared_slice_known-1 c).After-shared_slice_known-1 : After-shared_slice_known-1)
+byte : (c : After-shared_slice_known-1)
     → get_or c.args.pattern.now c.loop-k.k 0 < 256
-byte (goal.at.After-shared_slice_known-1 c).After-shared_slice_known-1 = omega (arith, c.shared_slice_known-1.given c.loop-k.k)
+byte c = omega (arith, c.shared_slice_known-1.given c.loop-k.k)
 
 pub loop-k-init : goal.loop-k-init
 loop-k-init c =

@@ -20,16 +20,16 @@ narrow : (c : tie.After-fits2 invariant-loop decreases-loop) → length c.before
 narrow c = omega arith
 
 -- the stretch was opened
-opening : ((goal.at.In-At-2 c).In-At-2 : In-At-2)
+opening : (c : In-At-2)
     → Opening c.args.stretch.now c.in-At.walk
-opening (goal.at.In-At-2 c).In-At-2 = open_is _ (goal.at.In-At-2 c).After-open.«open».ensures c.in-At.is
+opening c = open_is _ (goal.at.In-At-2 c).After-open.«open».ensures c.in-At.is
 
 -- and its text is that of the segments that are walked over
-text-is : ((goal.at.In-At-2 c).In-At-2 : In-At-2)
+text-is : (c : In-At-2)
     → let s = c.args.stretch.now in
     stretch_of s ≡ segments_of s c.in-At.walk.count c.in-At.walk.at
-text-is (goal.at.In-At-2 c).In-At-2 =
-    stretch-is _ (fits-met _ c.fits.ensures c.in_default.is) ∙ (opening (goal.at.In-At-2 c).In-At-2).whole
+text-is c =
+    stretch-is _ (fits-met _ c.fits.ensures c.in_default.is) ∙ (opening c).whole
 
 pub returns-in-Refused : goal.returns-in-Refused
 returns-in-Refused c =

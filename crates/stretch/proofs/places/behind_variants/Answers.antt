@@ -11,15 +11,15 @@ use Rattle.stretch.proofs.places.behind_variants.Goals as goal
 use Rattle.stretch.proofs.places.behind_variants.Goals.{After-word_at-letters, In-loop-i}
 
 -- the variant at the loop's place lies in the bytes
-fits : ((goal.at.In-loop-i c).In-loop-i : In-loop-i) →
+fits : (c : In-loop-i) →
     next_of c.args.stretch.now c.loop-i.at ≤ length c.args.stretch.now
-fits (goal.at.In-loop-i c).In-loop-i =
+fits c =
     stepping-fits _ (behind-grows c.args.stretch.now) _ _ _ _ _ c.loop-i.invariant c.loop-i-test.true c.requires
 
 -- so its length is there
-length-is : ((goal.at.After-word_at-letters c).After-word_at-letters : After-word_at-letters) →
+length-is : (c : After-word_at-letters) →
     c.word_at-letters.result ≡ word c.args.stretch.now c.loop-i.at
-length-is (goal.at.After-word_at-letters c).After-word_at-letters = let l = fits (goal.at.After-word_at-letters c).In-loop-i in c.word_at-letters.ensures.0 ∙ word-there _ _ (omega (arith, l))
+length-is c = let l = fits (goal.at.After-word_at-letters c).In-loop-i in c.word_at-letters.ensures.0 ∙ word-there _ _ (omega (arith, l))
 
 pub loop-i-init : goal.loop-i-init
 loop-i-init c = stepping-none _ _ _

@@ -8,15 +8,15 @@ use Rattle.stretch.proofs.places.segment_place.Goals as goal
 use Rattle.stretch.proofs.places.segment_place.Goals.{In-loop-i}
 
 -- the segment at the loop's place lies in the bytes
-fits : ((goal.at.In-loop-i c).In-loop-i : In-loop-i) →
+fits : (c : In-loop-i) →
     behind_segment c.args.stretch.now c.loop-i.at ≤ length c.args.stretch.now
-fits (goal.at.In-loop-i c).In-loop-i =
+fits c =
     stepping-fits _ (segment-grows c.args.stretch.now) _ _ _ _ _ c.loop-i.invariant c.loop-i-test.true c.requires
 
-inside : ((goal.at.In-loop-i c).In-loop-i : In-loop-i) → c.loop-i.at < length c.args.stretch.now
-inside (goal.at.In-loop-i c).In-loop-i =
+inside : (c : In-loop-i) → c.loop-i.at < length c.args.stretch.now
+inside c =
     let s = c.args.stretch.now in
-    omega (arith, fits (goal.at.In-loop-i c).In-loop-i, variants-grow s (get_or s c.loop-i.at 0) (c.loop-i.at + 1))
+    omega (arith, fits c, variants-grow s (get_or s c.loop-i.at 0) (c.loop-i.at + 1))
 
 pub loop-i-init : goal.loop-i-init
 loop-i-init c = stepping-none _ _ _

@@ -9,12 +9,12 @@ use Rattle.stretch.proofs.ReadsAtPlace.{next-inside, first-inside, next-handed}
 use Rattle.stretch.proofs.reading.from_place.Goals as goal
 use Rattle.stretch.proofs.reading.from_place.Goals.{After-segment_place-at, After-wide-variants}
 
-inside : ((goal.at.After-segment_place-at c).After-segment_place-at : After-segment_place-at) → c.segment_place-at.result < length c.args.stretch.now
-inside (goal.at.After-segment_place-at c).After-segment_place-at = rw c.segment_place-at.ensures (place_inside _ _ c.requires _ c.if-segments-segment.false)
+inside : (c : After-segment_place-at) → c.segment_place-at.result < length c.args.stretch.now
+inside c = rw c.segment_place-at.ensures (place_inside _ _ c.requires _ c.if-segments-segment.false)
 
-there : ((goal.at.After-wide-variants c).After-wide-variants : After-wide-variants) →
+there : (c : After-wide-variants) →
     Standing c.args.stretch.now c.args.segments c.args.segment c.segment_place-at.result c.wide-variants.result
-there (goal.at.After-wide-variants c).After-wide-variants =
+there c =
     record {
       whole = c.requires;
       known = c.if-segments-segment.false;

@@ -11,9 +11,9 @@ use Rattle.stretch.proofs.reading.handed.Goals as goal
 use Rattle.stretch.proofs.reading.handed.Goals.{After-word_at}
 
 -- the variant's length is there
-word-is : ((goal.at.After-word_at c).After-word_at : After-word_at) →
+word-is : (c : After-word_at) →
     c.word_at.result ≡ word c.args.stretch.now c.behind_variants-place.result
-word-is (goal.at.After-word_at c).After-word_at =
+word-is c =
     let l = c.requires.0 in
     let there : c.behind_variants-place.result + 2 ≤ length c.args.stretch.now =
     omega (arith, l, c.behind_variants-place.ensures) in

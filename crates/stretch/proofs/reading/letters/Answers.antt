@@ -9,9 +9,9 @@ use Rattle.stretch.proofs.ReadsAtPlace.{found_inside, part-told, part-found}
 use Rattle.stretch.proofs.reading.letters.Goals as goal
 use Rattle.stretch.proofs.reading.letters.Goals.{In-Variant-2}
 
-fits : ((goal.at.In-Variant-2 c).In-Variant-2 : In-Variant-2) →
+fits : (c : In-Variant-2) →
     c.in-Variant.start + c.in-Variant.len ≤ length c.args.stretch.now
-fits (goal.at.In-Variant-2 c).In-Variant-2 = found_inside _ _ _ _ _ _ _ (sym (ap told_got c.in-Variant.is) ∙ c.read.ensures)
+fits c = found_inside _ _ _ _ _ _ _ (sym (ap told_got c.in-Variant.is) ∙ c.read.ensures)
 
 pub overflow_add-result : goal.overflow_add-result
 overflow_add-result c = omega (arith, fits (goal.at.overflow_add-result c).In-Variant-2)

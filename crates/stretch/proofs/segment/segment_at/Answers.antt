@@ -16,10 +16,10 @@ use Rattle.stretch.proofs.segment.segment_at.Goals as goal
 use Rattle.stretch.proofs.segment.segment_at.Goals.{In-At-head-2}
 
 -- where the letters stand
-here : ((goal.at.In-At-head-2 c).In-At-head-2 : In-At-head-2)
+here : (c : In-At-head-2)
     → Whole c.args.stretch.now c.loop-cursor.cursor.at c.in-At-head.start
     c.in-At-head.next
-here (goal.at.In-At-head-2 c).In-At-head-2 = head-is _ _ _ _ (sym c.head.ensures ∙ ap told_part c.in-At-head.is)
+here c = head-is _ _ _ _ (sym c.head.ensures ∙ ap told_part c.in-At-head.is)
 
 pub returns-in-Refused : goal.returns-in-Refused
 returns-in-Refused c = sym (walked-refused _ _ _ _ (walk-not _ _ c.enter.ensures c.in-Refused.is))

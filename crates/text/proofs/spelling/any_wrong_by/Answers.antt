@@ -8,9 +8,9 @@ use Rattle.text.proofs.spelling.any_wrong_by.Goals as goal
 use Rattle.text.proofs.spelling.any_wrong_by.Goals.{After-shared_slice_known-in-loop-i-1}
 
 -- the byte that is read is one
-byte : ((goal.at.After-shared_slice_known-in-loop-i-1 c).After-shared_slice_known-in-loop-i-1 : After-shared_slice_known-in-loop-i-1)
+byte : (c : After-shared_slice_known-in-loop-i-1)
     → get_or c.args.part.now c.loop-i.i 0 < 256
-byte (goal.at.After-shared_slice_known-in-loop-i-1 c).After-shared_slice_known-in-loop-i-1 = omega (arith, c.shared_slice_known-in-loop-i-1.given c.loop-i.i)
+byte c = omega (arith, c.shared_slice_known-in-loop-i-1.given c.loop-i.i)
 
 pub returns-then-part-ge-BLOCK : goal.returns-then-part-ge-BLOCK
 returns-then-part-ge-BLOCK c = blocks-by _ _ _ c.if-part-ge-BLOCK.true c.wrong_in_blocks.ensures

@@ -17,42 +17,42 @@ use Rattle.vcf.proofs.measuring.measure.Goals as goal
 use Rattle.vcf.proofs.measuring.measure.Goals.{After-field-reference, After-first_wrong-wrong, After-is_placed, After-position-place, After-record, After-sound, Else-not-is_placed, Else-sound-eq0}
 
 abbrev L : After-field-reference → List ℕ
-L (goal.at.After-field-reference f).After-field-reference = f.args.line.now
+L f = f.args.line.now
 
 abbrev N : After-field-reference → List ℕ
-N (goal.at.After-field-reference f).After-field-reference = f.args.name.now
+N f = f.args.name.now
 
 -- what is asked is asked of its fields
-place : ((goal.at.After-position-place c).After-position-place : After-position-place) → c.position-place.result ≡ position (L (goal.at.After-position-place c).After-field-reference)
-place (goal.at.After-position-place c).After-position-place = c.position-place.ensures ∙ ap position_of c.field-stated.ensures
+place : (c : After-position-place) → c.position-place.result ≡ position (L (goal.at.After-position-place c).After-field-reference)
+place c = c.position-place.ensures ∙ ap position_of c.field-stated.ensures
 
-placing : ((goal.at.After-is_placed c).After-is_placed : After-is_placed) → c.is_placed.result ≡ placed (field (L Fₚc) 3) (position (L Fₚc))
-placing (goal.at.After-is_placed c).After-is_placed = c.is_placed.ensures ∙ ap₂ placed Fₚc.field.ensures (place (goal.at.After-is_placed c).After-position-place)
+placing : (c : After-is_placed) → c.is_placed.result ≡ placed (field (L Fₚc) 3) (position (L Fₚc))
+placing c = c.is_placed.ensures ∙ ap₂ placed Fₚc.field.ensures (place (goal.at.After-is_placed c).After-position-place)
 
-size : ((goal.at.After-field-reference f).After-field-reference : After-field-reference) → length f.field-reference.result.now ≡ length (field (L (goal.at.After-field-reference f).After-field-reference) 3)
-size (goal.at.After-field-reference f).After-field-reference = ap length f.field-reference.ensures
+size : (f : After-field-reference) → length f.field-reference.result.now ≡ length (field (L f) 3)
+size f = ap length f.field-reference.ensures
 
-wrong : ((goal.at.After-first_wrong-wrong c).After-first_wrong-wrong : After-first_wrong-wrong) → c.first_wrong-wrong.result ≡ first_not letter (field (L (F (goal.at.After-first_wrong-wrong c).After-is_placed)) 3)
-wrong (goal.at.After-first_wrong-wrong c).After-first_wrong-wrong = c.first_wrong-wrong.ensures ∙ ap (first_not letter) (F (goal.at.After-first_wrong-wrong c).After-is_placed).field.ensures
+wrong : (c : After-first_wrong-wrong) → c.first_wrong-wrong.result ≡ first_not letter (field (L (F (goal.at.After-first_wrong-wrong c).After-is_placed)) 3)
+wrong c = c.first_wrong-wrong.ensures ∙ ap (first_not letter) (F (goal.at.After-first_wrong-wrong c).After-is_placed).field.ensures
 
 -- what the tests that were passed say
-put : ((goal.at.Else-not-is_placed e).Else-not-is_placed : Else-not-is_placed) → placed (field (L (F (goal.at.Else-not-is_placed e).After-is_placed)) 3) (position (L (F (goal.at.Else-not-is_placed e).After-is_placed))) ≡ true
-put (goal.at.Else-not-is_placed e).Else-not-is_placed = sym (placing (goal.at.Else-not-is_placed e).After-is_placed) ∙ not-false _ e.if-not-is_placed.false-raw
+put : (e : Else-not-is_placed) → placed (field (L (F (goal.at.Else-not-is_placed e).After-is_placed)) 3) (position (L (F (goal.at.Else-not-is_placed e).After-is_placed))) ≡ true
+put e = sym (placing (goal.at.Else-not-is_placed e).After-is_placed) ∙ not-false _ e.if-not-is_placed.false-raw
 
-spelt : ((goal.at.After-sound s).After-sound : After-sound) → length (field (L FSₚs) 3) ≤ s.first_wrong-wrong.result
-spelt (goal.at.After-sound s).After-sound = rw (size FSₚs) at s.if-wrong-bases.false
+spelt : (s : After-sound) → length (field (L FSₚs) 3) ≤ s.first_wrong-wrong.result
+spelt s = rw (size FSₚs) at s.if-wrong-bases.false
 
-sound : ((goal.at.Else-sound-eq0 e).Else-sound-eq0 : Else-sound-eq0) → is_record (N (FS (goal.at.Else-sound-eq0 e).After-sound)) (L (FS (goal.at.Else-sound-eq0 e).After-sound)) ≡ true
-sound (goal.at.Else-sound-eq0 e).Else-sound-eq0 = sounds (is_record _ _) (position (L (FS (goal.at.Else-sound-eq0 e).After-sound))) e.sound.ensures e.if-sound-eq0.false
+sound : (e : Else-sound-eq0) → is_record (N (FS (goal.at.Else-sound-eq0 e).After-sound)) (L (FS (goal.at.Else-sound-eq0 e).After-sound)) ≡ true
+sound e = sounds (is_record _ _) (position (L (FS (goal.at.Else-sound-eq0 e).After-sound))) e.sound.ensures e.if-sound-eq0.false
 
 needed :
-    ((goal.at.After-record r).After-record : After-record) →
-    (goal.at.After-record r).After-record.«record».result
+    (r : After-record) →
+    r.«record».result
     ≡ tally_in (opened nothing) [] (meant (field (L FSₚSₚr) 3) ∷ alternates (meant (field (L FSₚSₚr) 4)))
-needed (goal.at.After-record r).After-record =
+needed r =
     let ref = FSₚSₚr.field in
     let alt = r.field-alt in
-    (goal.at.After-record r).After-record.«record».ensures
+    r.«record».ensures
     ∙ ap (λ (t : Needed). tally_in (opened t) [] (meant ref.result.now ∷ alternates (meant alt.result.now))) r.nothing-nothing.ensures
     ∙ ap₂ (λ (a b : List ℕ). tally_in (opened nothing) [] (meant a ∷ alternates (meant b))) ref.ensures alt.ensures
 

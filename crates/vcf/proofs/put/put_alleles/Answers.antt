@@ -8,21 +8,21 @@ use Rattle.vcf.proofs.Emitting.{Alleles, alleles-none, alleles-room, alleles-kep
 use Rattle.vcf.proofs.put.put_alleles.Goals as goal
 use Rattle.vcf.proofs.put.put_alleles.Goals.{After-after_variant-next, After-end_of-end, After-slice_known-1}
 
-narrow : ((goal.at.After-slice_known-1 c).After-slice_known-1 : After-slice_known-1) → length c.args.out.now < 18446744073709551616
-narrow (goal.at.After-slice_known-1 c).After-slice_known-1 = omega arith
+narrow : (c : After-slice_known-1) → length c.args.out.now < 18446744073709551616
+narrow c = omega arith
 
 -- the place after the allele
-place : ((goal.at.After-after_variant-next c).After-after_variant-next : After-after_variant-next) →
+place : (c : After-after_variant-next) →
     c.after_variant-next.result ≡ after_variant Dₚc.before.loop.next (Dₚc.end_of_lem.result - Dₚc.before.loop.from)
-place (goal.at.After-after_variant-next c).After-after_variant-next =
+place c =
     let h = alleles-room c.loop-at.inv c.end_of-end.ensures in
     let k = alleles-kept c.loop-at.inv c.end_of-end.ensures in
     omega (arith, c.after_variant-next.ensures, narrow (goal.at.After-after_variant-next c).After-slice_known-1)
 
 -- fewer bytes are left after it
-ends : ((goal.at.After-end_of-end d).After-end_of-end : After-end_of-end) → (d.loop-at.from ≤ d.end_of-end.result) ×
+ends : (d : After-end_of-end) → (d.loop-at.from ≤ d.end_of-end.result) ×
     (d.end_of-end.result ≤ length d.args.alt.now)
-ends (goal.at.After-end_of-end d).After-end_of-end = let e = d.end_of-end.ensures in (e.behind, omega (arith, e.inside, d.loop-at.invariant.inside))
+ends d = let e = d.end_of-end.ensures in (e.behind, omega (arith, e.inside, d.loop-at.invariant.inside))
 
 less : (n from end : ℕ) → from ≤ end → end ≤ n → (end ≡ n → ⊥) → n - (end + 1) < n - from
 less n from end a b c = omega (arith, c)

@@ -13,15 +13,15 @@ use Rattle.vcf.proofs.put.put_gap.Goals as goal
 use Rattle.vcf.proofs.put.put_gap.Goals.{After-segment_bytes, Else-n-eq0}
 
 size :
-    ((goal.at.Else-n-eq0 e).Else-n-eq0 : Else-n-eq0) →
+    (e : Else-n-eq0) →
     length (bytes_of encode_segment (gap_of (meant Sₚe.args.bases.now))) ≡ segment_bytes (length Sₚe.args.bases.now) 1
-size (goal.at.Else-n-eq0 e).Else-n-eq0 = gap-size Sₚe.args.bases.now Sₚe.args.out.now Sₚe.args.at e.if-n-eq0.false
+size e = gap-size Sₚe.args.bases.now Sₚe.args.out.now Sₚe.args.at e.if-n-eq0.false
 
-narrow : ((goal.at.Else-n-eq0 e).Else-n-eq0 : Else-n-eq0) → length Sₚe.args.out.now < 18446744073709551616
-narrow (goal.at.Else-n-eq0 e).Else-n-eq0 = omega arith
+narrow : (e : Else-n-eq0) → length Sₚe.args.out.now < 18446744073709551616
+narrow e = omega arith
 
-exact : ((goal.at.After-segment_bytes c).After-segment_bytes : After-segment_bytes) → c.segment_bytes.result ≡ segment_bytes (length SₚEₚQₚPₚc.args.bases.now) 1
-exact (goal.at.After-segment_bytes c).After-segment_bytes = let e = E QₚPₚc in omega (arith, c.segment_bytes.ensures, size e, narrow e, (S e).pre)
+exact : (c : After-segment_bytes) → c.segment_bytes.result ≡ segment_bytes (length SₚEₚQₚPₚc.args.bases.now) 1
+exact c = let e = E QₚPₚc in omega (arith, c.segment_bytes.ensures, size e, narrow e, (S e).pre)
 
 pub returns-then-n-eq0 : goal.returns-then-n-eq0
 returns-then-n-eq0 c = gap-nothing c.args.bases.now _ _ c.if-n-eq0.true
@@ -36,8 +36,7 @@ pub shape_of-out : goal.shape_of-out
 shape_of-out c = Pₚc.put-variant.auto.1.0 ∙ QₚPₚc.put-variants.auto.1.0
 
 pub returns : goal.returns
-returns c =
-    (
-      omega (arith, exact (goal.at.returns c).After-segment_bytes, size (goal.at.returns c).Else-n-eq0),
-      gap-put Sₚe.args.bases.now _ _ c.if-n-eq0.left Sₚe.pre _ _ c.put_variants.ensures c.put_variant.ensures,
-    )
+returns c = (
+  omega (arith, exact (goal.at.returns c).After-segment_bytes, size (goal.at.returns c).Else-n-eq0),
+  gap-put Sₚe.args.bases.now _ _ c.if-n-eq0.left Sₚe.pre _ _ c.put_variants.ensures c.put_variant.ensures,
+)

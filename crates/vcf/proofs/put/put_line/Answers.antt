@@ -13,25 +13,25 @@ use Rattle.vcf.proofs.Lines.{idle-comment, idle-is, idle-line, busy-bounds, busy
 use Rattle.vcf.proofs.put.put_line.Goals as goal
 use Rattle.vcf.proofs.put.put_line.Goals.{After-behind-end, After-is_comment, After-position-place, Else-is_outside}
 
-plain : ((goal.at.After-position-place q).After-position-place : After-position-place) → comment Sₚq.args.line.now ≡ false
-plain (goal.at.After-position-place q).After-position-place = sym q.is_comment.ensures ∙ q.if-is_comment.false
+plain : (q : After-position-place) → comment Sₚq.args.line.now ≡ false
+plain q = sym q.is_comment.ensures ∙ q.if-is_comment.false
 
-stated : ((goal.at.After-position-place q).After-position-place : After-position-place) → q.position-place.result ≡ position Sₚq.args.line.now
-stated (goal.at.After-position-place q).After-position-place = q.position-place.ensures ∙ ap position_of q.field-stated.ensures
+stated : (q : After-position-place) → q.position-place.result ≡ position Sₚq.args.line.now
+stated q = q.position-place.ensures ∙ ap position_of q.field-stated.ensures
 
 -- the position after REF
-ending : ((goal.at.After-behind-end b).After-behind-end : After-behind-end) → b.behind-end.result ≡ min beyond
+ending : (b : After-behind-end) → b.behind-end.result ≡ min beyond
     (b.position-place.result + length (meant b.field-reference.result.now))
-ending (goal.at.After-behind-end b).After-behind-end = b.behind-end.ensures ∙ rw (← meant-length b.field-reference.result.now)
+ending b = b.behind-end.ensures ∙ rw (← meant-length b.field-reference.result.now)
 
 bounds :
-    ((goal.at.Else-is_outside c).Else-is_outside : Else-is_outside) →
+    (c : Else-is_outside) →
     (SₚQₚc.args.first ≤ Qₚc.position.result)
     × (SₚQₚc.args.put.base ≤ Qₚc.position.result - SₚQₚc.args.first)
     × (Qₚc.position.result - SₚQₚc.args.first ≤ length (meant SₚQₚc.args.window.now))
     × (SₚQₚc.args.first ≤ Bₚc.behind.result)
     × (0 < SₚQₚc.args.put.left)
-bounds (goal.at.Else-is_outside c).Else-is_outside =
+bounds c =
     let s = S (goal.at.Else-is_outside c).After-position-place in
     busy-bounds _ _ s.args.put.base _ (plain (goal.at.Else-is_outside c).After-position-place) s.pre.0.put _ (stated (goal.at.Else-is_outside c).After-position-place) _ (ap meant c.field-reference.ensures) _
     (ending (goal.at.Else-is_outside c).After-behind-end)
@@ -39,11 +39,11 @@ bounds (goal.at.Else-is_outside c).Else-is_outside =
 
 -- the bases before it
 before :
-    ((goal.at.Else-is_outside c).Else-is_outside : Else-is_outside) →
+    (c : Else-is_outside) →
     let s = SₚQₚc.args in
     meant (take (Qₚc.position.result - s.first - s.put.base) (drop s.put.base s.window.now))
     ≡ take (Qₚc.position.result - s.first - s.put.base) (drop s.put.base (meant s.window.now))
-before (goal.at.Else-is_outside c).Else-is_outside = let s = SₚQₚc.args in part-meant s.window.now s.put.base (Qₚc.position.result - s.first - s.put.base)
+before c = let s = SₚQₚc.args in part-meant s.window.now s.put.base (Qₚc.position.result - s.first - s.put.base)
 
 pub returns-then-is_comment : goal.returns-then-is_comment
 returns-then-is_comment c = idle-line _ _ _ _ (idle-comment _ _ (S1 (goal.at.returns-then-is_comment c).After-is_comment).args.put.base _ (sym c.is_comment.ensures ∙ c.if-is_comment.true))

@@ -14,24 +14,24 @@ use Rattle.vcf.proofs.put.put_record.Goals as goal
 use Rattle.vcf.proofs.put.put_record.Goals.{After-after_variant-next, After-count-alleles, After-slice_known-1, Else-is_none, Start}
 
 size :
-    ((goal.at.Start s).Start : Start) →
+    (s : Start) →
     length (segment_of s.args.reference.now s.args.alt.now)
     ≡ segment_bytes (length s.args.reference.now) 1 + length (alleles_of s.args.alt.now)
-size (goal.at.Start s).Start = segment-size s.args.reference.now s.args.alt.now
+size s = segment-size s.args.reference.now s.args.alt.now
 
-narrow : ((goal.at.After-slice_known-1 c).After-slice_known-1 : After-slice_known-1) → length c.args.out.now < 18446744073709551616
-narrow (goal.at.After-slice_known-1 c).After-slice_known-1 = omega arith
+narrow : (c : After-slice_known-1) → length c.args.out.now < 18446744073709551616
+narrow c = omega arith
 
 -- the place after REF
-next : ((goal.at.After-after_variant-next v).After-after_variant-next : After-after_variant-next) → v.after_variant-next.result ≡ after_variant (Sₚv.args.at + 1) (length Sₚv.args.reference.now)
-next (goal.at.After-after_variant-next v).After-after_variant-next = omega (arith, v.after_variant-next.ensures, size (goal.at.After-after_variant-next v).Start, v.requires.1, narrow (goal.at.After-after_variant-next v).After-slice_known-1)
+next : (v : After-after_variant-next) → v.after_variant-next.result ≡ after_variant (Sₚv.args.at + 1) (length Sₚv.args.reference.now)
+next v = omega (arith, v.after_variant-next.ensures, size (goal.at.After-after_variant-next v).Start, v.requires.1, narrow (goal.at.After-after_variant-next v).After-slice_known-1)
 
-some : ((goal.at.Else-is_none c).Else-is_none : Else-is_none) → none (S (goal.at.Else-is_none c).After-after_variant-next).args.alt.now ≡ false
-some (goal.at.Else-is_none c).Else-is_none = sym c.is_none.ensures ∙ c.if-is_none.false
+some : (c : Else-is_none) → none (S (goal.at.Else-is_none c).After-after_variant-next).args.alt.now ≡ false
+some c = sym c.is_none.ensures ∙ c.if-is_none.false
 
 -- at most 255 variants
-few : ((goal.at.After-count-alleles k).After-count-alleles : After-count-alleles) → 1 + k.count-alleles.result ≤ 255
-few (goal.at.After-count-alleles k).After-count-alleles =
+few : (k : After-count-alleles) → 1 + k.count-alleles.result ≤ 255
+few k =
     omega (arith, few-pieces k.args.alt.now (some (goal.at.After-count-alleles k).Else-is_none) k.requires.0, k.count-alleles.ensures)
 
 pub overflow_add-start : goal.overflow_add-start

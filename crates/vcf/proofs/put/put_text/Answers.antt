@@ -16,19 +16,19 @@ use Rattle.vcf.proofs.put.put_text.Goals as goal
 use Rattle.vcf.proofs.put.put_text.Goals.{At-loop-put}
 
 abbrev W : At-loop-put → List ℕ
-W (goal.at.At-loop-put l).At-loop-put = Sₚl.args.window.now
+W l = Sₚl.args.window.now
 
 -- its bases after the last record
-within : ((goal.at.At-loop-put l).At-loop-put : At-loop-put) → l.loop-put.put.base ≤ length (W (goal.at.At-loop-put l).At-loop-put)
-within (goal.at.At-loop-put l).At-loop-put = rw (meant-length (W (goal.at.At-loop-put l).At-loop-put)) at l.loop-put.invariant.within
+within : (l : At-loop-put) → l.loop-put.put.base ≤ length (W l)
+within l = rw (meant-length (W l)) at l.loop-put.invariant.within
 
 behind :
-    ((goal.at.At-loop-put l).At-loop-put : At-loop-put) →
+    (l : At-loop-put) →
     let base = l.loop-put.put.base in
-    meant (take (length (W (goal.at.At-loop-put l).At-loop-put) - base) (drop base (W (goal.at.At-loop-put l).At-loop-put))) ≡ take (length (meant (W (goal.at.At-loop-put l).At-loop-put)) - base) (drop base (meant (W (goal.at.At-loop-put l).At-loop-put)))
-behind (goal.at.At-loop-put l).At-loop-put =
+    meant (take (length (W l) - base) (drop base (W l))) ≡ take (length (meant (W l)) - base) (drop base (meant (W l)))
+behind l =
     let base = l.loop-put.put.base in
-    part-meant (W (goal.at.At-loop-put l).At-loop-put) base (length (W (goal.at.At-loop-put l).At-loop-put) - base) ∙ rw (meant-length (W (goal.at.At-loop-put l).At-loop-put))
+    part-meant (W l) base (length (W l) - base) ∙ rw (meant-length (W l))
 
 pub loop-put-init : goal.loop-put-init
 loop-put-init c = putting-none c.requires _ c.put_segments.auto.1.0

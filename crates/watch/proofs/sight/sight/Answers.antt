@@ -10,11 +10,11 @@ use Rattle.watch.proofs.sight.sight.Goals as goal
 use Rattle.watch.proofs.sight.sight.Goals.{Start}
 
 -- a record holds 64 bytes, and its pattern no more
-full : ((goal.at.Start c).Start : Start) → length c.args.item.pattern ≡ 64
-full (goal.at.Start c).Start = search rules
+full : (c : Start) → length c.args.item.pattern ≡ 64
+full c = search rules
 
-short : ((goal.at.Start c).Start : Start) → c.args.item.m ≤ 64
-short (goal.at.Start c).Start = sound-short _ c.requires.spells
+short : (c : Start) → c.args.item.m ≤ 64
+short c = sound-short _ c.requires.spells
 
 pub slice_bounds-bytes-end : goal.slice_bounds-bytes-end
 slice_bounds-bytes-end c = omega (arith, full (goal.at.slice_bounds-bytes-end c).Start, short (goal.at.slice_bounds-bytes-end c).Start)

@@ -11,8 +11,8 @@ use Rattle.watch.proofs.watched.is_sound.Goals as goal
 use Rattle.watch.proofs.watched.is_sound.Goals.{Start}
 
 -- a record holds 64 bytes
-full : ((goal.at.Start c).Start : Start) → length c.args.item.pattern ≡ 64
-full (goal.at.Start c).Start = search rules
+full : (c : Start) → length c.args.item.pattern ≡ 64
+full c = search rules
 
 -- src/watched.rt:19:13
 -- src/watched.rt:21:9

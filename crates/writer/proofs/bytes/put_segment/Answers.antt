@@ -16,28 +16,28 @@ use Rattle.writer.proofs.SegmentBytes.{VariantsPut, variants-room, variants-more
 use Rattle.writer.proofs.bytes.put_segment.Goals as goal
 use Rattle.writer.proofs.bytes.put_segment.Goals.{After-slice_known-1, After-stated-size, At-loop-k, In-loop-k}
 
-narrow : ((goal.at.After-slice_known-1 c).After-slice_known-1 : After-slice_known-1) → length c.args.out.now < 18446744073709551616
-narrow (goal.at.After-slice_known-1 c).After-slice_known-1 = omega arith
+narrow : (c : After-slice_known-1) → length c.args.out.now < 18446744073709551616
+narrow c = omega arith
 
-same : ((goal.at.At-loop-k c).At-loop-k : At-loop-k) → length c.loop-k.out ≡ length entryₚc.args.out.now
-same (goal.at.At-loop-k c).At-loop-k = emitted-length c.loop-k.invariant.emitted ∙ countedₚc.put-variants.auto.1.0
+same : (c : At-loop-k) → length c.loop-k.out ≡ length entryₚc.args.out.now
+same c = emitted-length c.loop-k.invariant.emitted ∙ countedₚc.put-variants.auto.1.0
 
 -- the next variant: its number is that of a length, its letters are there, and its bytes fit
 number :
-    ((goal.at.In-loop-k c).In-loop-k : In-loop-k) →
+    (c : In-loop-k) →
     (entry (goal.at.In-loop-k c).At-loop-k).args.first + c.loop-k.k < length (entry (goal.at.In-loop-k c).At-loop-k).args.lengths.now
-number (goal.at.In-loop-k c).In-loop-k = passing-number c.loop-k.invariant.passing c.loop-k-test.true
+number c = passing-number c.loop-k.invariant.passing c.loop-k-test.true
 
 inside :
-    ((goal.at.After-stated-size c).After-stated-size : After-stated-size) →
+    (c : After-stated-size) →
     c.loop-k.start + c.stated-size.result ≤ length (entry (goal.at.After-stated-size c).At-loop-k).args.letters.now
-inside (goal.at.After-stated-size c).After-stated-size =
+inside c =
     rw meant-length at (passing-inside c.loop-k.invariant.passing c.loop-k-test.true c.stated-size.ensures)
 
 room :
-    ((goal.at.After-stated-size c).After-stated-size : After-stated-size) →
+    (c : After-stated-size) →
     after_variant c.loop-k.next c.stated-size.result ≤ length (entry (goal.at.After-stated-size c).At-loop-k).args.out.now
-room (goal.at.After-stated-size c).After-stated-size =
+room c =
     let h = variants-room c.loop-k.invariant c.loop-k-test.true c.stated-size.ensures in
     rw (same (goal.at.After-stated-size c).At-loop-k) at h
 

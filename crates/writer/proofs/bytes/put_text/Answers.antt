@@ -13,17 +13,17 @@ use Rattle.writer.proofs.TextBytes.{SegmentsPut, segments-none, segments-room, s
 use Rattle.writer.proofs.bytes.put_text.Goals as goal
 use Rattle.writer.proofs.bytes.put_text.Goals.{After-slice_known-1, After-text_bytes-at, At-loop-segment}
 
-same : ((goal.at.At-loop-segment c).At-loop-segment : At-loop-segment) → length c.loop-segment.out ≡ length entryₚc.args.out.now
-same (goal.at.At-loop-segment c).At-loop-segment = emitted-length c.loop-segment.invariant.emitted ∙ c.put_segments.auto.1.0
+same : (c : At-loop-segment) → length c.loop-segment.out ≡ length entryₚc.args.out.now
+same c = emitted-length c.loop-segment.invariant.emitted ∙ c.put_segments.auto.1.0
 
-narrow : ((goal.at.After-slice_known-1 c).After-slice_known-1 : After-slice_known-1) → length c.args.out.now < 18446744073709551616
-narrow (goal.at.After-slice_known-1 c).After-slice_known-1 = omega arith
+narrow : (c : After-slice_known-1) → length c.args.out.now < 18446744073709551616
+narrow c = omega arith
 
 -- the next segment's place lies in the buffer
 place :
-    ((goal.at.After-text_bytes-at c).After-text_bytes-at : After-text_bytes-at) →
+    (c : After-text_bytes-at) →
     let d = c.loop-segment in c.text_bytes-at.result ≡ text_bytes d.letter d.variant d.segment
-place (goal.at.After-text_bytes-at c).After-text_bytes-at =
+place c =
     let h = segments-room c.loop-segment.invariant c.loop-segment-test.true in
     let l = narrow (goal.at.After-text_bytes-at c).After-slice_known-1 in
     omega (arith, same (goal.at.After-text_bytes-at c).At-loop-segment, c.text_bytes-at.ensures)

@@ -12,14 +12,14 @@ use Rattle.writer.proofs.sound.repeated.Goals as goal
 use Rattle.writer.proofs.sound.repeated.Goals.{After-stated, At-loop-i, In-loop-i}
 
 number :
-    ((goal.at.In-loop-i c).In-loop-i : In-loop-i) →
+    (c : In-loop-i) →
     (entry (goal.at.In-loop-i c).At-loop-i).args.first + c.loop-i.i < length (entry (goal.at.In-loop-i c).At-loop-i).args.lengths.now
-number (goal.at.In-loop-i c).In-loop-i = passing-number c.loop-i.invariant.passing c.loop-i-test.true
+number c = passing-number c.loop-i.invariant.passing c.loop-i-test.true
 
 inside :
-    ((goal.at.After-stated c).After-stated : After-stated) →
+    (c : After-stated) →
     c.loop-i.start + c.stated.result ≤ length (entry (goal.at.After-stated c).At-loop-i).args.letters.now
-inside (goal.at.After-stated c).After-stated =
+inside c =
     rw meant-length at (passing-inside c.loop-i.invariant.passing c.loop-i-test.true c.stated.ensures)
 
 pub loop-i-init : goal.loop-i-init

@@ -12,8 +12,8 @@ use Rattle.writer.proofs.GivenSegment.{given-wrong, given-again, given-sound}
 use Rattle.writer.proofs.sound.variant_given.Goals as goal
 use Rattle.writer.proofs.sound.variant_given.Goals.{After-stated}
 
-inside : ((goal.at.After-stated c).After-stated : After-stated) → entryₚc.args.at + c.stated.result ≤ length entryₚc.args.letters.now
-inside (goal.at.After-stated c).After-stated = rw meant-length at (next-in entryₚc.requires c.stated.ensures)
+inside : (c : After-stated) → entryₚc.args.at + c.stated.result ≤ length entryₚc.args.letters.now
+inside c = rw meant-length at (next-in entryₚc.requires c.stated.ensures)
 
 pub overflow_add-end : goal.overflow_add-end
 overflow_add-end c = omega (arith, inside (goal.at.overflow_add-end c).After-stated)

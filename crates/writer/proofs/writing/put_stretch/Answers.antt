@@ -16,8 +16,8 @@ use Rattle.writer.proofs.Writings.{room-refused, refused-leaves, accepted-leaves
 use Rattle.writer.proofs.writing.put_stretch.Goals as goal
 use Rattle.writer.proofs.writing.put_stretch.Goals.{Else-needed-gt-GREATEST_STRETCH, Else-not-lengths_sum, Start}
 
-matching : ((goal.at.Else-not-lengths_sum c).Else-not-lengths_sum : Else-not-lengths_sum) → Matching (meant entryₚc.args.letters.now) entryₚc.args.lengths.now entryₚc.args.counts.now
-matching (goal.at.Else-not-lengths_sum c).Else-not-lengths_sum =
+matching : (c : Else-not-lengths_sum) → Matching (meant entryₚc.args.letters.now) entryₚc.args.lengths.now entryₚc.args.counts.now
+matching c =
     let a = c.args in
     matching-meant
     (sums-match a.letters.now a.lengths.now a.counts.now
@@ -26,20 +26,20 @@ matching (goal.at.Else-not-lengths_sum c).Else-not-lengths_sum =
 
 -- raised letters need as many bytes
 same-need :
-    ((goal.at.Start c).Start : Start)
+    (c : Start)
     → needed (meant c.args.letters.now) c.args.lengths.now c.args.counts.now
     ≡ needed c.args.letters.now c.args.lengths.now c.args.counts.now
-same-need (goal.at.Start c).Start = needed-meant _ _ _
+same-need c = needed-meant _ _ _
 
 size :
-    ((goal.at.Else-needed-gt-GREATEST_STRETCH c).Else-needed-gt-GREATEST_STRETCH : Else-needed-gt-GREATEST_STRETCH) →
+    (c : Else-needed-gt-GREATEST_STRETCH) →
     c.text_bytes-needed.result
     ≡ needed (meant enteredₚc.args.letters.now) enteredₚc.args.lengths.now enteredₚc.args.counts.now
 unfolding needed
-size (goal.at.Else-needed-gt-GREATEST_STRETCH c).Else-needed-gt-GREATEST_STRETCH = let same = same-need enteredₚc in omega (arith, c.text_bytes-needed.ensures, c.if-needed-gt-GREATEST_STRETCH.false)
+size c = let same = same-need enteredₚc in omega (arith, c.text_bytes-needed.ensures, c.if-needed-gt-GREATEST_STRETCH.false)
 
-fitting : ((goal.at.Else-needed-gt-GREATEST_STRETCH c).Else-needed-gt-GREATEST_STRETCH : Else-needed-gt-GREATEST_STRETCH) → Fitting (meant enteredₚc.args.letters.now) enteredₚc.args.lengths.now enteredₚc.args.counts.now
-fitting (goal.at.Else-needed-gt-GREATEST_STRETCH c).Else-needed-gt-GREATEST_STRETCH = record { matching = matching (goal.at.Else-needed-gt-GREATEST_STRETCH c).Else-not-lengths_sum; small = rw (← size (goal.at.Else-needed-gt-GREATEST_STRETCH c).Else-needed-gt-GREATEST_STRETCH) c.if-needed-gt-GREATEST_STRETCH.false }
+fitting : (c : Else-needed-gt-GREATEST_STRETCH) → Fitting (meant enteredₚc.args.letters.now) enteredₚc.args.lengths.now enteredₚc.args.counts.now
+fitting c = record { matching = matching (goal.at.Else-needed-gt-GREATEST_STRETCH c).Else-not-lengths_sum; small = rw (← size c) c.if-needed-gt-GREATEST_STRETCH.false }
 
 pub returns-then-not-counts_sum : goal.returns-then-not-counts_sum
 returns-then-not-counts_sum c =

@@ -10,8 +10,8 @@ use Rattle.card.proofs.cards.Card.ask.Goals as goal
 use Rattle.card.proofs.cards.Card.ask.Goals.{Else-not-well_formed}
 
 -- the card was found well formed
-formed : ((goal.at.Else-not-well_formed c).Else-not-well_formed : Else-not-well_formed) → well_formed (card_in c.args.self) ≡ true
-formed (goal.at.Else-not-well_formed c).Else-not-well_formed = passed c.well_formed-2.ensures c.if-not-well_formed.false-raw
+formed : (c : Else-not-well_formed) → well_formed (card_in c.args.self) ≡ true
+formed c = passed c.well_formed-2.ensures c.if-not-well_formed.false-raw
 
 pub returns-then-not-well_formed : goal.returns-then-not-well_formed
 returns-then-not-well_formed c = ask-malformed _ _ (failed c.well_formed-2.ensures c.if-not-well_formed.true-raw)

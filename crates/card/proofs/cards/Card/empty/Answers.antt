@@ -11,8 +11,8 @@ use Rattle.card.proofs.cards.Card.empty.Goals as goal
 use Rattle.card.proofs.cards.Card.empty.Goals.{In-Sound}
 
 -- the pattern was found sound
-sound : ((goal.at.In-Sound c).In-Sound : In-Sound) → SoundPattern c.args.pattern.now
-sound (goal.at.In-Sound c).In-Sound = pattern-sound _ (sym c.check.ensures ∙ ap told_verdict c.in-Sound.is)
+sound : (c : In-Sound) → SoundPattern c.args.pattern.now
+sound c = pattern-sound _ (sym c.check.ensures ∙ ap told_verdict c.in-Sound.is)
 
 pub overflow_cast-m : goal.overflow_cast-m
 overflow_cast-m c = let short = (sound (goal.at.overflow_cast-m c).In-Sound).short in record { fits = omega arith }

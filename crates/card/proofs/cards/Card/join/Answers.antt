@@ -13,20 +13,20 @@ use Rattle.card.proofs.cards.Card.join.Goals as goal
 use Rattle.card.proofs.cards.Card.join.Goals.{Else-not-same_pattern, Else-not-well_formed, Else-not-well_formed-2, Else-self-right}
 
 -- the left card was found well formed, then the right one, then both of one pattern
-left : ((goal.at.Else-not-well_formed c).Else-not-well_formed : Else-not-well_formed) → well_formed (card_in c.args.self) ≡ true
-left (goal.at.Else-not-well_formed c).Else-not-well_formed = passed c.well-formed.ensures c.if-not-well_formed.left
+left : (c : Else-not-well_formed) → well_formed (card_in c.args.self) ≡ true
+left c = passed c.well-formed.ensures c.if-not-well_formed.left
 
-right : ((goal.at.Else-not-well_formed-2 c).Else-not-well_formed-2 : Else-not-well_formed-2) → well_formed (card_in c.args.right) ≡ true
-right (goal.at.Else-not-well_formed-2 c).Else-not-well_formed-2 = passed c.well_formed-2.ensures c.if-not-well_formed-2.left
+right : (c : Else-not-well_formed-2) → well_formed (card_in c.args.right) ≡ true
+right c = passed c.well_formed-2.ensures c.if-not-well_formed-2.left
 
-alike : ((goal.at.Else-not-same_pattern c).Else-not-same_pattern : Else-not-same_pattern)
+alike : (c : Else-not-same_pattern)
     → same_pattern (card_in c.args.self) (card_in c.args.right) ≡ true
-alike (goal.at.Else-not-same_pattern c).Else-not-same_pattern = passed c.same_pattern.ensures c.if-not-same_pattern.left
+alike c = passed c.same_pattern.ensures c.if-not-same_pattern.left
 
 -- the cards can be joined
-fits : ((goal.at.Else-self-right c).Else-self-right : Else-self-right)
+fits : (c : Else-self-right)
     → join (card_in c.args.self) (card_in c.args.right) ≡ ok (joined (card_in c.args.self) (card_in c.args.right))
-fits (goal.at.Else-self-right c).Else-self-right =
+fits c =
     join-fits _ _ (left (goal.at.Else-self-right c).Else-not-well_formed) (right (goal.at.Else-self-right c).Else-not-well_formed-2) (alike (goal.at.Else-self-right c).Else-not-same_pattern) c.if-self-right.left
 
 pub returns-then-not-well_formed : goal.returns-then-not-well_formed

@@ -13,12 +13,12 @@ use Rattle.card.proofs.cards.Card.of.Goals as goal
 use Rattle.card.proofs.cards.Card.of.Goals.{After-read_on-bytes, In-Sound}
 
 -- the pattern was found sound
-sound : ((goal.at.In-Sound c).In-Sound : In-Sound) → SoundPattern c.args.pattern.now
-sound (goal.at.In-Sound c).In-Sound = pattern-sound _ (sym c.check.ensures ∙ ap told_verdict c.in-Sound.is)
+sound : (c : In-Sound) → SoundPattern c.args.pattern.now
+sound c = pattern-sound _ (sym c.check.ensures ∙ ap told_verdict c.in-Sound.is)
 
 -- so it was where the pattern was read
-read : ((goal.at.After-read_on-bytes c).After-read_on-bytes : After-read_on-bytes) → SoundPattern c.args.pattern.now
-read (goal.at.After-read_on-bytes c).After-read_on-bytes = sound (goal.at.After-read_on-bytes c).In-Sound
+read : (c : After-read_on-bytes) → SoundPattern c.args.pattern.now
+read c = sound (goal.at.After-read_on-bytes c).In-Sound
 
 pub returns-then-not-is_short : goal.returns-then-not-is_short
 returns-then-not-is_short c =

@@ -8,9 +8,9 @@ use Rattle.card.proofs.rows.carry.carry.Goals as goal
 use Rattle.card.proofs.rows.carry.carry.Goals.{After-shared_slice_known-in-loop-i-1}
 
 -- the letter that is read is a byte
-byte : ((goal.at.After-shared_slice_known-in-loop-i-1 c).After-shared_slice_known-in-loop-i-1 : After-shared_slice_known-in-loop-i-1)
+byte : (c : After-shared_slice_known-in-loop-i-1)
     → get_or c.args.variant.now c.loop-i.i 0 < 256
-byte (goal.at.After-shared_slice_known-in-loop-i-1 c).After-shared_slice_known-in-loop-i-1 = omega (arith, c.shared_slice_known-in-loop-i-1.given c.loop-i.i)
+byte c = omega (arith, c.shared_slice_known-in-loop-i-1.given c.loop-i.i)
 
 pub loop-i-init : goal.loop-i-init
 loop-i-init c = carrying-none _ _ _ _ c.requires

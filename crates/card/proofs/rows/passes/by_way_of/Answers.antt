@@ -10,9 +10,9 @@ use Rattle.card.proofs.rows.passes.by_way_of.Goals as goal
 use Rattle.card.proofs.rows.passes.by_way_of.Goals.{In-Marked-2}
 
 -- the stretch was accepted
-found : ((goal.at.In-Marked-2 c).In-Marked-2 : In-Marked-2)
+found : (c : In-Marked-2)
     → Accepted c.args.pattern.now c.args.stretch.now c.args.marks.now c.in-Marked.segments c.in-Marked.state.bits
-found (goal.at.In-Marked-2 c).In-Marked-2 =
+found c =
     of-accepted _ _ c.args.marks.now c.requires _ _ _ _ (sym c.through.ensures.0 ∙ ap told_sought c.in-Marked.is)
 
 pub slice_bounds-first_end-end : goal.slice_bounds-first_end-end

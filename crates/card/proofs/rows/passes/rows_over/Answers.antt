@@ -14,14 +14,14 @@ use Rattle.card.proofs.rows.passes.rows_over.Goals as goal
 use Rattle.card.proofs.rows.passes.rows_over.Goals.{After-open, At-loop-walk}
 
 -- the lists keep their lengths
-even-states : ((goal.at.At-loop-walk a).At-loop-walk : At-loop-walk)
+even-states : (a : At-loop-walk)
     → length a.loop-walk.exits ≡ length a.args.exits.now
-even-states (goal.at.At-loop-walk a).At-loop-walk =
+even-states a =
     a.loop-walk.invariant.0.states ∙ sym a.requires.3.states
 
-even-ends : ((goal.at.At-loop-walk a).At-loop-walk : At-loop-walk)
+even-ends : (a : At-loop-walk)
     → length a.loop-walk.firsts ≡ length a.args.firsts.now
-even-ends (goal.at.At-loop-walk a).At-loop-walk =
+even-ends a =
     a.loop-walk.invariant.0.ends ∙ sym a.requires.3.ends
 
 pub overflow_sub-live : goal.overflow_sub-live

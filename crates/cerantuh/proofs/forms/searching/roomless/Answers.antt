@@ -11,8 +11,8 @@ use Rattle.cerantuh.proofs.forms.searching.roomless.Goals as goal
 use Rattle.cerantuh.proofs.forms.searching.roomless.Goals.{In-Sound}
 
 -- the pattern was found sound
-sound : ((goal.at.In-Sound c).In-Sound : In-Sound) → pattern c.args.pattern.now (ok (tt {0})) ≡ ok tt
-sound (goal.at.In-Sound c).In-Sound = sym c.check.ensures ∙ ap told_verdict c.in-Sound.is
+sound : (c : In-Sound) → pattern c.args.pattern.now (ok (tt {0})) ≡ ok tt
+sound c = sym c.check.ensures ∙ ap told_verdict c.in-Sound.is
 
 pub code-requires : goal.code-requires
 code-requires c =

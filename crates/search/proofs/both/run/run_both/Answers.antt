@@ -13,13 +13,13 @@ use Rattle.search.proofs.both.run.run_both.Goals as goal
 use Rattle.search.proofs.both.run.run_both.Goals.{After-past-walked, After-slice_known-1, In-To, In-loop-walked}
 
 -- the stretch is no longer than a number can say
-narrow : ((goal.at.After-slice_known-1 c).After-slice_known-1 : After-slice_known-1) → length c.args.stretch.now < 2 ^ 64
-narrow (goal.at.After-slice_known-1 c).After-slice_known-1 = omega arith
+narrow : (c : After-slice_known-1) → length c.args.stretch.now < 2 ^ 64
+narrow c = omega arith
 
 -- a segment is left
-ahead : ((goal.at.In-loop-walked c).In-loop-walked : In-loop-walked)
+ahead : (c : In-loop-walked)
     → c.loop-walked.walked.passed < c.args.walk.count
-ahead (goal.at.In-loop-walked c).In-loop-walked = omega (arith, c.loop-walked-test.true, c.loop-walked.invariant.0.walk.go.count)
+ahead c = omega (arith, c.loop-walked-test.true, c.loop-walked.invariant.0.walk.go.count)
 
 pub loop-walked-init : goal.loop-walked-init
 loop-walked-init c = (uniting-none _ _ _ _ _ _ c.requires.1.1.0, refl)

@@ -12,9 +12,9 @@ use Rattle.search.proofs.both.words.scan_both.Goals as goal
 use Rattle.search.proofs.both.words.scan_both.Goals.{After-shared_slice_known-1}
 
 -- the letter that is read is a byte
-byte : ((goal.at.After-shared_slice_known-1 c).After-shared_slice_known-1 : After-shared_slice_known-1)
+byte : (c : After-shared_slice_known-1)
     → get_or c.args.variant.now c.loop-i.i 0 < 256
-byte (goal.at.After-shared_slice_known-1 c).After-shared_slice_known-1 = omega (arith, c.shared_slice_known-1.given c.loop-i.i)
+byte c = omega (arith, c.shared_slice_known-1.given c.loop-i.i)
 
 pub loop-i-init : goal.loop-i-init
 loop-i-init c = (
@@ -47,13 +47,12 @@ pub bounds-table-even-in-loop-i : goal.bounds-table-even-in-loop-i
 bounds-table-even-in-loop-i c = omega (arith, byte (goal.at.bounds-table-even-in-loop-i c).After-shared_slice_known-1)
 
 pub loop-i-preserved : goal.loop-i-preserved
-loop-i-preserved c =
-    (
-      λ st is P y.
-          turning-more P _ _ _ _ _ _ _ _ _ y (c.loop-i.invariant.0 st is P y) c.loop-i-test.true _ refl (byte (goal.at.loop-i-preserved c).After-shared_slice_known-1) _ (evens_at _ _),
-      λ st is P y.
-          turning-more P _ _ _ _ _ _ _ _ _ y (c.loop-i.invariant.1 st is P y) c.loop-i-test.true _ refl (byte (goal.at.loop-i-preserved c).After-shared_slice_known-1) _ (odds-at _ _),
-    )
+loop-i-preserved c = (
+  λ st is P y.
+      turning-more P _ _ _ _ _ _ _ _ _ y (c.loop-i.invariant.0 st is P y) c.loop-i-test.true _ refl (byte (goal.at.loop-i-preserved c).After-shared_slice_known-1) _ (evens_at _ _),
+  λ st is P y.
+      turning-more P _ _ _ _ _ _ _ _ _ y (c.loop-i.invariant.1 st is P y) c.loop-i-test.true _ refl (byte (goal.at.loop-i-preserved c).After-shared_slice_known-1) _ (odds-at _ _),
+)
 
 pub returns : goal.returns
 returns c =

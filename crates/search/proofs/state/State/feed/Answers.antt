@@ -13,9 +13,9 @@ use Rattle.search.proofs.state.State.feed.Goals as goal
 use Rattle.search.proofs.state.State.feed.Goals.{In_default}
 
 -- nothing is wrong before the segment is read
-entry : ((goal.at.In_default c).In_default : In_default)
+entry : (c : In_default)
     → Entered c.args.pattern.now c.args.self.bits c.args.segment.now
-entry (goal.at.In_default c).In_default = entered _ _ _ (sym c.enter.ensures ∙ ap told_verdict c.in_default.is)
+entry c = entered _ _ _ (sym c.enter.ensures ∙ ap told_verdict c.in_default.is)
 
 pub returns-in-Refused : goal.returns-in-Refused
 returns-in-Refused c =

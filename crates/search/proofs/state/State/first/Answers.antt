@@ -15,15 +15,15 @@ use Rattle.search.proofs.state.State.first.Goals as goal
 use Rattle.search.proofs.state.State.first.Goals.{After-open, In-At-2, In_default}
 
 -- nothing is wrong before the stretch is read
-entry : ((goal.at.In_default c).In_default : In_default)
+entry : (c : In_default)
     → Entered c.args.pattern.now c.args.self.bits c.args.stretch.now
-entry (goal.at.In_default c).In_default = entered _ _ _ (sym c.enter.ensures ∙ ap told_verdict c.in_default.is)
+entry c = entered _ _ _ (sym c.enter.ensures ∙ ap told_verdict c.in_default.is)
 
 -- the stretch was opened
-opening : ((goal.at.In-At-2 v).In-At-2 : In-At-2)
+opening : (v : In-At-2)
     → Opening v.args.stretch.now
     v.in-At.walk
-opening (goal.at.In-At-2 v).In-At-2 = open_is _ (goal.at.In-At-2 v).After-open.«open».ensures v.in-At.is
+opening v = open_is _ (goal.at.In-At-2 v).After-open.«open».ensures v.in-At.is
 
 pub returns-in-Refused : goal.returns-in-Refused
 returns-in-Refused c =

@@ -14,14 +14,14 @@ use Rattle.search.proofs.state.State.over.Goals as goal
 use Rattle.search.proofs.state.State.over.Goals.{After-enter, In-At-head-2}
 
 -- the stretch is no longer than a number can say
-narrow : ((goal.at.After-enter c).After-enter : After-enter) → length c.args.stretch.now < 2 ^ 64
-narrow (goal.at.After-enter c).After-enter = omega arith
+narrow : (c : After-enter) → length c.args.stretch.now < 2 ^ 64
+narrow c = omega arith
 
 -- where the letters stand
-here : ((goal.at.In-At-head-2 c).In-At-head-2 : In-At-head-2)
+here : (c : In-At-head-2)
     → Whole c.args.stretch.now c.loop-cursor.cursor.at c.in-At-head.start
     c.in-At-head.next
-here (goal.at.In-At-head-2 c).In-At-head-2 = head-is _ _ _ _ (sym c.head.ensures ∙ ap told_part c.in-At-head.is)
+here c = head-is _ _ _ _ (sym c.head.ensures ∙ ap told_part c.in-At-head.is)
 
 pub returns-in-Refused : goal.returns-in-Refused
 returns-in-Refused c = sym (segment-passed-not _ _ _ _ _ _ (walk-not _ _ c.enter.ensures c.in-Refused.is))

@@ -10,12 +10,12 @@ use Rattle.vcf.proofs.Digits.{Digits, digits-none, digits-range, digits-wrong, d
 use Rattle.vcf.proofs.records.position.position.Goals as goal
 use Rattle.vcf.proofs.records.position.position.Goals.{After-wide}
 
-right : ((goal.at.After-wide w).After-wide : After-wide) → digit (get_or Inₚw.before.before.before.args.field.now Inₚw.before.loop.i 0)
+right : (w : After-wide) → digit (get_or Inₚw.before.before.before.args.field.now Inₚw.before.loop.i 0)
     ≡ true
-right (goal.at.After-wide w).After-wide = sym w.is_digit.ensures ∙ not-false _ w.if-not-is_digit.false-raw
+right w = sym w.is_digit.ensures ∙ not-false _ w.if-not-is_digit.false-raw
 
-range : ((goal.at.After-wide w).After-wide : After-wide) → (48 ≤ w.wide.result) × (w.wide.result ≤ 57)
-range (goal.at.After-wide w).After-wide = digits-range Inₚw.before.loop.invariant Inₚw.loop-test.true (right (goal.at.After-wide w).After-wide) _ w.wide.ensures.0
+range : (w : After-wide) → (48 ≤ w.wide.result) × (w.wide.result ≤ 57)
+range w = digits-range Inₚw.before.loop.invariant Inₚw.loop-test.true (right w) _ w.wide.ensures.0
 
 pub loop-i-init : goal.loop-i-init
 loop-i-init c = digits-none _

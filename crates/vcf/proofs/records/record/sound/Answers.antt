@@ -15,22 +15,22 @@ use Rattle.vcf.proofs.records.record.sound.Goals as goal
 use Rattle.vcf.proofs.records.record.sound.Goals.{Else-not-is_allele, Else-not-more_than, Else-not-same}
 
 abbrev name_of : Else-not-more_than → List ℕ
-name_of (goal.at.Else-not-more_than c).Else-not-more_than = c.args.name.now
+name_of c = c.args.name.now
 
 abbrev line_of : Else-not-more_than → List ℕ
-line_of (goal.at.Else-not-more_than c).Else-not-more_than = c.args.line.now
+line_of c = c.args.line.now
 
 -- what the tests that were passed say
-enough : ((goal.at.Else-not-more_than c).Else-not-more_than : Else-not-more_than) → ltb 7 (length (pieces 0x09 (line_of (goal.at.Else-not-more_than c).Else-not-more_than))) ≡ true
-enough (goal.at.Else-not-more_than c).Else-not-more_than = sym c.more_than.ensures ∙ not-false _ c.if-not-more_than.false-raw
+enough : (c : Else-not-more_than) → ltb 7 (length (pieces 0x09 (line_of c))) ≡ true
+enough c = sym c.more_than.ensures ∙ not-false _ c.if-not-more_than.false-raw
 
-named : ((goal.at.Else-not-same c).Else-not-same : Else-not-same) → same (field (line_of (goal.at.Else-not-same c).Else-not-more_than) 0) (name_of (goal.at.Else-not-same c).Else-not-more_than) ≡ true
-named (goal.at.Else-not-same c).Else-not-same =
+named : (c : Else-not-same) → same (field (line_of (goal.at.Else-not-same c).Else-not-more_than) 0) (name_of (goal.at.Else-not-same c).Else-not-more_than) ≡ true
+named c =
     through (λ (x : List ℕ). same x (name_of (goal.at.Else-not-same c).Else-not-more_than)) c.field-chromosome.ensures c.same.ensures
     (not-false _ c.if-not-same.false-raw)
 
-refd : ((goal.at.Else-not-is_allele c).Else-not-is_allele : Else-not-is_allele) → allele (field (line_of (goal.at.Else-not-is_allele c).Else-not-more_than) 3) ≡ true
-refd (goal.at.Else-not-is_allele c).Else-not-is_allele = through allele c.field-reference.ensures c.is_allele.ensures (not-false _ c.if-not-is_allele.false-raw)
+refd : (c : Else-not-is_allele) → allele (field (line_of (goal.at.Else-not-is_allele c).Else-not-more_than) 3) ≡ true
+refd c = through allele c.field-reference.ensures c.is_allele.ensures (not-false _ c.if-not-is_allele.false-raw)
 
 pub returns-then-not-more_than : goal.returns-then-not-more_than
 returns-then-not-more_than c = sym (few-fields _ _ (sym c.more_than.ensures ∙ not-true _ c.if-not-more_than.true-raw))

@@ -8,8 +8,8 @@ use Rattle.vcf.proofs.records.window.is_outside.Goals as goal
 use Rattle.vcf.proofs.records.window.is_outside.Goals.{Else-window-eq0}
 
 -- the window has a base
-some : ((goal.at.Else-window-eq0 c).Else-window-eq0 : Else-window-eq0) → length (meant c.args.window.now) ≡ 0 → ⊥
-some (goal.at.Else-window-eq0 c).Else-window-eq0 e = c.if-window-eq0.false (sym (meant-length c.args.window.now) ∙ e)
+some : (c : Else-window-eq0) → length (meant c.args.window.now) ≡ 0 → ⊥
+some c e = c.if-window-eq0.false (sym (meant-length c.args.window.now) ∙ e)
 
 pub returns-then-window-eq0 : goal.returns-then-window-eq0
 returns-then-window-eq0 c = let w = c.args.window.now in sym (outside-empty (meant w) _ _ _ (meant-length w ∙ c.if-window-eq0.true))

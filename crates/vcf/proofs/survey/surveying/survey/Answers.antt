@@ -12,12 +12,12 @@ use Rattle.vcf.proofs.survey.surveying.survey.Goals as goal
 use Rattle.vcf.proofs.survey.surveying.survey.Goals.{Else-not-is_headed, Else-not-is_placed}
 
 -- what the tests that were passed say
-P1 : ((goal.at.Else-not-is_placed e).Else-not-is_placed : Else-not-is_placed) → placed e.args.window.now
+P1 : (e : Else-not-is_placed) → placed e.args.window.now
     e.args.first ≡ true
-P1 (goal.at.Else-not-is_placed e).Else-not-is_placed = sym e.is_placed.ensures ∙ not-false _ e.if-not-is_placed.false-raw
+P1 e = sym e.is_placed.ensures ∙ not-false _ e.if-not-is_placed.false-raw
 
-P2 : ((goal.at.Else-not-is_headed e).Else-not-is_headed : Else-not-is_headed) → prefix heading e.args.file.now ≡ true
-P2 (goal.at.Else-not-is_headed e).Else-not-is_headed = sym e.is_headed.ensures ∙ not-false _ e.if-not-is_headed.false-raw
+P2 : (e : Else-not-is_headed) → prefix heading e.args.file.now ≡ true
+P2 e = sym e.is_headed.ensures ∙ not-false _ e.if-not-is_headed.false-raw
 
 pub returns-then-not-is_placed : goal.returns-then-not-is_placed
 returns-then-not-is_placed c =

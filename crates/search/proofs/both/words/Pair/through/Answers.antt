@@ -14,9 +14,9 @@ use Rattle.search.proofs.both.words.Pair.through.Goals as goal
 use Rattle.search.proofs.both.words.Pair.through.Goals.{In-Sound}
 
 -- nothing is wrong before the stretch is read
-entry : ((goal.at.In-Sound c).In-Sound : In-Sound)
+entry : (c : In-Sound)
     → EnteredBoth c.args.pattern.now c.args.self.given c.args.self.opposite c.args.stretch.now
-entry (goal.at.In-Sound c).In-Sound = both-entered _ _ _ _ (sym c.enter_both.ensures ∙ ap told_verdict c.in-Sound.is)
+entry c = both-entered _ _ _ _ (sym c.enter_both.ensures ∙ ap told_verdict c.in-Sound.is)
 
 pub slice_bounds-bytes-end : goal.slice_bounds-bytes-end
 slice_bounds-bytes-end c = read-room Opposite _ _ c.read_on-bytes.ensures (entry (goal.at.slice_bounds-bytes-end c).In-Sound).own.sound

@@ -8,12 +8,12 @@ use Rattle.vcf.proofs.Tallying.{sane-opened, sane-tallied, record-none, record-s
 use Rattle.vcf.proofs.survey.needed.Needed.record.Goals as goal
 use Rattle.vcf.proofs.survey.needed.Needed.record.Goals.{After-open-begun, After-variant-first}
 
-begun : ((goal.at.After-open-begun c).After-open-begun : After-open-begun) → Sane (goal.at.After-open-begun c).After-open-begun.«open».result
-begun (goal.at.After-open-begun c).After-open-begun = rw (goal.at.After-open-begun c).After-open-begun.«open».ensures (sane-opened c.args.self c.requires)
+begun : (c : After-open-begun) → Sane c.«open».result
+begun c = rw c.«open».ensures (sane-opened c.args.self c.requires)
 
-whole : ((goal.at.After-variant-first v).After-variant-first : After-variant-first) → v.variant-first.result ≡ tallied (opened v.args.self)
+whole : (v : After-variant-first) → v.variant-first.result ≡ tallied (opened v.args.self)
     (length v.args.reference.now) false
-whole (goal.at.After-variant-first v).After-variant-first = v.variant-first.ensures ∙ rw (goal.at.After-variant-first v).After-open-begun.«open».ensures
+whole v = v.variant-first.ensures ∙ rw (goal.at.After-variant-first v).After-open-begun.«open».ensures
 
 pub variant-first-requires : goal.variant-first-requires
 variant-first-requires c = begun (goal.at.variant-first-requires c).After-open-begun

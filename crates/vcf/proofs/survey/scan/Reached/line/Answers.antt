@@ -14,21 +14,21 @@ use Rattle.vcf.proofs.Scanning.{step-comment, step-unsound, step-early, step-ove
 use Rattle.vcf.proofs.survey.scan.Reached.line.Goals as goal
 use Rattle.vcf.proofs.survey.scan.Reached.line.Goals.{After-behind-end, After-record-next, Else-is_comment, Else-not-agrees}
 
-plain : ((goal.at.Else-is_comment c).Else-is_comment : Else-is_comment) → comment c.args.line.now ≡ false
-plain (goal.at.Else-is_comment c).Else-is_comment = sym c.is_comment.ensures ∙ c.if-is_comment.false
+plain : (c : Else-is_comment) → comment c.args.line.now ≡ false
+plain c = sym c.is_comment.ensures ∙ c.if-is_comment.false
 
 -- the position after REF
 ending :
-    ((goal.at.After-behind-end b).After-behind-end : After-behind-end) →
+    (b : After-behind-end) →
     b.behind-end.result ≡ min beyond (b.sound-position.result + length (meant b.field-reference.result.now))
-ending (goal.at.After-behind-end b).After-behind-end = b.behind-end.ensures ∙ rw (← meant-length b.field-reference.result.now)
+ending b = b.behind-end.ensures ∙ rw (← meant-length b.field-reference.result.now)
 
 bounds :
-    ((goal.at.Else-not-agrees k).Else-not-agrees : Else-not-agrees) →
+    (k : Else-not-agrees) →
     (SₚBₚk.args.first ≤ Rₚk.sound.result)
     × (SₚBₚk.args.self.base ≤ Rₚk.sound.result - SₚBₚk.args.first)
     × (SₚBₚk.args.first ≤ Bₚk.behind.result)
-bounds (goal.at.Else-not-agrees k).Else-not-agrees =
+bounds k =
     step-bounds _ _ _ Sₚb.args.self _ (plain (goal.at.Else-not-agrees k).Else-is_comment) _ k.sound-position.ensures k.if-position-eq0.false k.if-position-from.false _
     (ap meant k.field-reference.ensures) Sₚb.requires.put _ (ending (goal.at.Else-not-agrees k).After-behind-end)
     (sym k.if-is_outside.false ∙ k.is_outside.ensures) (sym (not-false _ k.if-not-agrees.false-raw) ∙ k.agrees.ensures) Sₚb.requires.passed
