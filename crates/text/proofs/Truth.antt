@@ -60,6 +60,7 @@ any_of-some f (a ∷ l) e =
 
 pub some-any_of : {A : Type 0} (f : A → Bool) (l : List A) {a : A} → Memᴰ a l → f a ≡ true → any_of f l ≡ true
 unfolding any_of
+some-any_of {A = A} f [] {a = a} m h = elim m [ ]
 some-any_of f (b ∷ l) (Memᴰ.head e) h = or_left (f b) (any_of f l) (rw e at h)
 some-any_of f (b ∷ l) (Memᴰ.tail m) h = or_right (f b) (any_of f l) (some-any_of f l m h)
 
