@@ -4,10 +4,10 @@ use Rattle.layout.specs.Pieces.{told_part}
 use Rattle.layout.proofs.Heads.{Whole, head-is}
 use Rattle.layout.proofs.Verdicts.{misspelt-cut, misspelt-inside, misspelt-found}
 use Rattle.layout.proofs.pieces.misspelt.Goals as goal
-use Rattle.layout.proofs.pieces.misspelt.Goals.{In-At-2}
+use Rattle.layout.proofs.pieces.misspelt.Goals.{In-At}
 
 -- where the letters stand
-found : (c : In-At-2)
+found : (c : In-At)
     → Whole
     c.args.stretch.now
     c.args.at
@@ -16,19 +16,19 @@ found : (c : In-At-2)
 found c = head-is _ _ _ _ (sym c.head.ensures ∙ ap told_part c.in-At.is)
 
 pub slice_bounds-first_wrong-count : goal.slice_bounds-first_wrong-count
-slice_bounds-first_wrong-count c = let w = found (goal.at.slice_bounds-first_wrong-count c).In-At-2 in omega (arith, w.starts, w.ends)
+slice_bounds-first_wrong-count c = let w = found (goal.at.slice_bounds-first_wrong-count c).In-At in omega (arith, w.starts, w.ends)
 
 pub slice_bounds-first_wrong-start : goal.slice_bounds-first_wrong-start
-slice_bounds-first_wrong-start c = let w = found (goal.at.slice_bounds-first_wrong-start c).In-At-2 in omega (arith, w.starts, w.ends)
+slice_bounds-first_wrong-start c = let w = found (goal.at.slice_bounds-first_wrong-start c).In-At in omega (arith, w.starts, w.ends)
 
 pub slice_bounds-first_wrong-end : goal.slice_bounds-first_wrong-end
-slice_bounds-first_wrong-end c = let w = found (goal.at.slice_bounds-first_wrong-end c).In-At-2 in omega (arith, w.ends, w.inside)
+slice_bounds-first_wrong-end c = let w = found (goal.at.slice_bounds-first_wrong-end c).In-At in omega (arith, w.ends, w.inside)
 
 pub overflow_add-place : goal.overflow_add-place
-overflow_add-place c = omega (arith, misspelt-inside _ _ _ _ (found (goal.at.overflow_add-place c).In-At-2) _ c.first_wrong.ensures)
+overflow_add-place c = omega (arith, misspelt-inside _ _ _ _ (found (goal.at.overflow_add-place c).In-At) _ c.first_wrong.ensures)
 
 pub returns-in-Refused : goal.returns-in-Refused
 returns-in-Refused c = sym (misspelt-cut _ _ c.head.ensures c.in-Refused.is)
 
 pub returns-in-At : goal.returns-in-At
-returns-in-At c = sym (misspelt-found _ _ _ _ (found (goal.at.returns-in-At c).In-At-2) _ c.first_wrong.ensures)
+returns-in-At c = sym (misspelt-found _ _ _ _ (found (goal.at.returns-in-At c).In-At) _ c.first_wrong.ensures)

@@ -4,10 +4,10 @@ use Rattle.layout.specs.Pieces.{told_part}
 use Rattle.layout.proofs.Heads.{Whole, head-is, head-not}
 use Rattle.layout.proofs.RepeatsInBytes.{repeats-at-cut, repeats-at-whole}
 use Rattle.layout.proofs.repetition.repeated_at.Goals as goal
-use Rattle.layout.proofs.repetition.repeated_at.Goals.{In-At-2}
+use Rattle.layout.proofs.repetition.repeated_at.Goals.{In-At}
 
 -- where the letters stand
-found : (c : In-At-2)
+found : (c : In-At)
     → Whole
     c.args.stretch.now
     c.args.at
@@ -16,16 +16,16 @@ found : (c : In-At-2)
 found c = head-is _ _ _ _ (sym c.head.ensures ∙ ap told_part c.in-At.is)
 
 pub slice_bounds-repeated-count : goal.slice_bounds-repeated-count
-slice_bounds-repeated-count c = let w = found (goal.at.slice_bounds-repeated-count c).In-At-2 in omega (arith, w.starts, w.ends)
+slice_bounds-repeated-count c = let w = found (goal.at.slice_bounds-repeated-count c).In-At in omega (arith, w.starts, w.ends)
 
 pub slice_bounds-repeated-start : goal.slice_bounds-repeated-start
-slice_bounds-repeated-start c = let w = found (goal.at.slice_bounds-repeated-start c).In-At-2 in omega (arith, w.starts, w.ends)
+slice_bounds-repeated-start c = let w = found (goal.at.slice_bounds-repeated-start c).In-At in omega (arith, w.starts, w.ends)
 
 pub slice_bounds-repeated-end : goal.slice_bounds-repeated-end
-slice_bounds-repeated-end c = let w = found (goal.at.slice_bounds-repeated-end c).In-At-2 in omega (arith, w.ends, w.inside)
+slice_bounds-repeated-end c = let w = found (goal.at.slice_bounds-repeated-end c).In-At in omega (arith, w.ends, w.inside)
 
 pub returns-in-Refused : goal.returns-in-Refused
 returns-in-Refused c = sym (repeats-at-cut _ _ _ (head-not _ _ _ _ (sym c.head.ensures ∙ ap told_part c.in-Refused.is)))
 
 pub returns-in-At : goal.returns-in-At
-returns-in-At c = c.repeated.ensures ∙ repeats-at-whole _ _ _ _ _ (found (goal.at.returns-in-At c).In-At-2)
+returns-in-At c = c.repeated.ensures ∙ repeats-at-whole _ _ _ _ _ (found (goal.at.returns-in-At c).In-At)

@@ -10,9 +10,9 @@ use Rattle.layout.proofs.Overs.{emitted-length, Copied, copied_none, copied-room
 use Rattle.layout.proofs.variant.put_variant.Goals as goal
 use Rattle.layout.proofs.variant.put_variant.Goals.{Else-not-has_room}
 
-room : (c : Else-not-has_room) → Sₚc.args.at + 2 + length Sₚc.args.variant.now ≤ length Sₚc.args.out.now
+room : (c : Else-not-has_room) → c.args.at + 2 + length c.args.variant.now ≤ length c.args.out.now
 room c =
-    let a = Sₚc.args in
+    let a = c.args in
     let h : a.at + (2 + length a.variant.now) ≤ length a.out.now =
     leb-true _ _ (sym c.has_room.ensures ∙ not-false _ c.if-not-has_room.false-raw) in
     omega arith
@@ -28,7 +28,7 @@ overflow_add-start c = omega (arith, room (goal.at.overflow_add-start c).Else-no
 
 pub loop-i-init : goal.loop-i-init
 loop-i-init c =
-    let v = Sₚe.args.variant.now in
+    let v = c.args.variant.now in
     copied_none _ _ (meant v) (rw (meant-length v) (omega (arith, room (goal.at.loop-i-init c).Else-not-has_room, c.put_word.auto.1.0)))
 
 pub bounds-out-start : goal.bounds-out-start
@@ -46,7 +46,7 @@ shape_of-out c = emitted-length c.loop-i.invariant.emitted ∙ c.put_word.auto.1
 pub returns : goal.returns
 unfolding word_bytes
 returns c =
-    let a = Sₚe.args in
+    let a = c.args in
     let v = meant a.variant.now in
     let n = meant-length a.variant.now in
     let fits : a.at + 2 + length v ≤ length a.out.now = rw n (room (goal.at.returns c).Else-not-has_room) in

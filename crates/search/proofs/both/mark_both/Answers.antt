@@ -9,16 +9,16 @@ use Rattle.search.specs.Either.{SeenBoth}
 use Rattle.search.proofs.Markings.{into-not, found-enough, into-handed}
 use Rattle.search.proofs.Eithers.{from-length, both-segments}
 use Rattle.search.proofs.both.mark_both.Goals as goal
-use Rattle.search.proofs.both.mark_both.Goals.{After-open, In-At-2}
+use Rattle.search.proofs.both.mark_both.Goals.{After-open, In-At}
 
 -- how many segments are told of
 abbrev segments : SeenBoth → ℕ
 segments x = x.segments
 
 -- the stretch was opened
-opening : (v : In-At-2)
+opening : (v : In-At)
     → Opening v.args.stretch.now v.in-At.walk
-opening v = open_is _ (goal.at.In-At-2 v).After-open.«open».ensures v.in-At.is
+opening v = open_is _ (goal.at.In-At v).After-open.«open».ensures v.in-At.is
 
 pub returns-in-Refused : goal.returns-in-Refused
 returns-in-Refused c = into-not _ _ _ _ _ _ (open-not _ (goal.at.returns-in-Refused c).After-open.«open».ensures c.in-Refused.is).1
@@ -26,7 +26,7 @@ returns-in-Refused c = into-not _ _ _ _ _ _ (open-not _ (goal.at.returns-in-Refu
 pub run_both-sought-requires : goal.run_both-sought-requires
 run_both-sought-requires c =
     let p = c.requires in
-    let z = opening (goal.at.run_both-sought-requires c).In-At-2 in (
+    let z = opening (goal.at.run_both-sought-requires c).In-At in (
       (record { founded = p.0.0; letters = c.classes-letters.ensures }, record { founded = p.0.1; letters = c.classes-letters.ensures }),
       ((p.1.0, p.1.1), (z.begins, omega (arith, z.first, c.if-stretch-le-SMALL_STRETCH.true))),
     )
@@ -40,12 +40,12 @@ pub returns-then-stretch-le-SMALL_STRETCH : goal.returns-then-stretch-le-SMALL_S
 returns-then-stretch-le-SMALL_STRETCH c =
     let e = c.run_both-sought.ensures in
     into-handed _ _ c.args.marks.now segments (both-segments _ _ _) _ _
-    e.1 e.0 (opening (goal.at.returns-then-stretch-le-SMALL_STRETCH c).In-At-2).whole _ _ c.hand_both.ensures
+    e.1 e.0 (opening (goal.at.returns-then-stretch-le-SMALL_STRETCH c).In-At).whole _ _ c.hand_both.ensures
 
 pub run_both-sought-requires-2 : goal.run_both-sought-requires-2
 run_both-sought-requires-2 c =
     let p = c.requires in
-    let z = opening (goal.at.run_both-sought-requires-2 c).In-At-2 in (
+    let z = opening (goal.at.run_both-sought-requires-2 c).In-At in (
       (record { founded = p.0.0; letters = c.classes-letters.ensures }, record { founded = p.0.1; letters = c.classes-letters.ensures }),
       ((p.1.0, p.1.1), (z.begins, omega (arith, p.1.2, z.states, z.first))),
     )
@@ -59,4 +59,4 @@ pub returns : goal.returns
 returns c =
     let e = c.run_both-sought-2.ensures in
     into-handed _ _ c.args.marks.now segments (both-segments _ _ _) _ _
-    e.1 e.0 (opening (goal.at.returns c).In-At-2).whole _ _ c.hand_both-2.ensures
+    e.1 e.0 (opening (goal.at.returns c).In-At).whole _ _ c.hand_both-2.ensures

@@ -11,16 +11,16 @@ use Rattle.search.specs.Answers.{Seen}
 use Rattle.search.proofs.Markings.{into-not, found-enough, into-handed}
 use Rattle.search.proofs.Searches.{seen-segments}
 use Rattle.search.proofs.marking.mark.Goals as goal
-use Rattle.search.proofs.marking.mark.Goals.{After-open, In-At-2}
+use Rattle.search.proofs.marking.mark.Goals.{After-open, In-At}
 
 -- how many segments are told of
 abbrev segments : Seen → ℕ
 segments x = x.segments
 
 -- the stretch was opened
-opening : (v : In-At-2)
+opening : (v : In-At)
     → Opening v.args.stretch.now v.in-At.walk
-opening v = open_is _ (goal.at.In-At-2 v).After-open.«open».ensures v.in-At.is
+opening v = open_is _ (goal.at.In-At v).After-open.«open».ensures v.in-At.is
 
 pub returns-in-Refused : goal.returns-in-Refused
 returns-in-Refused c = into-not _ _ _ _ _ _ (open-not _ (goal.at.returns-in-Refused c).After-open.«open».ensures c.in-Refused.is).1
@@ -28,7 +28,7 @@ returns-in-Refused c = into-not _ _ _ _ _ _ (open-not _ (goal.at.returns-in-Refu
 pub run-sought-requires : goal.run-sought-requires
 run-sought-requires c =
     let p = c.requires in
-    let z = opening (goal.at.run-sought-requires c).In-At-2 in (
+    let z = opening (goal.at.run-sought-requires c).In-At in (
       (record { founded = p.0; letters = c.classes-letters.ensures }, p.1),
       ((z.begins, omega (arith, p.2, z.states, z.first)), λ _. omega (arith, z.first, c.if-stretch-le-SMALL_STRETCH.true)),
     )
@@ -42,12 +42,12 @@ pub returns-then-stretch-le-SMALL_STRETCH : goal.returns-then-stretch-le-SMALL_S
 returns-then-stretch-le-SMALL_STRETCH c =
     let e = c.run-sought.ensures.1 in
     into-handed _ _ c.args.marks.now segments (seen-segments _ _) _ _
-    (e.1 refl) (e.0 refl) (opening (goal.at.returns-then-stretch-le-SMALL_STRETCH c).In-At-2).whole _ _ c.hand.ensures
+    (e.1 refl) (e.0 refl) (opening (goal.at.returns-then-stretch-le-SMALL_STRETCH c).In-At).whole _ _ c.hand.ensures
 
 pub run-sought-requires-2 : goal.run-sought-requires-2
 run-sought-requires-2 c =
     let p = c.requires in
-    let z = opening (goal.at.run-sought-requires-2 c).In-At-2 in (
+    let z = opening (goal.at.run-sought-requires-2 c).In-At in (
       (record { founded = p.0; letters = c.classes-letters.ensures }, p.1),
       ((z.begins, omega (arith, p.2, z.states, z.first)), λ _. omega (arith, p.2, z.states, z.first)),
     )
@@ -61,4 +61,4 @@ pub returns : goal.returns
 returns c =
     let e = c.run-sought-2.ensures.1 in
     into-handed _ _ c.args.marks.now segments (seen-segments _ _) _ _
-    (e.1 refl) (e.0 refl) (opening (goal.at.returns c).In-At-2).whole _ _ c.hand-2.ensures
+    (e.1 refl) (e.0 refl) (opening (goal.at.returns c).In-At).whole _ _ c.hand-2.ensures

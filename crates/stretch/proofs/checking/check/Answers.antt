@@ -13,19 +13,19 @@ use Rattle.stretch.specs.Answers.{told_walked}
 use Rattle.stretch.proofs.Checks.{check-refused, check_sound}
 use Rattle.stretch.proofs.Checks.{walked-met, walked-not}
 use Rattle.stretch.proofs.checking.check.Goals as goal
-use Rattle.stretch.proofs.checking.check.Goals.{After-fits, After-open, In-At-2}
+use Rattle.stretch.proofs.checking.check.Goals.{After-fits, After-open, In-At}
 
 -- the stretch is no longer than a number can say
 narrow : (c : tie.After-fits2 invariant-loop decreases-loop) → length c.before.before.args.stretch.now < 2 ^ 64
 narrow c = omega arith
 
 -- the stretch was opened
-opening : (c : In-At-2)
+opening : (c : In-At)
     → Opening c.args.stretch.now c.in-At.walk
-opening c = open_is _ (goal.at.In-At-2 c).After-open.«open».ensures c.in-At.is
+opening c = open_is _ (goal.at.In-At c).After-open.«open».ensures c.in-At.is
 
 -- and its text is that of the segments that are walked over
-text-is : (c : In-At-2)
+text-is : (c : In-At)
     → let s = c.args.stretch.now in
     stretch_of s ≡ segments_of s c.in-At.walk.count c.in-At.walk.at
 text-is c =
@@ -42,7 +42,7 @@ returns-in-Refused-open c =
     sym (check-refused _ _ _ (stretch-is _ short ∙ none.1))
 
 pub loop-walk-init : goal.loop-walk-init
-loop-walk-init c = ([], going-none _ _ (opening (goal.at.loop-walk-init c).In-At-2).begins)
+loop-walk-init c = ([], going-none _ _ (opening (goal.at.loop-walk-init c).In-At).begins)
 
 pub segment_at-requires : goal.segment_at-requires
 segment_at-requires c = c.classes-letters.ensures
@@ -52,7 +52,7 @@ returns-in-Refused-segment_at c =
     let q = c.loop-walk.invariant.1 in
     let wrong = walked-not _ _ _ _ (sym c.segment_at.ensures ∙ ap told_walked c.in-Refused-segment_at.is) in
     let all = going-refused q (omega (arith, q.count)) wrong in
-    sym (check-refused _ _ _ (text-is (goal.at.returns-in-Refused-segment_at c).In-At-2 ∙ all))
+    sym (check-refused _ _ _ (text-is (goal.at.returns-in-Refused-segment_at c).In-At ∙ all))
 
 pub loop-walk-smaller : goal.loop-walk-smaller
 loop-walk-smaller c =
@@ -72,11 +72,11 @@ pub returns-in-Refused-end : goal.returns-in-Refused-end
 returns-in-Refused-end c =
     let q = c.loop-walk.invariant.1 in
     let wrong = going-not q (omega (arith, q.count)) c.end.ensures c.in-Refused-end.is in
-    sym (check-refused _ _ _ (text-is (goal.at.returns-in-Refused-end c).In-At-2 ∙ wrong))
+    sym (check-refused _ _ _ (text-is (goal.at.returns-in-Refused-end c).In-At ∙ wrong))
 
 pub returns-in-Sound : goal.returns-in-Sound
 returns-in-Sound c =
     let q = c.loop-walk.invariant.1 in
     let sound = going-sound q (omega (arith, q.count)) c.end.ensures c.in-Sound.is in
     let long = going-length q in
-    sym (check_sound _ _ _ _ (text-is (goal.at.returns-in-Sound c).In-At-2 ∙ sound) (omega (arith, long, q.count, q.few)) q.sum.sum)
+    sym (check_sound _ _ _ _ (text-is (goal.at.returns-in-Sound c).In-At ∙ sound) (omega (arith, long, q.count, q.few)) q.sum.sum)

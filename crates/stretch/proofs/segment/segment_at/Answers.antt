@@ -13,10 +13,10 @@ use Rattle.layout.proofs.Walking.{Walking, walk-not, walk_none, walk-done, walk-
 use Rattle.layout.proofs.Walking.{walk-past, walk-less}
 use Rattle.stretch.proofs.Checks.{walked-refused, walked-done}
 use Rattle.stretch.proofs.segment.segment_at.Goals as goal
-use Rattle.stretch.proofs.segment.segment_at.Goals.{In-At-head-2}
+use Rattle.stretch.proofs.segment.segment_at.Goals.{In-At-head}
 
 -- where the letters stand
-here : (c : In-At-head-2)
+here : (c : In-At-head)
     → Whole c.args.stretch.now c.loop-cursor.cursor.at c.in-At-head.start
     c.in-At-head.next
 here c = head-is _ _ _ _ (sym c.head.ensures ∙ ap told_part c.in-At-head.is)
@@ -35,24 +35,24 @@ returns-in-Refused-head c =
     (walk-cut c.loop-cursor.invariant.1 c.loop-cursor-test.true c.head.ensures c.in-Refused-head.is))
 
 pub slice_bounds-letters-count : goal.slice_bounds-letters-count
-slice_bounds-letters-count c = let w = here (goal.at.slice_bounds-letters-count c).In-At-head-2 in omega (arith, w.starts, w.ends)
+slice_bounds-letters-count c = let w = here (goal.at.slice_bounds-letters-count c).In-At-head in omega (arith, w.starts, w.ends)
 
 pub slice_bounds-letters-start : goal.slice_bounds-letters-start
-slice_bounds-letters-start c = let w = here (goal.at.slice_bounds-letters-start c).In-At-head-2 in omega (arith, w.starts, w.ends)
+slice_bounds-letters-start c = let w = here (goal.at.slice_bounds-letters-start c).In-At-head in omega (arith, w.starts, w.ends)
 
 pub slice_bounds-letters-end : goal.slice_bounds-letters-end
-slice_bounds-letters-end c = let w = here (goal.at.slice_bounds-letters-end c).In-At-head-2 in omega (arith, w.ends, w.inside)
+slice_bounds-letters-end c = let w = here (goal.at.slice_bounds-letters-end c).In-At-head in omega (arith, w.ends, w.inside)
 
 pub returns-then-any_wrong_by : goal.returns-then-any_wrong_by
 returns-then-any_wrong_by c =
     let spelt = c.any_wrong_by.ensures ∙ wrong-letters c.requires _ in
     sym (walked-refused _ _ _ _
-    (walk-misspelt c.loop-cursor.invariant.1 c.loop-cursor-test.true (here (goal.at.returns-then-any_wrong_by c).In-At-head-2) spelt c.if-any_wrong_by.true c.misspelt.ensures))
+    (walk-misspelt c.loop-cursor.invariant.1 c.loop-cursor-test.true (here (goal.at.returns-then-any_wrong_by c).In-At-head) spelt c.if-any_wrong_by.true c.misspelt.ensures))
 
 pub returns-in-Refused-compared : goal.returns-in-Refused-compared
 returns-in-Refused-compared c =
     let spelt = c.any_wrong_by.ensures ∙ wrong-letters c.requires _ in
-    sym (walked-refused _ _ _ _ (walk-again c.loop-cursor.invariant.1 c.loop-cursor-test.true (here (goal.at.returns-in-Refused-compared c).In-At-head-2) spelt c.if-any_wrong_by.false c.compared.ensures
+    sym (walked-refused _ _ _ _ (walk-again c.loop-cursor.invariant.1 c.loop-cursor-test.true (here (goal.at.returns-in-Refused-compared c).In-At-head) spelt c.if-any_wrong_by.false c.compared.ensures
     c.in-Refused-compared.is))
 
 pub loop-cursor-smaller : goal.loop-cursor-smaller
@@ -64,9 +64,9 @@ loop-cursor-preserved c =
     let w = c.loop-cursor.invariant.1 in
     let spelt = c.any_wrong_by.ensures ∙ wrong-letters c.requires _ in
     let fits : length c.args.stretch.now < 2 ^ 64 = omega arith in
-    let new = ⊎_elim (λ y. walk-new w c.loop-cursor-test.true (here (goal.at.loop-cursor-preserved c).In-At-head-2) spelt y.1.ensures y.3.given.1)
-    (λ y. walk-unsuspected w c.loop-cursor-test.true (here (goal.at.loop-cursor-preserved c).In-At-head-2) spelt (sym c.suspects.ensures ∙ y.left)) c.if-suspects.branch in
-    (_, walk-past w c.loop-cursor-test.true (here (goal.at.loop-cursor-preserved c).In-At-head-2) spelt fits c.if-any_wrong_by.false new refl c.past-cursor.ensures)
+    let new = ⊎_elim (λ y. walk-new w c.loop-cursor-test.true (here (goal.at.loop-cursor-preserved c).In-At-head) spelt y.1.ensures y.3.given.1)
+    (λ y. walk-unsuspected w c.loop-cursor-test.true (here (goal.at.loop-cursor-preserved c).In-At-head) spelt (sym c.suspects.ensures ∙ y.left)) c.if-suspects.branch in
+    (_, walk-past w c.loop-cursor-test.true (here (goal.at.loop-cursor-preserved c).In-At-head) spelt fits c.if-any_wrong_by.false new refl c.past-cursor.ensures)
 
 pub returns : goal.returns
 returns c =

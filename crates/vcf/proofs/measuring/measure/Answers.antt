@@ -26,8 +26,8 @@ N f = f.args.name.now
 place : (c : After-position-place) → c.position-place.result ≡ position (L (goal.at.After-position-place c).After-field-reference)
 place c = c.position-place.ensures ∙ ap position_of c.field-stated.ensures
 
-placing : (c : After-is_placed) → c.is_placed.result ≡ placed (field (L Fₚc) 3) (position (L Fₚc))
-placing c = c.is_placed.ensures ∙ ap₂ placed Fₚc.field.ensures (place (goal.at.After-is_placed c).After-position-place)
+placing : (c : After-is_placed) → c.is_placed.result ≡ placed (field (L (goal.at.After-is_placed c).After-field-reference) 3) (position (L (goal.at.After-is_placed c).After-field-reference))
+placing c = c.is_placed.ensures ∙ ap₂ placed c.field-reference.ensures (place (goal.at.After-is_placed c).After-position-place)
 
 size : (f : After-field-reference) → length f.field-reference.result.now ≡ length (field (L f) 3)
 size f = ap length f.field-reference.ensures
@@ -39,8 +39,8 @@ wrong c = c.first_wrong-wrong.ensures ∙ ap (first_not letter) (F (goal.at.Afte
 put : (e : Else-not-is_placed) → placed (field (L (F (goal.at.Else-not-is_placed e).After-is_placed)) 3) (position (L (F (goal.at.Else-not-is_placed e).After-is_placed))) ≡ true
 put e = sym (placing (goal.at.Else-not-is_placed e).After-is_placed) ∙ not-false _ e.if-not-is_placed.false-raw
 
-spelt : (s : After-sound) → length (field (L FSₚs) 3) ≤ s.first_wrong-wrong.result
-spelt s = rw (size FSₚs) at s.if-wrong-bases.false
+spelt : (s : After-sound) → length (field (L (goal.at.After-sound s).After-field-reference) 3) ≤ s.first_wrong-wrong.result
+spelt s = rw (size (goal.at.After-sound s).After-field-reference) at s.if-wrong-bases.false
 
 sound : (e : Else-sound-eq0) → is_record (N (FS (goal.at.Else-sound-eq0 e).After-sound)) (L (FS (goal.at.Else-sound-eq0 e).After-sound)) ≡ true
 sound e = sounds (is_record _ _) (position (L (FS (goal.at.Else-sound-eq0 e).After-sound))) e.sound.ensures e.if-sound-eq0.false
@@ -48,9 +48,9 @@ sound e = sounds (is_record _ _) (position (L (FS (goal.at.Else-sound-eq0 e).Aft
 needed :
     (r : After-record) →
     r.«record».result
-    ≡ tally_in (opened nothing) [] (meant (field (L FSₚSₚr) 3) ∷ alternates (meant (field (L FSₚSₚr) 4)))
+    ≡ tally_in (opened nothing) [] (meant (field (L (goal.at.After-record r).After-field-reference) 3) ∷ alternates (meant (field (L (goal.at.After-record r).After-field-reference) 4)))
 needed r =
-    let ref = FSₚSₚr.field in
+    let ref = r.field-reference in
     let alt = r.field-alt in
     r.«record».ensures
     ∙ ap (λ (t : Needed). tally_in (opened t) [] (meant ref.result.now ∷ alternates (meant alt.result.now))) r.nothing-nothing.ensures
@@ -66,31 +66,31 @@ returns-then-wrong-bases c =
 
 pub returns-then-sound-eq0 : goal.returns-then-sound-eq0
 returns-then-sound-eq0 c =
-    let p = put E1ₚs in
+    let p = put (goal.at.returns-then-sound-eq0 c).Else-not-is_placed in
     c.refused-then-sound-eq0.ensures
     ∙ measure-unsound _ _ p (wrong (goal.at.returns-then-sound-eq0 c).After-first_wrong-wrong) (spelt (goal.at.returns-then-sound-eq0 c).After-sound)
-    (unsound (is_record _ _) (position (L FSₚs)) c.sound.ensures (placed-some _ _ p) c.if-sound-eq0.true)
+    (unsound (is_record _ _) (position (L (goal.at.returns-then-sound-eq0 c).After-field-reference)) c.sound.ensures (placed-some _ _ p) c.if-sound-eq0.true)
 
 pub record-requires : goal.record-requires
 record-requires c = rw c.nothing-nothing.ensures sane-nothing
 
 pub overflow_sub-segment : goal.overflow_sub-segment
 overflow_sub-segment c =
-    measure-some _ _ (put E1ₚs) (wrong (goal.at.overflow_sub-segment c).After-first_wrong-wrong) (spelt (goal.at.overflow_sub-segment c).After-sound) (sound (goal.at.overflow_sub-segment c).Else-sound-eq0) (needed (goal.at.overflow_sub-segment c).After-record) c.in-Fits.is
+    measure-some _ _ (put (goal.at.overflow_sub-segment c).Else-not-is_placed) (wrong (goal.at.overflow_sub-segment c).After-first_wrong-wrong) (spelt (goal.at.overflow_sub-segment c).After-sound) (sound (goal.at.overflow_sub-segment c).Else-sound-eq0) (needed (goal.at.overflow_sub-segment c).After-record) c.in-Fits.is
 
 pub returns-in-Long : goal.returns-in-Long
 returns-in-Long c =
     c.refused-in-Long.ensures
-    ∙ measure-long _ _ (put E1ₚs) (wrong (goal.at.returns-in-Long c).After-first_wrong-wrong) (spelt (goal.at.returns-in-Long c).After-sound) (sound (goal.at.returns-in-Long c).Else-sound-eq0) (needed (goal.at.returns-in-Long c).After-record)
+    ∙ measure-long _ _ (put (goal.at.returns-in-Long c).Else-not-is_placed) (wrong (goal.at.returns-in-Long c).After-first_wrong-wrong) (spelt (goal.at.returns-in-Long c).After-sound) (sound (goal.at.returns-in-Long c).Else-sound-eq0) (needed (goal.at.returns-in-Long c).After-record)
     c.in-Long.is
 
 pub returns-in-Repeated : goal.returns-in-Repeated
 returns-in-Repeated c =
     c.refused-in-Repeated.ensures
-    ∙ measure-repeated _ _ (put E1ₚs) (wrong (goal.at.returns-in-Repeated c).After-first_wrong-wrong) (spelt (goal.at.returns-in-Repeated c).After-sound) (sound (goal.at.returns-in-Repeated c).Else-sound-eq0) (needed (goal.at.returns-in-Repeated c).After-record)
+    ∙ measure-repeated _ _ (put (goal.at.returns-in-Repeated c).Else-not-is_placed) (wrong (goal.at.returns-in-Repeated c).After-first_wrong-wrong) (spelt (goal.at.returns-in-Repeated c).After-sound) (sound (goal.at.returns-in-Repeated c).Else-sound-eq0) (needed (goal.at.returns-in-Repeated c).After-record)
     c.in-Repeated.is
 
 pub returns-in-Fits : goal.returns-in-Fits
 returns-in-Fits c =
-    measure-fits _ _ (put E1ₚs) (wrong (goal.at.returns-in-Fits c).After-first_wrong-wrong) (spelt (goal.at.returns-in-Fits c).After-sound) (sound (goal.at.returns-in-Fits c).Else-sound-eq0) (needed (goal.at.returns-in-Fits c).After-record)
-    c.in-Fits.is (place E1ₚs.before.before) (size FSₚs)
+    measure-fits _ _ (put (goal.at.returns-in-Fits c).Else-not-is_placed) (wrong (goal.at.returns-in-Fits c).After-first_wrong-wrong) (spelt (goal.at.returns-in-Fits c).After-sound) (sound (goal.at.returns-in-Fits c).Else-sound-eq0) (needed (goal.at.returns-in-Fits c).After-record)
+    c.in-Fits.is (place (goal.at.returns-in-Fits c).After-position-place) (size (goal.at.returns-in-Fits c).After-field-reference)

@@ -13,7 +13,7 @@ narrow c = omega arith
 
 -- the place after the allele
 place : (c : After-after_variant-next) →
-    c.after_variant-next.result ≡ after_variant Dₚc.before.loop.next (Dₚc.end_of_lem.result - Dₚc.before.loop.from)
+    c.after_variant-next.result ≡ after_variant c.loop-at.next (c.end_of-end.result - c.loop-at.from)
 place c =
     let h = alleles-room c.loop-at.inv c.end_of-end.ensures in
     let k = alleles-kept c.loop-at.inv c.end_of-end.ensures in

@@ -14,29 +14,29 @@ use Rattle.vcf.proofs.put.put_gap.Goals.{After-segment_bytes, Else-n-eq0}
 
 size :
     (e : Else-n-eq0) →
-    length (bytes_of encode_segment (gap_of (meant Sₚe.args.bases.now))) ≡ segment_bytes (length Sₚe.args.bases.now) 1
-size e = gap-size Sₚe.args.bases.now Sₚe.args.out.now Sₚe.args.at e.if-n-eq0.false
+    length (bytes_of encode_segment (gap_of (meant e.args.bases.now))) ≡ segment_bytes (length e.args.bases.now) 1
+size e = gap-size e.args.bases.now e.args.out.now e.args.at e.if-n-eq0.false
 
-narrow : (e : Else-n-eq0) → length Sₚe.args.out.now < 18446744073709551616
+narrow : (e : Else-n-eq0) → length e.args.out.now < 18446744073709551616
 narrow e = omega arith
 
-exact : (c : After-segment_bytes) → c.segment_bytes.result ≡ segment_bytes (length SₚEₚQₚPₚc.args.bases.now) 1
-exact c = let e = E QₚPₚc in omega (arith, c.segment_bytes.ensures, size e, narrow e, (S e).pre)
+exact : (c : After-segment_bytes) → c.segment_bytes.result ≡ segment_bytes (length c.args.bases.now) 1
+exact c = let e = (goal.at.After-segment_bytes c).Else-n-eq0 in omega (arith, c.segment_bytes.ensures, size e, narrow e, (S e).pre)
 
 pub returns-then-n-eq0 : goal.returns-then-n-eq0
 returns-then-n-eq0 c = gap-nothing c.args.bases.now _ _ c.if-n-eq0.true
 
 pub overflow_add-at : goal.overflow_add-at
-overflow_add-at c = omega (arith, size (goal.at.overflow_add-at c).Else-n-eq0, narrow (goal.at.overflow_add-at c).Else-n-eq0, Sₚe.pre)
+overflow_add-at c = omega (arith, size (goal.at.overflow_add-at c).Else-n-eq0, narrow (goal.at.overflow_add-at c).Else-n-eq0, c.requires)
 
 pub overflow_add-result : goal.overflow_add-result
-overflow_add-result c = let e = E QₚPₚc in omega (arith, exact (goal.at.overflow_add-result c).After-segment_bytes, size e, narrow e, (S e).pre)
+overflow_add-result c = let e = (goal.at.overflow_add-result c).Else-n-eq0 in omega (arith, exact (goal.at.overflow_add-result c).After-segment_bytes, size e, narrow e, (S e).pre)
 
 pub shape_of-out : goal.shape_of-out
-shape_of-out c = Pₚc.put-variant.auto.1.0 ∙ QₚPₚc.put-variants.auto.1.0
+shape_of-out c = c.put_variant.auto.1.0 ∙ c.put_variants.auto.1.0
 
 pub returns : goal.returns
 returns c = (
   omega (arith, exact (goal.at.returns c).After-segment_bytes, size (goal.at.returns c).Else-n-eq0),
-  gap-put Sₚe.args.bases.now _ _ c.if-n-eq0.left Sₚe.pre _ _ c.put_variants.ensures c.put_variant.ensures,
+  gap-put c.args.bases.now _ _ c.if-n-eq0.left c.requires _ _ c.put_variants.ensures c.put_variant.ensures,
 )

@@ -11,12 +11,12 @@ use mathlib.Core.Bool.{true, false}
 use Rattle.vcf.specs.Records.{beyond, comment, position, position_of}
 use Rattle.vcf.proofs.Lines.{idle-comment, idle-is, idle-line, busy-bounds, busy-few, busy-room, busy-line}
 use Rattle.vcf.proofs.put.put_line.Goals as goal
-use Rattle.vcf.proofs.put.put_line.Goals.{After-behind-end, After-is_comment, After-position-place, Else-is_outside}
+use Rattle.vcf.proofs.put.put_line.Goals.{After-behind-end, After-is_comment, After-position-place, Else-is_outside, Start}
 
-plain : (q : After-position-place) → comment Sₚq.args.line.now ≡ false
+plain : (q : After-position-place) → comment q.args.line.now ≡ false
 plain q = sym q.is_comment.ensures ∙ q.if-is_comment.false
 
-stated : (q : After-position-place) → q.position-place.result ≡ position Sₚq.args.line.now
+stated : (q : After-position-place) → q.position-place.result ≡ position q.args.line.now
 stated q = q.position-place.ensures ∙ ap position_of q.field-stated.ensures
 
 -- the position after REF
@@ -26,13 +26,13 @@ ending b = b.behind-end.ensures ∙ rw (← meant-length b.field-reference.resul
 
 bounds :
     (c : Else-is_outside) →
-    (SₚQₚc.args.first ≤ Qₚc.position.result)
-    × (SₚQₚc.args.put.base ≤ Qₚc.position.result - SₚQₚc.args.first)
-    × (Qₚc.position.result - SₚQₚc.args.first ≤ length (meant SₚQₚc.args.window.now))
-    × (SₚQₚc.args.first ≤ Bₚc.behind.result)
-    × (0 < SₚQₚc.args.put.left)
+    (c.args.first ≤ c.position-place.result)
+    × (c.args.put.base ≤ c.position-place.result - c.args.first)
+    × (c.position-place.result - c.args.first ≤ length (meant c.args.window.now))
+    × (c.args.first ≤ c.behind-end.result)
+    × (0 < c.args.put.left)
 bounds c =
-    let s = S (goal.at.Else-is_outside c).After-position-place in
+    let s = (goal.at.Else-is_outside c).Start in
     busy-bounds _ _ s.args.put.base _ (plain (goal.at.Else-is_outside c).After-position-place) s.pre.0.put _ (stated (goal.at.Else-is_outside c).After-position-place) _ (ap meant c.field-reference.ensures) _
     (ending (goal.at.Else-is_outside c).After-behind-end)
     (sym c.if-is_outside.false ∙ c.is_outside.ensures) s.args.put.left s.pre.0.lies
@@ -40,10 +40,10 @@ bounds c =
 -- the bases before it
 before :
     (c : Else-is_outside) →
-    let s = SₚQₚc.args in
-    meant (take (Qₚc.position.result - s.first - s.put.base) (drop s.put.base s.window.now))
-    ≡ take (Qₚc.position.result - s.first - s.put.base) (drop s.put.base (meant s.window.now))
-before c = let s = SₚQₚc.args in part-meant s.window.now s.put.base (Qₚc.position.result - s.first - s.put.base)
+    let s = c.args in
+    meant (take (c.position-place.result - s.first - s.put.base) (drop s.put.base s.window.now))
+    ≡ take (c.position-place.result - s.first - s.put.base) (drop s.put.base (meant s.window.now))
+before c = let s = c.args in part-meant s.window.now s.put.base (c.position-place.result - s.first - s.put.base)
 
 pub returns-then-is_comment : goal.returns-then-is_comment
 returns-then-is_comment c = idle-line _ _ _ _ (idle-comment _ _ (S1 (goal.at.returns-then-is_comment c).After-is_comment).args.put.base _ (sym c.is_comment.ensures ∙ c.if-is_comment.true))
@@ -67,24 +67,24 @@ pub slice_bounds-put_gap-start : goal.slice_bounds-put_gap-start
 slice_bounds-put_gap-start c = let h = bounds (goal.at.slice_bounds-put_gap-start c).Else-is_outside in omega (arith, h)
 
 pub slice_bounds-put_gap-end : goal.slice_bounds-put_gap-end
-slice_bounds-put_gap-end c = let h = bounds (goal.at.slice_bounds-put_gap-end c).Else-is_outside in omega (arith, h, meant-length SₚQₚc.args.window.now)
+slice_bounds-put_gap-end c = let h = bounds (goal.at.slice_bounds-put_gap-end c).Else-is_outside in omega (arith, h, meant-length c.args.window.now)
 
 pub put_gap-next-requires : goal.put_gap-next-requires
 put_gap-next-requires c =
-    let s = S Qₚe in
+    let s = (goal.at.put_gap-next-requires c).Start in
     rw (before (goal.at.put_gap-next-requires c).Else-is_outside)
-    (busy-room _ _ s.args.put.base _ (plain Qₚe) s.pre.0.put _ (stated Qₚe) _ (ap meant c.field-reference.ensures) _
+    (busy-room _ _ s.args.put.base _ (plain (goal.at.put_gap-next-requires c).After-position-place) s.pre.0.put _ (stated (goal.at.put_gap-next-requires c).After-position-place) _ (ap meant c.field-reference.ensures) _
     (ending (goal.at.put_gap-next-requires c).After-behind-end)
     (sym c.if-is_outside.false ∙ c.is_outside.ensures) s.args.put.left s.pre.0.lies _ refl s.args.put.at _ s.pre.1).0
 
 pub put_record-last-requires : goal.put_record-last-requires
 put_record-last-requires c =
-    let s = S Qₚe in
-    let r = busy-room _ _ s.args.put.base _ (plain Qₚe) s.pre.0.put _ (stated Qₚe) _ (ap meant c.field-reference.ensures)
+    let s = (goal.at.put_record-last-requires c).Start in
+    let r = busy-room _ _ s.args.put.base _ (plain (goal.at.put_record-last-requires c).After-position-place) s.pre.0.put _ (stated (goal.at.put_record-last-requires c).After-position-place) _ (ap meant c.field-reference.ensures)
     _ (ending (goal.at.put_record-last-requires c).After-behind-end)
     (sym c.if-is_outside.false ∙ c.is_outside.ensures) s.args.put.left s.pre.0.lies _ (ap meant c.field-alt.ensures)
     s.args.put.at _ s.pre.1 in (
-      busy-few _ _ s.args.put.base _ (plain Qₚe) s.pre.0.put _ (stated Qₚe) _ (ap meant c.field-reference.ensures) _
+      busy-few _ _ s.args.put.base _ (plain (goal.at.put_record-last-requires c).After-position-place) s.pre.0.put _ (stated (goal.at.put_record-last-requires c).After-position-place) _ (ap meant c.field-reference.ensures) _
           (ending (goal.at.put_record-last-requires c).After-behind-end)
           (sym c.if-is_outside.false ∙ c.is_outside.ensures) s.args.put.left s.pre.0.lies _ (ap meant c.field-alt.ensures),
       omega (arith, r.1, rw (before (goal.at.put_record-last-requires c).Else-is_outside) at c.put_gap-next.ensures.0, c.put_gap-next.auto.1.0),
@@ -98,7 +98,7 @@ overflow_sub-result-2 c = let h = bounds (goal.at.overflow_sub-result-2 c).Else-
 
 pub returns : goal.returns
 returns c =
-    let s = S Qₚe in
+    let s = (goal.at.returns c).Start in
     let x = rw (before (goal.at.returns c).Else-is_outside) at c.put_gap-next.ensures in
     let y = c.put_record-last.ensures in
     busy-line _ _ s.args.put.base _ (plain (goal.at.returns c).After-position-place) s.pre.0.put _ (stated (goal.at.returns c).After-position-place) _ (ap meant c.field-reference.ensures) _

@@ -23,7 +23,7 @@ narrow : (c : After-slice_known-1) → length c.args.out.now < 18446744073709551
 narrow c = omega arith
 
 -- the place after REF
-next : (v : After-after_variant-next) → v.after_variant-next.result ≡ after_variant (Sₚv.args.at + 1) (length Sₚv.args.reference.now)
+next : (v : After-after_variant-next) → v.after_variant-next.result ≡ after_variant (v.args.at + 1) (length v.args.reference.now)
 next v = omega (arith, v.after_variant-next.ensures, size (goal.at.After-after_variant-next v).Start, v.requires.1, narrow (goal.at.After-after_variant-next v).After-slice_known-1)
 
 some : (c : Else-is_none) → none (S (goal.at.Else-is_none c).After-after_variant-next).args.alt.now ≡ false

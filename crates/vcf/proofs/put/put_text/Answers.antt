@@ -16,7 +16,7 @@ use Rattle.vcf.proofs.put.put_text.Goals as goal
 use Rattle.vcf.proofs.put.put_text.Goals.{At-loop-put}
 
 abbrev W : At-loop-put → List ℕ
-W l = Sₚl.args.window.now
+W l = l.args.window.now
 
 -- its bases after the last record
 within : (l : At-loop-put) → l.loop-put.put.base ≤ length (W l)
@@ -40,7 +40,7 @@ put_line-put-requires c =
 
 pub loop-put-smaller : goal.loop-put-smaller
 loop-put-smaller c =
-    let h : (c.loop-put.at < c.next_line-at.result) × (c.next_line-at.result ≤ length Sₚl.args.file.now) =
+    let h : (c.loop-put.at < c.next_line-at.result) × (c.next_line-at.result ≤ length c.args.file.now) =
     rw c.next_line-at.ensures (next-behind _ _ _ (putting-line c.loop-put.invariant c.loop-put-test.true) c.far_end-end.ensures) in
     omega (arith, h)
 

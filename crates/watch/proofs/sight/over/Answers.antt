@@ -9,14 +9,14 @@ use Rattle.layout.proofs.Walking.{walk_none, sound-enter, sound-head, sound-past
 use Rattle.search.proofs.Words.{Sweeping, swept-by, sweeping-none, sweeping-more}
 use Rattle.watch.proofs.Sights.{sweep-all}
 use Rattle.watch.proofs.sight.over.Goals as goal
-use Rattle.watch.proofs.sight.over.Goals.{After-enter, In-At-head-2}
+use Rattle.watch.proofs.sight.over.Goals.{After-enter, In-At-head}
 
 -- the stretch is no longer than a number can say
 narrow : (c : After-enter) → length c.args.stretch.now < 2 ^ 64
 narrow c = omega arith
 
 -- where the letters stand
-here : (c : In-At-head-2)
+here : (c : In-At-head)
     → Whole c.args.stretch.now c.loop-cursor.cursor.at c.in-At-head.start
     c.in-At-head.next
 here c = head-is _ _ _ _ (sym c.head.ensures ∙ ap told_part c.in-At-head.is)
@@ -38,13 +38,13 @@ returns-in_default-head c =
     c.head.ensures c.in_default-head.is)
 
 pub slice_bounds-letters-count : goal.slice_bounds-letters-count
-slice_bounds-letters-count c = let w = here (goal.at.slice_bounds-letters-count c).In-At-head-2 in omega (arith, w.starts, w.ends)
+slice_bounds-letters-count c = let w = here (goal.at.slice_bounds-letters-count c).In-At-head in omega (arith, w.starts, w.ends)
 
 pub slice_bounds-letters-start : goal.slice_bounds-letters-start
-slice_bounds-letters-start c = let w = here (goal.at.slice_bounds-letters-start c).In-At-head-2 in omega (arith, w.starts, w.ends)
+slice_bounds-letters-start c = let w = here (goal.at.slice_bounds-letters-start c).In-At-head in omega (arith, w.starts, w.ends)
 
 pub slice_bounds-letters-end : goal.slice_bounds-letters-end
-slice_bounds-letters-end c = let w = here (goal.at.slice_bounds-letters-end c).In-At-head-2 in omega (arith, w.ends, w.inside)
+slice_bounds-letters-end c = let w = here (goal.at.slice_bounds-letters-end c).In-At-head in omega (arith, w.ends, w.inside)
 
 pub loop-cursor-smaller : goal.loop-cursor-smaller
 loop-cursor-smaller c =
@@ -53,9 +53,9 @@ loop-cursor-smaller c =
 pub loop-cursor-preserved : goal.loop-cursor-preserved
 loop-cursor-preserved c =
     let p = c.requires in
-    let on = sound-past c.loop-cursor.invariant.walk c.loop-cursor-test.true p.1.is (here (goal.at.loop-cursor-preserved c).In-At-head-2) (narrow (goal.at.loop-cursor-preserved c).After-enter) refl
+    let on = sound-past c.loop-cursor.invariant.walk c.loop-cursor-test.true p.1.is (here (goal.at.loop-cursor-preserved c).In-At-head) (narrow (goal.at.loop-cursor-preserved c).After-enter) refl
     c.past-cursor.ensures in
-    sweeping-more c.loop-cursor.invariant on (swept-by _ _ (here (goal.at.loop-cursor-preserved c).In-At-head-2) (c.scan-scanned.ensures _ p.0))
+    sweeping-more c.loop-cursor.invariant on (swept-by _ _ (here (goal.at.loop-cursor-preserved c).In-At-head) (c.scan-scanned.ensures _ p.0))
 
 pub overflow_sub-high : goal.overflow_sub-high
 overflow_sub-high c = let p = c.requires.0 in omega (arith, p.tables.some)

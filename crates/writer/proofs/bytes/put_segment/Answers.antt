@@ -19,8 +19,8 @@ use Rattle.writer.proofs.bytes.put_segment.Goals.{After-slice_known-1, After-sta
 narrow : (c : After-slice_known-1) → length c.args.out.now < 18446744073709551616
 narrow c = omega arith
 
-same : (c : At-loop-k) → length c.loop-k.out ≡ length entryₚc.args.out.now
-same c = emitted-length c.loop-k.invariant.emitted ∙ countedₚc.put-variants.auto.1.0
+same : (c : At-loop-k) → length c.loop-k.out ≡ length c.args.out.now
+same c = emitted-length c.loop-k.invariant.emitted ∙ c.put_variants.auto.1.0
 
 -- the next variant: its number is that of a length, its letters are there, and its bytes fit
 number :

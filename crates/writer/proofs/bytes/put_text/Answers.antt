@@ -13,7 +13,7 @@ use Rattle.writer.proofs.TextBytes.{SegmentsPut, segments-none, segments-room, s
 use Rattle.writer.proofs.bytes.put_text.Goals as goal
 use Rattle.writer.proofs.bytes.put_text.Goals.{After-slice_known-1, After-text_bytes-at, At-loop-segment}
 
-same : (c : At-loop-segment) → length c.loop-segment.out ≡ length entryₚc.args.out.now
+same : (c : At-loop-segment) → length c.loop-segment.out ≡ length c.args.out.now
 same c = emitted-length c.loop-segment.invariant.emitted ∙ c.put_segments.auto.1.0
 
 narrow : (c : After-slice_known-1) → length c.args.out.now < 18446744073709551616

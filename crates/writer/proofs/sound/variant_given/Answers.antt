@@ -12,8 +12,8 @@ use Rattle.writer.proofs.GivenSegment.{given-wrong, given-again, given-sound}
 use Rattle.writer.proofs.sound.variant_given.Goals as goal
 use Rattle.writer.proofs.sound.variant_given.Goals.{After-stated}
 
-inside : (c : After-stated) → entryₚc.args.at + c.stated.result ≤ length entryₚc.args.letters.now
-inside c = rw meant-length at (next-in entryₚc.requires c.stated.ensures)
+inside : (c : After-stated) → c.args.at + c.stated.result ≤ length c.args.letters.now
+inside c = rw meant-length at (next-in c.requires c.stated.ensures)
 
 pub overflow_add-end : goal.overflow_add-end
 overflow_add-end c = omega (arith, inside (goal.at.overflow_add-end c).After-stated)
@@ -26,7 +26,7 @@ overflow_add-place c = omega (arith, inside (goal.at.overflow_add-place c).After
 
 pub returns-then-wrong-end : goal.returns-then-wrong-end
 returns-then-wrong-end c =
-    let a = entryₚd.args in
+    let a = c.args in
     let w = first_part a.letters.now a.at (a.at + c.stated.result - a.at) c.first_wrong-wrong.ensures in
     sym (given-wrong _ _ _ _ _ c.stated.ensures w (rw meant-length (inside (goal.at.returns-then-wrong-end c).After-stated)) c.if-wrong-end.true)
 
@@ -35,7 +35,7 @@ repeated-requires c = before-in (entry (goal.at.repeated-requires c).After-state
 
 pub returns-then-repeated : goal.returns-then-repeated
 returns-then-repeated c =
-    let a = entryₚd.args in
+    let a = c.args in
     let n = a.at + c.stated.result - a.at in
     let w = first_part a.letters.now a.at n c.first_wrong-wrong.ensures in
     let again = sym (among-part a.letters.now a.at n _) ∙ sym c.repeated.ensures ∙ c.if-repeated.true in
@@ -43,7 +43,7 @@ returns-then-repeated c =
 
 pub returns : goal.returns
 returns c =
-    let a = entryₚd.args in
+    let a = c.args in
     let n = a.at + c.stated.result - a.at in
     let w = first_part a.letters.now a.at n c.first_wrong-wrong.ensures in
     let once = sym (among-part a.letters.now a.at n _) ∙ sym c.repeated.ensures ∙ c.if-repeated.false in

@@ -16,7 +16,7 @@ use Rattle.writer.proofs.Writings.{room-refused, refused-leaves, accepted-leaves
 use Rattle.writer.proofs.writing.put_stretch.Goals as goal
 use Rattle.writer.proofs.writing.put_stretch.Goals.{Else-needed-gt-GREATEST_STRETCH, Else-not-lengths_sum, Start}
 
-matching : (c : Else-not-lengths_sum) → Matching (meant entryₚc.args.letters.now) entryₚc.args.lengths.now entryₚc.args.counts.now
+matching : (c : Else-not-lengths_sum) → Matching (meant c.args.letters.now) c.args.lengths.now c.args.counts.now
 matching c =
     let a = c.args in
     matching-meant
@@ -34,11 +34,11 @@ same-need c = needed-meant _ _ _
 size :
     (c : Else-needed-gt-GREATEST_STRETCH) →
     c.text_bytes-needed.result
-    ≡ needed (meant enteredₚc.args.letters.now) enteredₚc.args.lengths.now enteredₚc.args.counts.now
+    ≡ needed (meant c.args.letters.now) c.args.lengths.now c.args.counts.now
 unfolding needed
-size c = let same = same-need enteredₚc in omega (arith, c.text_bytes-needed.ensures, c.if-needed-gt-GREATEST_STRETCH.false)
+size c = let same = same-need (goal.at.Else-needed-gt-GREATEST_STRETCH c).Start in omega (arith, c.text_bytes-needed.ensures, c.if-needed-gt-GREATEST_STRETCH.false)
 
-fitting : (c : Else-needed-gt-GREATEST_STRETCH) → Fitting (meant enteredₚc.args.letters.now) enteredₚc.args.lengths.now enteredₚc.args.counts.now
+fitting : (c : Else-needed-gt-GREATEST_STRETCH) → Fitting (meant c.args.letters.now) c.args.lengths.now c.args.counts.now
 fitting c = record { matching = matching (goal.at.Else-needed-gt-GREATEST_STRETCH c).Else-not-lengths_sum; small = rw (← size c) c.if-needed-gt-GREATEST_STRETCH.false }
 
 pub returns-then-not-counts_sum : goal.returns-then-not-counts_sum

@@ -8,14 +8,14 @@ use Rattle.layout.proofs.Heads.{Whole, head-is}
 use Rattle.layout.proofs.Walking.{walk_none, sound-enter, sound-head, sound-past, walk-less}
 use Rattle.card.proofs.RowSegments.{Bearing, bearing-none, bearing-more, bearing-end}
 use Rattle.card.proofs.rows.segment.segment_rows.Goals as goal
-use Rattle.card.proofs.rows.segment.segment_rows.Goals.{After-enter, In-At-head-2}
+use Rattle.card.proofs.rows.segment.segment_rows.Goals.{After-enter, In-At-head}
 
 -- the stretch is no longer than a number can say
 narrow : (c : After-enter) → length c.args.stretch.now < 2 ^ 64
 narrow c = omega arith
 
 -- where the letters stand
-here : (c : In-At-head-2)
+here : (c : In-At-head)
     → Whole
     c.args.stretch.now
     c.loop-cursor.cursor.at c.in-At-head.start
@@ -39,13 +39,13 @@ returns-in_default-head c =
     c.head.ensures c.in_default-head.is)
 
 pub slice_bounds-variant-count : goal.slice_bounds-variant-count
-slice_bounds-variant-count c = let w = here (goal.at.slice_bounds-variant-count c).In-At-head-2 in omega (arith, w.starts, w.ends)
+slice_bounds-variant-count c = let w = here (goal.at.slice_bounds-variant-count c).In-At-head in omega (arith, w.starts, w.ends)
 
 pub slice_bounds-variant-start : goal.slice_bounds-variant-start
-slice_bounds-variant-start c = let w = here (goal.at.slice_bounds-variant-start c).In-At-head-2 in omega (arith, w.starts, w.ends)
+slice_bounds-variant-start c = let w = here (goal.at.slice_bounds-variant-start c).In-At-head in omega (arith, w.starts, w.ends)
 
 pub slice_bounds-variant-end : goal.slice_bounds-variant-end
-slice_bounds-variant-end c = let w = here (goal.at.slice_bounds-variant-end c).In-At-head-2 in omega (arith, w.ends, w.inside)
+slice_bounds-variant-end c = let w = here (goal.at.slice_bounds-variant-end c).In-At-head in omega (arith, w.ends, w.inside)
 
 pub variant_rows-ended-requires : goal.variant_rows-ended-requires
 variant_rows-ended-requires c =
@@ -59,9 +59,9 @@ loop-cursor-smaller c =
 pub loop-cursor-preserved : goal.loop-cursor-preserved
 loop-cursor-preserved c =
     let p = c.requires in
-    let on = sound-past c.loop-cursor.invariant.walk c.loop-cursor-test.true p.3.is (here (goal.at.loop-cursor-preserved c).In-At-head-2) (narrow (goal.at.loop-cursor-preserved c).After-enter) refl
+    let on = sound-past c.loop-cursor.invariant.walk c.loop-cursor-test.true p.3.is (here (goal.at.loop-cursor-preserved c).In-At-head) (narrow (goal.at.loop-cursor-preserved c).After-enter) refl
     c.past-cursor.ensures in
-    bearing-more c.loop-cursor.invariant on (here (goal.at.loop-cursor-preserved c).In-At-head-2) c.variant_rows-ended.ensures
+    bearing-more c.loop-cursor.invariant on (here (goal.at.loop-cursor-preserved c).In-At-head) c.variant_rows-ended.ensures
 
 pub settle-alive-requires : goal.settle-alive-requires
 settle-alive-requires c =

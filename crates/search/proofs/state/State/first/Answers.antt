@@ -12,7 +12,7 @@ use Rattle.search.proofs.BitScans.{masks-short}
 use Rattle.search.proofs.ReadOns.{read_is, read_length, read-room, read-sound, read-state}
 use Rattle.search.proofs.Hits.{told-clear, told-ends, few-some, first-not, first-is, hit-closed, hit-walk}
 use Rattle.search.proofs.state.State.first.Goals as goal
-use Rattle.search.proofs.state.State.first.Goals.{After-open, In-At-2, In_default}
+use Rattle.search.proofs.state.State.first.Goals.{After-open, In-At, In_default}
 
 -- nothing is wrong before the stretch is read
 entry : (c : In_default)
@@ -20,10 +20,10 @@ entry : (c : In_default)
 entry c = entered _ _ _ (sym c.enter.ensures ∙ ap told_verdict c.in_default.is)
 
 -- the stretch was opened
-opening : (v : In-At-2)
+opening : (v : In-At)
     → Opening v.args.stretch.now
     v.in-At.walk
-opening v = open_is _ (goal.at.In-At-2 v).After-open.«open».ensures v.in-At.is
+opening v = open_is _ (goal.at.In-At v).After-open.«open».ensures v.in-At.is
 
 pub returns-in-Refused : goal.returns-in-Refused
 returns-in-Refused c =
@@ -54,7 +54,7 @@ run-requires c =
         },
         read-state _ _ _ c.read_on-bytes.ensures y.sound _ y.state,
       ),
-      (((opening (goal.at.run-requires c).In-At-2).begins, omega (arith, y.short)), λ kept. absurd (false≢true (sym kept))),
+      (((opening (goal.at.run-requires c).In-At).begins, omega (arith, y.short)), λ kept. absurd (false≢true (sym kept))),
     )
 
 pub returns-then-ends-eq0 : goal.returns-then-ends-eq0
@@ -62,7 +62,7 @@ returns-then-ends-eq0 c =
     let y = entry (goal.at.returns-then-ends-eq0 c).In_default in
     let read = read_is _ _ _ c.read_on-bytes.ensures y.sound in
     let told = told-clear _ _ _ _ c.in-Marked.is c.if-ends-eq0.true in
-    let all = (c.run.ensures.0 refl).0 ∙ sym (hit-walk _ _ _ (opening (goal.at.returns-then-ends-eq0 c).In-At-2) y.short) in
+    let all = (c.run.ensures.0 refl).0 ∙ sym (hit-walk _ _ _ (opening (goal.at.returns-then-ends-eq0 c).In-At) y.short) in
     sym (first-is _ _ _ _ _ read y _ (sym told ∙ all))
 
 pub overflow_sub-result : goal.overflow_sub-result
@@ -74,7 +74,7 @@ returns-in-Refused-run c =
     let y = entry (goal.at.returns-in-Refused-run c).In_default in
     let read = read_is _ _ _ c.read_on-bytes.ensures y.sound in
     let told = ap told_hit c.in-Refused-run.is in
-    let all = (c.run.ensures.0 refl).0 ∙ sym (hit-walk _ _ _ (opening (goal.at.returns-in-Refused-run c).In-At-2) y.short) in
+    let all = (c.run.ensures.0 refl).0 ∙ sym (hit-walk _ _ _ (opening (goal.at.returns-in-Refused-run c).In-At) y.short) in
     sym (first-is _ _ _ _ _ read y _ (sym told ∙ all))
 
 pub returns-else-ends-eq0 : goal.returns-else-ends-eq0
@@ -82,5 +82,5 @@ returns-else-ends-eq0 c =
     let y = entry (goal.at.returns-else-ends-eq0 c).In_default in
     let read = read_is _ _ _ c.read_on-bytes.ensures y.sound in
     let told = told-ends _ _ _ _ c.in-Marked.is c.if-ends-eq0.false in
-    let all = (c.run.ensures.0 refl).0 ∙ sym (hit-walk _ _ _ (opening (goal.at.returns-else-ends-eq0 c).In-At-2) y.short) in
+    let all = (c.run.ensures.0 refl).0 ∙ sym (hit-walk _ _ _ (opening (goal.at.returns-else-ends-eq0 c).In-At) y.short) in
     sym (first-is _ _ _ _ _ read y _ (sym told ∙ all))

@@ -11,14 +11,14 @@ use Rattle.layout.proofs.Walking.{walk-new, walk-unsuspected, walk-past, walk-le
 use Rattle.search.proofs.Passes.{segment-passed-not, segment-passed}
 use Rattle.search.proofs.Words.{Sweeping, swept, sweeping-none, sweeping-more, sweeping-taken}
 use Rattle.search.proofs.state.State.over.Goals as goal
-use Rattle.search.proofs.state.State.over.Goals.{After-enter, In-At-head-2}
+use Rattle.search.proofs.state.State.over.Goals.{After-enter, In-At-head}
 
 -- the stretch is no longer than a number can say
 narrow : (c : After-enter) → length c.args.stretch.now < 2 ^ 64
 narrow c = omega arith
 
 -- where the letters stand
-here : (c : In-At-head-2)
+here : (c : In-At-head)
     → Whole c.args.stretch.now c.loop-cursor.cursor.at c.in-At-head.start
     c.in-At-head.next
 here c = head-is _ _ _ _ (sym c.head.ensures ∙ ap told_part c.in-At-head.is)
@@ -38,22 +38,22 @@ returns-in-Refused-head c =
     c.in-Refused-head.is))
 
 pub slice_bounds-letters-count : goal.slice_bounds-letters-count
-slice_bounds-letters-count c = let w = here (goal.at.slice_bounds-letters-count c).In-At-head-2 in omega (arith, w.starts, w.ends)
+slice_bounds-letters-count c = let w = here (goal.at.slice_bounds-letters-count c).In-At-head in omega (arith, w.starts, w.ends)
 
 pub slice_bounds-letters-start : goal.slice_bounds-letters-start
-slice_bounds-letters-start c = let w = here (goal.at.slice_bounds-letters-start c).In-At-head-2 in omega (arith, w.starts, w.ends)
+slice_bounds-letters-start c = let w = here (goal.at.slice_bounds-letters-start c).In-At-head in omega (arith, w.starts, w.ends)
 
 pub slice_bounds-letters-end : goal.slice_bounds-letters-end
-slice_bounds-letters-end c = let w = here (goal.at.slice_bounds-letters-end c).In-At-head-2 in omega (arith, w.ends, w.inside)
+slice_bounds-letters-end c = let w = here (goal.at.slice_bounds-letters-end c).In-At-head in omega (arith, w.ends, w.inside)
 
 pub returns-then-scanned : goal.returns-then-scanned
 returns-then-scanned c =
-    sym (segment-passed-not _ _ _ _ _ _ (walk-misspelt c.loop-cursor.invariant.walk c.loop-cursor-test.true (here (goal.at.returns-then-scanned c).In-At-head-2)
+    sym (segment-passed-not _ _ _ _ _ _ (walk-misspelt c.loop-cursor.invariant.walk c.loop-cursor-test.true (here (goal.at.returns-then-scanned c).In-At-head)
     c.scan_by-scanned.ensures.0 c.if-scanned.true c.misspelt.ensures))
 
 pub returns-in-Refused-compared : goal.returns-in-Refused-compared
 returns-in-Refused-compared c =
-    sym (segment-passed-not _ _ _ _ _ _ (walk-again c.loop-cursor.invariant.walk c.loop-cursor-test.true (here (goal.at.returns-in-Refused-compared c).In-At-head-2)
+    sym (segment-passed-not _ _ _ _ _ _ (walk-again c.loop-cursor.invariant.walk c.loop-cursor-test.true (here (goal.at.returns-in-Refused-compared c).In-At-head)
     c.scan_by-scanned.ensures.0 c.if-scanned.false c.compared.ensures c.in-Refused-compared.is))
 
 pub loop-cursor-smaller : goal.loop-cursor-smaller
@@ -65,10 +65,10 @@ loop-cursor-preserved c =
     let w = c.loop-cursor.invariant.walk in
     let spelt = c.scan_by-scanned.ensures.0 in
     let fits = narrow (goal.at.loop-cursor-preserved c).After-enter in
-    let new = ⊎_elim (λ y. walk-new w c.loop-cursor-test.true (here (goal.at.loop-cursor-preserved c).In-At-head-2) spelt y.1.ensures y.3.given.1)
-    (λ y. walk-unsuspected w c.loop-cursor-test.true (here (goal.at.loop-cursor-preserved c).In-At-head-2) spelt (sym c.suspects.ensures ∙ y.left)) c.if-suspects.branch in
-    let on = walk-past w c.loop-cursor-test.true (here (goal.at.loop-cursor-preserved c).In-At-head-2) spelt fits c.if-scanned.false new refl c.past-cursor.ensures in
-    sweeping-more c.loop-cursor.invariant on (swept _ _ (here (goal.at.loop-cursor-preserved c).In-At-head-2) c.scan_by-scanned.ensures c.if-scanned.false)
+    let new = ⊎_elim (λ y. walk-new w c.loop-cursor-test.true (here (goal.at.loop-cursor-preserved c).In-At-head) spelt y.1.ensures y.3.given.1)
+    (λ y. walk-unsuspected w c.loop-cursor-test.true (here (goal.at.loop-cursor-preserved c).In-At-head) spelt (sym c.suspects.ensures ∙ y.left)) c.if-suspects.branch in
+    let on = walk-past w c.loop-cursor-test.true (here (goal.at.loop-cursor-preserved c).In-At-head) spelt fits c.if-scanned.false new refl c.past-cursor.ensures in
+    sweeping-more c.loop-cursor.invariant on (swept _ _ (here (goal.at.loop-cursor-preserved c).In-At-head) c.scan_by-scanned.ensures c.if-scanned.false)
 
 pub returns : goal.returns
 returns c =

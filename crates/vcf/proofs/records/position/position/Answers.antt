@@ -10,12 +10,12 @@ use Rattle.vcf.proofs.Digits.{Digits, digits-none, digits-range, digits-wrong, d
 use Rattle.vcf.proofs.records.position.position.Goals as goal
 use Rattle.vcf.proofs.records.position.position.Goals.{After-wide}
 
-right : (w : After-wide) → digit (get_or Inₚw.before.before.before.args.field.now Inₚw.before.loop.i 0)
+right : (w : After-wide) → digit (get_or w.args.field.now w.loop-i.i 0)
     ≡ true
 right w = sym w.is_digit.ensures ∙ not-false _ w.if-not-is_digit.false-raw
 
 range : (w : After-wide) → (48 ≤ w.wide.result) × (w.wide.result ≤ 57)
-range w = digits-range Inₚw.before.loop.invariant Inₚw.loop-test.true (right w) _ w.wide.ensures.0
+range w = digits-range w.loop-i.invariant w.loop-i-test.true (right w) _ w.wide.ensures.0
 
 pub loop-i-init : goal.loop-i-init
 loop-i-init c = digits-none _

@@ -15,10 +15,10 @@ use Rattle.vcf.proofs.survey.needed.repeated.Goals.{Else-alike}
 -- it is not REF
 other :
     (c : Else-alike) →
-    let a = start_ofₚc.args in
+    let a = c.args in
     among (meant a.allele.now) (meant a.reference.now ∷ take a.k (pieces 0x2C (meant a.alt.now)))
     ≡ among (meant a.allele.now) (take a.k (pieces 0x2C (meant a.alt.now)))
-other c = among-rest start_ofₚc.args.allele.now start_ofₚc.args.reference.now _ (sym c.alike.ensures ∙ c.if-alike.false)
+other c = among-rest c.args.allele.now c.args.reference.now _ (sym c.alike.ensures ∙ c.if-alike.false)
 
 pub returns-then-alike : goal.returns-then-alike
 returns-then-alike c = among_first c.args.allele.now c.args.reference.now _

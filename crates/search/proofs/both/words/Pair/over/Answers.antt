@@ -14,14 +14,14 @@ use Rattle.search.proofs.Pairs.{ready, sweeping-on}
 use Rattle.search.proofs.Passes.{segment-passed-not, segment-passed}
 use Rattle.search.proofs.Words.{Sweeping, swept-by, sweeping-none, sweeping-taken}
 use Rattle.search.proofs.both.words.Pair.over.Goals as goal
-use Rattle.search.proofs.both.words.Pair.over.Goals.{After-enter, In-At-head-2}
+use Rattle.search.proofs.both.words.Pair.over.Goals.{After-enter, In-At-head}
 
 -- the stretch is no longer than a number can say
 narrow : (c : After-enter) → length c.args.stretch.now < 2 ^ 64
 narrow c = omega arith
 
 -- where the letters stand
-here : (c : In-At-head-2)
+here : (c : In-At-head)
     → Whole c.args.stretch.now c.loop-cursor.cursor.at c.in-At-head.start
     c.in-At-head.next
 here c = head-is _ _ _ _ (sym c.head.ensures ∙ ap told_part c.in-At-head.is)
@@ -44,24 +44,24 @@ returns-in-Refused-head c =
     (sym (segment-passed-not _ _ _ _ _ _ none), sym (segment-passed-not _ _ _ _ _ _ none))
 
 pub slice_bounds-letters-count : goal.slice_bounds-letters-count
-slice_bounds-letters-count c = let w = here (goal.at.slice_bounds-letters-count c).In-At-head-2 in omega (arith, w.starts, w.ends)
+slice_bounds-letters-count c = let w = here (goal.at.slice_bounds-letters-count c).In-At-head in omega (arith, w.starts, w.ends)
 
 pub slice_bounds-letters-start : goal.slice_bounds-letters-start
-slice_bounds-letters-start c = let w = here (goal.at.slice_bounds-letters-start c).In-At-head-2 in omega (arith, w.starts, w.ends)
+slice_bounds-letters-start c = let w = here (goal.at.slice_bounds-letters-start c).In-At-head in omega (arith, w.starts, w.ends)
 
 pub slice_bounds-letters-end : goal.slice_bounds-letters-end
-slice_bounds-letters-end c = let w = here (goal.at.slice_bounds-letters-end c).In-At-head-2 in omega (arith, w.ends, w.inside)
+slice_bounds-letters-end c = let w = here (goal.at.slice_bounds-letters-end c).In-At-head in omega (arith, w.ends, w.inside)
 
 pub returns-then-scanned : goal.returns-then-scanned
 returns-then-scanned c =
     let spelt = (c.scan_both-scanned.ensures.0 _ (ready _ _ _ _ c.requires.0)).1 in
-    let none = walk-misspelt c.loop-cursor.invariant.0.walk c.loop-cursor-test.true (here (goal.at.returns-then-scanned c).In-At-head-2) spelt c.if-scanned.true c.misspelt.ensures in
+    let none = walk-misspelt c.loop-cursor.invariant.0.walk c.loop-cursor-test.true (here (goal.at.returns-then-scanned c).In-At-head) spelt c.if-scanned.true c.misspelt.ensures in
     (sym (segment-passed-not _ _ _ _ _ _ none), sym (segment-passed-not _ _ _ _ _ _ none))
 
 pub returns-in-Refused-compared : goal.returns-in-Refused-compared
 returns-in-Refused-compared c =
     let spelt = (c.scan_both-scanned.ensures.0 _ (ready _ _ _ _ c.requires.0)).1 in
-    let none = walk-again c.loop-cursor.invariant.0.walk c.loop-cursor-test.true (here (goal.at.returns-in-Refused-compared c).In-At-head-2) spelt c.if-scanned.false c.compared.ensures
+    let none = walk-again c.loop-cursor.invariant.0.walk c.loop-cursor-test.true (here (goal.at.returns-in-Refused-compared c).In-At-head) spelt c.if-scanned.false c.compared.ensures
     c.in-Refused-compared.is in
     (sym (segment-passed-not _ _ _ _ _ _ none), sym (segment-passed-not _ _ _ _ _ _ none))
 
@@ -75,13 +75,13 @@ loop-cursor-preserved c =
     let x = c.scan_both-scanned.ensures.0 _ (ready _ _ _ _ c.requires.0) in
     let y = c.scan_both-scanned.ensures.1 _ (ready _ _ _ _ c.requires.1) in
     let fits = narrow (goal.at.loop-cursor-preserved c).After-enter in
-    let new = ⊎_elim (λ n. walk-new q.0.walk c.loop-cursor-test.true (here (goal.at.loop-cursor-preserved c).In-At-head-2) x.1 n.1.ensures n.3.given.1)
-    (λ n. walk-unsuspected q.0.walk c.loop-cursor-test.true (here (goal.at.loop-cursor-preserved c).In-At-head-2) x.1 (sym c.suspects.ensures ∙ n.left)) c.if-suspects.branch in
+    let new = ⊎_elim (λ n. walk-new q.0.walk c.loop-cursor-test.true (here (goal.at.loop-cursor-preserved c).In-At-head) x.1 n.1.ensures n.3.given.1)
+    (λ n. walk-unsuspected q.0.walk c.loop-cursor-test.true (here (goal.at.loop-cursor-preserved c).In-At-head) x.1 (sym c.suspects.ensures ∙ n.left)) c.if-suspects.branch in
     let and = c.and-words.ensures in (
-      sweeping-on q.0 (walk-past q.0.walk c.loop-cursor-test.true (here (goal.at.loop-cursor-preserved c).In-At-head-2) x.1 fits c.if-scanned.false new refl c.past-cursor.ensures)
-          (swept-by _ _ (here (goal.at.loop-cursor-preserved c).In-At-head-2) x.0) and.0,
-      sweeping-on q.1 (walk-past q.1.walk c.loop-cursor-test.true (here (goal.at.loop-cursor-preserved c).In-At-head-2) y.1 fits c.if-scanned.false new refl c.past-cursor.ensures)
-          (swept-by _ _ (here (goal.at.loop-cursor-preserved c).In-At-head-2) y.0) and.1,
+      sweeping-on q.0 (walk-past q.0.walk c.loop-cursor-test.true (here (goal.at.loop-cursor-preserved c).In-At-head) x.1 fits c.if-scanned.false new refl c.past-cursor.ensures)
+          (swept-by _ _ (here (goal.at.loop-cursor-preserved c).In-At-head) x.0) and.0,
+      sweeping-on q.1 (walk-past q.1.walk c.loop-cursor-test.true (here (goal.at.loop-cursor-preserved c).In-At-head) y.1 fits c.if-scanned.false new refl c.past-cursor.ensures)
+          (swept-by _ _ (here (goal.at.loop-cursor-preserved c).In-At-head) y.0) and.1,
     )
 
 pub returns : goal.returns

@@ -19,12 +19,12 @@ pub variant-first-requires : goal.variant-first-requires
 variant-first-requires c = begun (goal.at.variant-first-requires c).After-open-begun
 
 pub returns-then-is_none : goal.returns-then-is_none
-returns-then-is_none c = record-none Sₚv.args.self Sₚv.args.reference.now _ _ (whole (goal.at.returns-then-is_none c).After-variant-first)
+returns-then-is_none c = record-none c.args.self c.args.reference.now _ _ (whole (goal.at.returns-then-is_none c).After-variant-first)
     (sym c.is_none.ensures ∙ c.if-is_none.true)
 
 pub alternates-requires : goal.alternates-requires
 alternates-requires c =
-    rw c.variant-first.ensures (sane-tallied (goal.at.alternates-requires c).After-open-begun.«open».result (length Sₚv.args.reference.now) false (begun (goal.at.alternates-requires c).After-open-begun))
+    rw c.variant-first.ensures (sane-tallied (goal.at.alternates-requires c).After-open-begun.«open».result (length c.args.reference.now) false (begun (goal.at.alternates-requires c).After-open-begun))
 
 pub returns : goal.returns
 returns c = let v =

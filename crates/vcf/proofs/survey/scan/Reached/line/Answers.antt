@@ -25,13 +25,13 @@ ending b = b.behind-end.ensures ∙ rw (← meant-length b.field-reference.resul
 
 bounds :
     (k : Else-not-agrees) →
-    (SₚBₚk.args.first ≤ Rₚk.sound.result)
-    × (SₚBₚk.args.self.base ≤ Rₚk.sound.result - SₚBₚk.args.first)
-    × (SₚBₚk.args.first ≤ Bₚk.behind.result)
+    (k.args.first ≤ k.sound-position.result)
+    × (k.args.self.base ≤ k.sound-position.result - k.args.first)
+    × (k.args.first ≤ k.behind-end.result)
 bounds k =
-    step-bounds _ _ _ Sₚb.args.self _ (plain (goal.at.Else-not-agrees k).Else-is_comment) _ k.sound-position.ensures k.if-position-eq0.false k.if-position-from.false _
-    (ap meant k.field-reference.ensures) Sₚb.requires.put _ (ending (goal.at.Else-not-agrees k).After-behind-end)
-    (sym k.if-is_outside.false ∙ k.is_outside.ensures) (sym (not-false _ k.if-not-agrees.false-raw) ∙ k.agrees.ensures) Sₚb.requires.passed
+    step-bounds _ _ _ k.args.self _ (plain (goal.at.Else-not-agrees k).Else-is_comment) _ k.sound-position.ensures k.if-position-eq0.false k.if-position-from.false _
+    (ap meant k.field-reference.ensures) k.requires.put _ (ending (goal.at.Else-not-agrees k).After-behind-end)
+    (sym k.if-is_outside.false ∙ k.is_outside.ensures) (sym (not-false _ k.if-not-agrees.false-raw) ∙ k.agrees.ensures) k.requires.passed
 
 pub returns-then-is_comment : goal.returns-then-is_comment
 returns-then-is_comment c = step-comment _ _ _ _ _ (sym c.is_comment.ensures ∙ c.if-is_comment.true)
@@ -46,13 +46,13 @@ returns-then-position-from c =
 pub returns-then-is_outside : goal.returns-then-is_outside
 returns-then-is_outside c =
     step-over _ _ _ _ _ (plain (goal.at.returns-then-is_outside c).Else-is_comment) _ c.sound-position.ensures c.if-position-eq0.false c.if-position-from.false _ (ap meant c.field-reference.ensures)
-    Sₚb.requires.put _ (ending (goal.at.returns-then-is_outside c).After-behind-end)
+    c.requires.put _ (ending (goal.at.returns-then-is_outside c).After-behind-end)
     (sym c.if-is_outside.true ∙ c.is_outside.ensures)
 
 pub returns-then-not-agrees : goal.returns-then-not-agrees
 returns-then-not-agrees c =
     step-apart _ _ _ _ _ (plain (goal.at.returns-then-not-agrees c).Else-is_comment) _ c.sound-position.ensures c.if-position-eq0.false c.if-position-from.false _ (ap meant c.field-reference.ensures)
-    Sₚb.requires.put _ (ending (goal.at.returns-then-not-agrees c).After-behind-end)
+    c.requires.put _ (ending (goal.at.returns-then-not-agrees c).After-behind-end)
     (sym c.if-is_outside.false ∙ c.is_outside.ensures) (sym (not-true _ c.if-not-agrees.true-raw) ∙ c.agrees.ensures)
 
 pub overflow_sub-position : goal.overflow_sub-position
@@ -75,6 +75,6 @@ overflow_add-result c = let s = S (B (goal.at.overflow_add-result c).Else-not-ag
 pub returns : goal.returns
 returns c =
     step_in _ _ _ _ _ (plain (goal.at.returns c).Else-is_comment) _ c.sound-position.ensures c.if-position-eq0.false c.if-position-from.false _ (ap meant c.field-reference.ensures)
-    Sₚb.requires.put _ (ending (goal.at.returns c).After-behind-end)
+    c.requires.put _ (ending (goal.at.returns c).After-behind-end)
     (sym c.if-is_outside.false ∙ c.is_outside.ensures) (sym (not-false _ c.if-not-agrees.false-raw) ∙ c.agrees.ensures)
     _ (ap meant c.field-alt.ensures) _ _ c.gap-before.ensures (goal.at.returns c).After-record-next.«record».ensures
