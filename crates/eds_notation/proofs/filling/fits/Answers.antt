@@ -6,10 +6,10 @@ use native.Mathlib.Omega.{arith}
 use Rattle.layout.specs.Sizes.{text_bytes}
 use Rattle.eds_notation.proofs.Fillings.{fits_not, fits_last}
 use Rattle.eds_notation.proofs.filling.fits.Goals as goal
-use Rattle.eds_notation.proofs.filling.fits.Goals.{After-text_bytes, After-wide}
+use Rattle.eds_notation.proofs.filling.fits.Goals.{After-text_bytes}
 
 size : (c : After-text_bytes) →
-    let t = (S (E3 (goal.at.After-text_bytes c).After-wide)).args.tape in
+    let t = c.args.tape in
     c.text_bytes.result
     ≡ text_bytes (t.letters + c.wide.result) (t.lengths + 1 + c.wide-2.result) (t.counts + 1)
 size c =

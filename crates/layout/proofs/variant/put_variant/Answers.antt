@@ -29,19 +29,19 @@ overflow_add-start c = omega (arith, room (goal.at.overflow_add-start c).Else-no
 pub loop-i-init : goal.loop-i-init
 loop-i-init c =
     let v = c.args.variant.now in
-    copied_none _ _ (meant v) (rw (meant-length v) (omega (arith, room (goal.at.loop-i-init c).Else-not-has_room, c.put_word.auto.1.0)))
+    copied_none _ _ (meant v) (rw (meant-length v) (omega (arith, room (goal.at.loop-i-init c).Else-not-has_room, c.put_word.auto.out)))
 
 pub bounds-out-start : goal.bounds-out-start
 bounds-out-start c = copied-room c.loop-i.invariant (rw meant-length c.loop-i-test.true)
 
 pub loop-i-preserved : goal.loop-i-preserved
 loop-i-preserved c =
-    let v = (S (goal.at.loop-i-preserved c).Else-not-has_room).args.variant.now in
+    let v = c.args.variant.now in
     rw (c.raise.ensures, ← meant-at v c.loop-i.i)
     (copied_more c.loop-i.invariant (rw (meant-length v) c.loop-i-test.true))
 
 pub shape_of-out : goal.shape_of-out
-shape_of-out c = emitted-length c.loop-i.invariant.emitted ∙ c.put_word.auto.1.0
+shape_of-out c = emitted-length c.loop-i.invariant.emitted ∙ c.put_word.auto.out
 
 pub returns : goal.returns
 unfolding word_bytes

@@ -32,18 +32,18 @@ placing c = c.is_placed.ensures ∙ ap₂ placed c.field-reference.ensures (plac
 size : (f : After-field-reference) → length f.field-reference.result.now ≡ length (field (L f) 3)
 size f = ap length f.field-reference.ensures
 
-wrong : (c : After-first_wrong-wrong) → c.first_wrong-wrong.result ≡ first_not letter (field (L (F (goal.at.After-first_wrong-wrong c).After-is_placed)) 3)
-wrong c = c.first_wrong-wrong.ensures ∙ ap (first_not letter) (F (goal.at.After-first_wrong-wrong c).After-is_placed).field.ensures
+wrong : (c : After-first_wrong-wrong) → c.first_wrong-wrong.result ≡ first_not letter (field (L (goal.at.After-first_wrong-wrong c).After-field-reference) 3)
+wrong c = c.first_wrong-wrong.ensures ∙ ap (first_not letter) c.field-reference.ensures
 
 -- what the tests that were passed say
-put : (e : Else-not-is_placed) → placed (field (L (F (goal.at.Else-not-is_placed e).After-is_placed)) 3) (position (L (F (goal.at.Else-not-is_placed e).After-is_placed))) ≡ true
+put : (e : Else-not-is_placed) → placed (field (L (goal.at.Else-not-is_placed e).After-field-reference) 3) (position (L (goal.at.Else-not-is_placed e).After-field-reference)) ≡ true
 put e = sym (placing (goal.at.Else-not-is_placed e).After-is_placed) ∙ not-false _ e.if-not-is_placed.false-raw
 
 spelt : (s : After-sound) → length (field (L (goal.at.After-sound s).After-field-reference) 3) ≤ s.first_wrong-wrong.result
 spelt s = rw (size (goal.at.After-sound s).After-field-reference) at s.if-wrong-bases.false
 
-sound : (e : Else-sound-eq0) → is_record (N (FS (goal.at.Else-sound-eq0 e).After-sound)) (L (FS (goal.at.Else-sound-eq0 e).After-sound)) ≡ true
-sound e = sounds (is_record _ _) (position (L (FS (goal.at.Else-sound-eq0 e).After-sound))) e.sound.ensures e.if-sound-eq0.false
+sound : (e : Else-sound-eq0) → is_record (N (goal.at.Else-sound-eq0 e).After-field-reference) (L (goal.at.Else-sound-eq0 e).After-field-reference) ≡ true
+sound e = sounds (is_record _ _) (position (L (goal.at.Else-sound-eq0 e).After-field-reference)) e.sound.ensures e.if-sound-eq0.false
 
 needed :
     (r : After-record) →
@@ -62,7 +62,7 @@ returns-then-not-is_placed c = c.refused.ensures ∙ measure-place _ _ (sym (pla
 pub returns-then-wrong-bases : goal.returns-then-wrong-bases
 returns-then-wrong-bases c =
     c.refused-then-wrong-bases.ensures
-    ∙ measure-letter _ _ (put (goal.at.returns-then-wrong-bases c).Else-not-is_placed) (wrong (goal.at.returns-then-wrong-bases c).After-first_wrong-wrong) (rw (size (F (goal.at.returns-then-wrong-bases c).After-is_placed)) at c.if-wrong-bases.true)
+    ∙ measure-letter _ _ (put (goal.at.returns-then-wrong-bases c).Else-not-is_placed) (wrong (goal.at.returns-then-wrong-bases c).After-first_wrong-wrong) (rw (size (goal.at.returns-then-wrong-bases c).After-field-reference) at c.if-wrong-bases.true)
 
 pub returns-then-sound-eq0 : goal.returns-then-sound-eq0
 returns-then-sound-eq0 c =

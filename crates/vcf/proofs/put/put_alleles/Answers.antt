@@ -32,7 +32,7 @@ loop-at-init c = alleles-none _ _ _ c.requires
 
 pub shape_of-out-then-end-alt : goal.shape_of-out-then-end-alt
 shape_of-out-then-end-alt c =
-    c.put_variant.auto.1.0 ∙ alleles-kept c.loop-at.inv c.end_of-end.ensures
+    c.put_variant.auto.out ∙ alleles-kept c.loop-at.inv c.end_of-end.ensures
 
 pub returns-then-end-alt : goal.returns-then-end-alt
 returns-then-end-alt c =

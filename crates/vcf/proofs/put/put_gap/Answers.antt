@@ -33,7 +33,7 @@ pub overflow_add-result : goal.overflow_add-result
 overflow_add-result c = let e = (goal.at.overflow_add-result c).Else-n-eq0 in omega (arith, exact (goal.at.overflow_add-result c).After-segment_bytes, size e, narrow e, (S e).pre)
 
 pub shape_of-out : goal.shape_of-out
-shape_of-out c = c.put_variant.auto.1.0 ∙ c.put_variants.auto.1.0
+shape_of-out c = c.put_variant.auto.out ∙ c.put_variants.auto.out
 
 pub returns : goal.returns
 returns c = (

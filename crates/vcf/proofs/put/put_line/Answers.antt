@@ -11,7 +11,7 @@ use mathlib.Core.Bool.{true, false}
 use Rattle.vcf.specs.Records.{beyond, comment, position, position_of}
 use Rattle.vcf.proofs.Lines.{idle-comment, idle-is, idle-line, busy-bounds, busy-few, busy-room, busy-line}
 use Rattle.vcf.proofs.put.put_line.Goals as goal
-use Rattle.vcf.proofs.put.put_line.Goals.{After-behind-end, After-is_comment, After-position-place, Else-is_outside, Start}
+use Rattle.vcf.proofs.put.put_line.Goals.{After-behind-end, After-position-place, Else-is_outside, Start}
 
 plain : (q : After-position-place) → comment q.args.line.now ≡ false
 plain q = sym q.is_comment.ensures ∙ q.if-is_comment.false
@@ -46,7 +46,7 @@ before :
 before c = let s = c.args in part-meant s.window.now s.put.base (c.position-place.result - s.first - s.put.base)
 
 pub returns-then-is_comment : goal.returns-then-is_comment
-returns-then-is_comment c = idle-line _ _ _ _ (idle-comment _ _ (S1 (goal.at.returns-then-is_comment c).After-is_comment).args.put.base _ (sym c.is_comment.ensures ∙ c.if-is_comment.true))
+returns-then-is_comment c = idle-line _ _ _ _ (idle-comment _ _ c.args.put.base _ (sym c.is_comment.ensures ∙ c.if-is_comment.true))
     _ _ _
 
 pub returns-then-is_outside : goal.returns-then-is_outside
@@ -87,7 +87,7 @@ put_record-last-requires c =
       busy-few _ _ s.args.put.base _ (plain (goal.at.put_record-last-requires c).After-position-place) s.pre.0.put _ (stated (goal.at.put_record-last-requires c).After-position-place) _ (ap meant c.field-reference.ensures) _
           (ending (goal.at.put_record-last-requires c).After-behind-end)
           (sym c.if-is_outside.false ∙ c.is_outside.ensures) s.args.put.left s.pre.0.lies _ (ap meant c.field-alt.ensures),
-      omega (arith, r.1, rw (before (goal.at.put_record-last-requires c).Else-is_outside) at c.put_gap-next.ensures.0, c.put_gap-next.auto.1.0),
+      omega (arith, r.1, rw (before (goal.at.put_record-last-requires c).Else-is_outside) at c.put_gap-next.ensures.0, c.put_gap-next.auto.out),
     )
 
 pub overflow_sub-result : goal.overflow_sub-result

@@ -26,7 +26,7 @@ narrow c = omega arith
 next : (v : After-after_variant-next) → v.after_variant-next.result ≡ after_variant (v.args.at + 1) (length v.args.reference.now)
 next v = omega (arith, v.after_variant-next.ensures, size (goal.at.After-after_variant-next v).Start, v.requires.1, narrow (goal.at.After-after_variant-next v).After-slice_known-1)
 
-some : (c : Else-is_none) → none (S (goal.at.Else-is_none c).After-after_variant-next).args.alt.now ≡ false
+some : (c : Else-is_none) → none c.args.alt.now ≡ false
 some c = sym c.is_none.ensures ∙ c.if-is_none.false
 
 -- at most 255 variants
@@ -39,7 +39,7 @@ overflow_add-start c = omega (arith, size (goal.at.overflow_add-start c).Start, 
 
 pub shape_of-out-then-is_none : goal.shape_of-out-then-is_none
 shape_of-out-then-is_none c =
-    c.put_variant.auto.1.0 ∙ c.put_variants.auto.1.0
+    c.put_variant.auto.out ∙ c.put_variants.auto.out
 
 pub returns-then-is_none : goal.returns-then-is_none
 returns-then-is_none c =
@@ -59,11 +59,11 @@ overflow_add-alleles c = omega (arith, few (goal.at.overflow_add-alleles c).Afte
 pub put_alleles-requires : goal.put_alleles-requires
 put_alleles-requires c =
     let z = ap length (alleles-bytes c.args.alt.now (some (goal.at.put_alleles-requires c).Else-is_none)) in
-    omega (arith, size (goal.at.put_alleles-requires c).Start, c.requires.1, z, next (goal.at.put_alleles-requires c).After-after_variant-next, c.put_variant-2.auto.1.0, c.put_variants-2.auto.1.0)
+    omega (arith, size (goal.at.put_alleles-requires c).Start, c.requires.1, z, next (goal.at.put_alleles-requires c).After-after_variant-next, c.put_variant-2.auto.out, c.put_variants-2.auto.out)
 
 pub shape_of-out : goal.shape_of-out
 shape_of-out c =
-    c.put_alleles.auto.1.0 ∙ c.put_variant-2.auto.1.0 ∙ c.put_variants-2.auto.1.0
+    c.put_alleles.auto.out ∙ c.put_variant-2.auto.out ∙ c.put_variants-2.auto.out
 
 pub returns : goal.returns
 returns c =

@@ -31,7 +31,7 @@ behind l =
     part-meant (W l) base (length (W l) - base) ∙ rw (meant-length (W l))
 
 pub loop-put-init : goal.loop-put-init
-loop-put-init c = putting-none c.requires _ c.put_segments.auto.1.0
+loop-put-init c = putting-none c.requires _ c.put_segments.auto.out
 
 pub put_line-put-requires : goal.put_line-put-requires
 put_line-put-requires c =
@@ -62,7 +62,7 @@ put_gap-requires c =
 
 pub shape_of-out : goal.shape_of-out
 shape_of-out c =
-    c.put_gap.auto.1.0 ∙ putting-kept c.loop-put.invariant ∙ c.put_segments.auto.1.0
+    c.put_gap.auto.out ∙ putting-kept c.loop-put.invariant ∙ c.put_segments.auto.out
 
 pub returns : goal.returns
 unfolding word_bytes

@@ -20,23 +20,23 @@ narrow : (c : After-slice_known-1) → length c.args.out.now < 18446744073709551
 narrow c = omega arith
 
 same : (c : At-loop-k) → length c.loop-k.out ≡ length c.args.out.now
-same c = emitted-length c.loop-k.invariant.emitted ∙ c.put_variants.auto.1.0
+same c = emitted-length c.loop-k.invariant.emitted ∙ c.put_variants.auto.out
 
 -- the next variant: its number is that of a length, its letters are there, and its bytes fit
 number :
     (c : In-loop-k) →
-    (entry (goal.at.In-loop-k c).At-loop-k).args.first + c.loop-k.k < length (entry (goal.at.In-loop-k c).At-loop-k).args.lengths.now
+    c.args.first + c.loop-k.k < length c.args.lengths.now
 number c = passing-number c.loop-k.invariant.passing c.loop-k-test.true
 
 inside :
     (c : After-stated-size) →
-    c.loop-k.start + c.stated-size.result ≤ length (entry (goal.at.After-stated-size c).At-loop-k).args.letters.now
+    c.loop-k.start + c.stated-size.result ≤ length c.args.letters.now
 inside c =
     rw meant-length at (passing-inside c.loop-k.invariant.passing c.loop-k-test.true c.stated-size.ensures)
 
 room :
     (c : After-stated-size) →
-    after_variant c.loop-k.next c.stated-size.result ≤ length (entry (goal.at.After-stated-size c).At-loop-k).args.out.now
+    after_variant c.loop-k.next c.stated-size.result ≤ length c.args.out.now
 room c =
     let h = variants-room c.loop-k.invariant c.loop-k-test.true c.stated-size.ensures in
     rw (same (goal.at.After-stated-size c).At-loop-k) at h
@@ -47,7 +47,7 @@ overflow_add-next c =
 
 pub loop-k-init : goal.loop-k-init
 loop-k-init c =
-    segment-none _ c.args.out.now c.args.at c.requires.0 c.requires.1 c.wide-variants.ensures.0 c.put_variants.auto.1.0
+    segment-none _ c.args.out.now c.args.at c.requires.0 c.requires.1 c.wide-variants.ensures.0 c.put_variants.auto.out
 
 pub overflow_add-first : goal.overflow_add-first
 overflow_add-first c = omega (arith, number (goal.at.overflow_add-first c).In-loop-k)
@@ -66,12 +66,12 @@ slice_bounds-put_variant-end c = omega (arith, inside (goal.at.slice_bounds-put_
 
 pub loop-k-preserved : goal.loop-k-preserved
 loop-k-preserved c =
-    let letters = (entry (goal.at.loop-k-preserved c).At-loop-k).args.letters.now in
+    let letters = c.args.letters.now in
     let start = c.loop-k.start in
     let next = c.loop-k.next in
     let out = c.loop-k.out in
     let place : c.after_variant-next.result ≡ after_variant next c.stated-size.result =
-    omega (arith, c.after_variant-next.ensures, room (goal.at.loop-k-preserved c).After-stated-size, narrow (counted (goal.at.loop-k-preserved c).At-loop-k).before.before.before) in
+    omega (arith, c.after_variant-next.ensures, room (goal.at.loop-k-preserved c).After-stated-size, narrow (goal.at.loop-k-preserved c).After-slice_known-1) in
     variants-more c.loop-k.invariant c.loop-k-test.true c.stated-size.ensures place
     (c.put_variant.ensures ∙ ap (λ (v : Variant). put out next (encode_variant v))
     (part-meant letters start (start + c.stated-size.result - start)))

@@ -14,7 +14,7 @@ use Rattle.writer.proofs.bytes.put_text.Goals as goal
 use Rattle.writer.proofs.bytes.put_text.Goals.{After-slice_known-1, After-text_bytes-at, At-loop-segment}
 
 same : (c : At-loop-segment) → length c.loop-segment.out ≡ length c.args.out.now
-same c = emitted-length c.loop-segment.invariant.emitted ∙ c.put_segments.auto.1.0
+same c = emitted-length c.loop-segment.invariant.emitted ∙ c.put_segments.auto.out
 
 narrow : (c : After-slice_known-1) → length c.args.out.now < 18446744073709551616
 narrow c = omega arith
@@ -30,7 +30,7 @@ place c =
 
 pub loop-segment-init : goal.loop-segment-init
 loop-segment-init c =
-    segments-none _ c.requires.0 (rw c.put_segments.auto.1.0 c.requires.1)
+    segments-none _ c.requires.0 (rw c.put_segments.auto.out c.requires.1)
 
 pub put_segment-letter-requires : goal.put_segment-letter-requires
 put_segment-letter-requires c =
@@ -52,6 +52,6 @@ shape_of-out c = same (goal.at.shape_of-out c).At-loop-segment
 pub returns : goal.returns
 unfolding needed word_bytes
 returns c =
-    let room : first_segment ≤ length (entry (goal.at.returns c).At-loop-segment).args.out.now = omega (arith, (entry (goal.at.returns c).At-loop-segment).pre.1) in
+    let room : first_segment ≤ length c.args.out.now = omega (arith, c.requires.1) in
     text-over _ _ _ _ room (c.put_segments.ensures ∙ put-over _ 0 _ room)
     (segments-end c.loop-segment.invariant c.loop-segment-test.false)

@@ -9,16 +9,16 @@ use Rattle.layout.proofs.Raised.{alike-part}
 use Rattle.writer.proofs.Cuts.{passing-number, passing-inside}
 use Rattle.writer.proofs.RepeatsInWrite.{Compared, compared-none, compared_same, compared-more, compared-end}
 use Rattle.writer.proofs.sound.repeated.Goals as goal
-use Rattle.writer.proofs.sound.repeated.Goals.{After-stated, At-loop-i, In-loop-i}
+use Rattle.writer.proofs.sound.repeated.Goals.{After-stated, In-loop-i}
 
 number :
     (c : In-loop-i) →
-    (entry (goal.at.In-loop-i c).At-loop-i).args.first + c.loop-i.i < length (entry (goal.at.In-loop-i c).At-loop-i).args.lengths.now
+    c.args.first + c.loop-i.i < length c.args.lengths.now
 number c = passing-number c.loop-i.invariant.passing c.loop-i-test.true
 
 inside :
     (c : After-stated) →
-    c.loop-i.start + c.stated.result ≤ length (entry (goal.at.After-stated c).At-loop-i).args.letters.now
+    c.loop-i.start + c.stated.result ≤ length c.args.letters.now
 inside c =
     rw meant-length at (passing-inside c.loop-i.invariant.passing c.loop-i-test.true c.stated.ensures)
 
@@ -42,7 +42,7 @@ slice_bounds-alike_from_end-end c = omega (arith, inside (goal.at.slice_bounds-a
 
 pub returns-then-alike_from_end : goal.returns-then-alike_from_end
 returns-then-alike_from_end c =
-    let a = (entry (goal.at.returns-then-alike_from_end c).At-loop-i).args in
+    let a = c.args in
     let start = c.loop-i.start in
     let equal = sym (alike-part a.variant.now a.letters.now start (start + c.stated.result - start))
     ∙ sym c.alike_from_end.ensures ∙ c.if-alike_from_end.true in
@@ -50,7 +50,7 @@ returns-then-alike_from_end c =
 
 pub loop-i-preserved : goal.loop-i-preserved
 loop-i-preserved c =
-    let a = (entry (goal.at.loop-i-preserved c).At-loop-i).args in
+    let a = c.args in
     let start = c.loop-i.start in
     let other = sym (alike-part a.variant.now a.letters.now start (start + c.stated.result - start))
     ∙ sym c.alike_from_end.ensures ∙ c.if-alike_from_end.false in

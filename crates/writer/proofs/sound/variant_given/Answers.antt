@@ -31,7 +31,7 @@ returns-then-wrong-end c =
     sym (given-wrong _ _ _ _ _ c.stated.ensures w (rw meant-length (inside (goal.at.returns-then-wrong-end c).After-stated)) c.if-wrong-end.true)
 
 pub repeated-requires : goal.repeated-requires
-repeated-requires c = before-in (entry (goal.at.repeated-requires c).After-stated).requires
+repeated-requires c = before-in c.requires
 
 pub returns-then-repeated : goal.returns-then-repeated
 returns-then-repeated c =

@@ -5,5 +5,5 @@ use Rattle.layout.proofs.cursor.Cursor.past.Goals as goal
 
 pub returns : goal.returns
 returns c =
-    sym (past_is _ _ _ _ _ _ _ _ c.wrapping_add_usize-left.ensures c.counted-more.ensures
-    c.wrapping_add_usize-size.ensures c.print.ensures)
+    sym (past_is _ _ _ _ _ _ _ _ c.wrapping_add_usize-left.ensures.value c.counted-more.ensures
+    c.wrapping_add_usize-size.ensures.value c.print.ensures)

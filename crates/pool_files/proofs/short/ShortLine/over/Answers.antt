@@ -28,14 +28,14 @@ returns-in-Name c =
 pub returns-in-Next : goal.returns-in-Next
 returns-in-Next c =
     let e = sym c.act_of.ensures ∙ c.in-Next.is in
-    let n = c.wrapping_add_usize.ensures in
+    let n = c.wrapping_add_usize.ensures.value in
     (c.put-in-Next.ensures.0 ∙ next-line _ _ _ _ e n, c.put-in-Next.ensures.1 ∙ next-buffer _ _ _ _ e n)
 
 pub returns-in-Count : goal.returns-in-Count
 returns-in-Count c =
     let e = sym c.act_of.ensures ∙ c.in-Count.is in
     let s = c.args.self in
-    (ap (tabbed s) c.wrapping_add_usize-in-Count.ensures ∙ over-line _ _ _ _ Count e, over-buffer _ _ _ _ Count e)
+    (ap (tabbed s) c.wrapping_add_usize-in-Count.ensures.value ∙ over-line _ _ _ _ Count e, over-buffer _ _ _ _ Count e)
 
 pub returns-in-Comment : goal.returns-in-Comment
 returns-in-Comment c =

@@ -6,10 +6,10 @@ use Rattle.test_tally.proofs.counts.Tally.compare.Goals as goal
 pub returns-then-equals : goal.returns-then-equals
 returns-then-equals c =
     let same = sym c.equals.ensures ∙ c.if-equals.true in
-    compared-alike c.args.self c.args.group c.args.got c.args.wanted c.more-counted.ensures c.wrapping_add_u64-ran.ensures same
+    compared-alike c.args.self c.args.group c.args.got c.args.wanted c.more-counted.ensures c.wrapping_add_u64-ran.ensures.value same
 
 pub returns : goal.returns
 returns c =
     let differs = sym c.equals.ensures ∙ c.if-equals.false in
-    compared-differs c.args.self c.args.group c.args.got c.args.wanted c.more-counted.ensures c.wrapping_add_u64-ran.ensures differs
-    c.wrapping_add_u64.ensures
+    compared-differs c.args.self c.args.group c.args.got c.args.wanted c.more-counted.ensures c.wrapping_add_u64-ran.ensures.value differs
+    c.wrapping_add_u64.ensures.value

@@ -3,4 +3,4 @@ use Rattle.std.proofs.Common.{rules}
 use Rattle.test_tally.proofs.counts.Tally.more.Goals as goal
 
 pub returns : goal.returns
-returns c = rw c.wrapping_add_u64.ensures
+returns c = rw c.wrapping_add_u64.ensures.value

@@ -12,7 +12,7 @@ use Rattle.vcf.specs.Records.{beyond, comment}
 use Rattle.vcf.proofs.Tallying.{sane-gap}
 use Rattle.vcf.proofs.Scanning.{step-comment, step-unsound, step-early, step-over, step-apart, step-bounds, step_in}
 use Rattle.vcf.proofs.survey.scan.Reached.line.Goals as goal
-use Rattle.vcf.proofs.survey.scan.Reached.line.Goals.{After-behind-end, After-record-next, Else-is_comment, Else-not-agrees}
+use Rattle.vcf.proofs.survey.scan.Reached.line.Goals.{After-behind-end, After-record-next, Else-is_comment, Else-not-agrees, Start}
 
 plain : (c : Else-is_comment) → comment c.args.line.now ≡ false
 plain c = sym c.is_comment.ensures ∙ c.if-is_comment.false
@@ -63,14 +63,14 @@ overflow_sub-position-2 c = let h = bounds (goal.at.overflow_sub-position-2 c).E
 
 pub record-next-requires : goal.record-next-requires
 record-next-requires c =
-    rw c.gap-before.ensures (sane-gap c.args.self.needed ((R (goal.at.record-next-requires c).Else-not-agrees).sound.result - c.args.first - c.args.self.base)
+    rw c.gap-before.ensures (sane-gap c.args.self.needed (c.sound-position.result - c.args.first - c.args.self.base)
     c.requires.sane)
 
 pub overflow_sub-result : goal.overflow_sub-result
 overflow_sub-result c = let h = bounds (goal.at.overflow_sub-result c).Else-not-agrees in omega (arith, h)
 
 pub overflow_add-result : goal.overflow_add-result
-overflow_add-result c = let s = S (B (goal.at.overflow_add-result c).Else-not-agrees) in omega (arith, s.pre.few, s.pre.inside, meant-length s.args.window.now)
+overflow_add-result c = let s = (goal.at.overflow_add-result c).Start in omega (arith, s.pre.few, s.pre.inside, meant-length s.args.window.now)
 
 pub returns : goal.returns
 returns c =
