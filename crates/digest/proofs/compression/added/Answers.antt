@@ -5,4 +5,4 @@ use Rattle.digest.proofs.compression.added.Goals as goal
 
 pub returns : goal.returns
 unfolding add
-returns c = ap (set c.args.t1 c.args.a) c.sum-s.ensures
+returns c = ap (set c.args.v c.args.a) c.sum-s.ensures

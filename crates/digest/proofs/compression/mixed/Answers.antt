@@ -5,4 +5,4 @@ use Rattle.digest.proofs.compression.mixed.Goals as goal
 
 pub returns : goal.returns
 unfolding mix
-returns c = ap (set c.args.t1 c.args.a) c.rotate-s.ensures
+returns c = ap (set c.args.v c.args.a) c.rotate-s.ensures

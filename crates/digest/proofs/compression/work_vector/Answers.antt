@@ -8,4 +8,4 @@ returns c =
     let t = c.args.t in
     let l : t.low < 2 ^ 64 = omega arith in
     let k : t.high < 2 ^ 64 = omega arith in
-    vector-of c.args.t1 t.low t.high c.flag-v14.result c.args.f l k c.flag-v14.ensures
+    vector-of c.args.h t.low t.high c.flag-v14.result c.args.f l k c.flag-v14.ensures
