@@ -14,7 +14,7 @@ pub returns-then-not-is_kind : goal.returns-then-not-is_kind
 returns-then-not-is_kind c =
     let p = c.loop-i.invariant in
     let l = c.loop-i-test.true in
-    (skipping-stop p l (sym c.is_kind.ensures ∙ not-true _ c.if-not-is_kind.true-raw), (p.upto, omega (arith, l)))
+    record { value = skipping-stop p l (sym c.is_kind.ensures ∙ not-true _ c.if-not-is_kind.true-raw); lower_bound = (p.upto, omega (arith, l)) }
 
 pub loop-i-preserved : goal.loop-i-preserved
 loop-i-preserved c =
@@ -23,4 +23,4 @@ loop-i-preserved c =
 pub returns : goal.returns
 returns c =
     let p = c.loop-i.invariant in
-    (skipping-end p c.loop-i-test.false, (p.upto, p.inside))
+    record { value = skipping-end p c.loop-i-test.false; lower_bound = (p.upto, p.inside) }

@@ -7,18 +7,18 @@ use Rattle.desk_list.proofs.reading.sequence.Goals as goal
 
 pub returns-in-Refused : goal.returns-in-Refused
 returns-in-Refused c =
-    (sequence-not _ _ _ c.past-end.ensures.0 _ c.check.ensures _ c.in-Refused.is, tt)
+    (sequence-not _ _ _ c.past-end.ensures.value _ c.check.ensures _ c.in-Refused.is, tt)
 
 pub returns-then-not-ends_at : goal.returns-then-not-ends_at
 returns-then-not-ends_at c = (
-  sequence-more _ _ _ c.past-end.ensures.0 _ c.check.ensures c.in_default.is c.past-rest.ensures.0 c.ends_at.ensures
+  sequence-more _ _ _ c.past-end.ensures.value _ c.check.ensures c.in_default.is c.past-rest.ensures.value c.ends_at.ensures
       (not-true _ c.if-not-ends_at.true-raw),
   tt,
 )
 
 pub returns : goal.returns
 returns c = (
-  sequence-is _ _ _ c.past-end.ensures.0 _ c.check.ensures c.in_default.is c.past-rest.ensures.0 c.ends_at.ensures
+  sequence-is _ _ _ c.past-end.ensures.value _ c.check.ensures c.in_default.is c.past-rest.ensures.value c.ends_at.ensures
       (not-false _ c.if-not-ends_at.false-raw),
-  (c.past-end.ensures.1.0, omega (arith, c.past-end.ensures.1.1, c.requires)),
+  (c.past-end.ensures.lower_bound.0, omega (arith, c.past-end.ensures.lower_bound.1, c.requires)),
 )

@@ -7,8 +7,8 @@ use Rattle.desk_night.proofs.moving.to_all.Goals as goal
 
 pub returns-in-To : goal.returns-in-To
 returns-in-To c =
-    passed_to_lem _ _ _ (length-replicate {A = ℕ} 10922 0) c.pass.ensures.0 c.in-To.is
+    passed_to_lem _ _ _ (length-replicate {A = ℕ} 10922 0) c.pass.ensures.result_value c.in-To.is
 
 pub returns-in-Refused : goal.returns-in-Refused
 returns-in-Refused c =
-    passed-not _ _ _ (length-replicate {A = ℕ} 10922 0) c.pass.ensures.0 c.in-Refused.is
+    passed-not _ _ _ (length-replicate {A = ℕ} 10922 0) c.pass.ensures.result_value c.in-Refused.is

@@ -5,9 +5,9 @@ use Rattle.desk_verdict.proofs.standing.pass.Goals as goal
 
 pub returns-in-Refused : goal.returns-in-Refused
 returns-in-Refused c =
-    passes-not _ _ _ _ _ _ _ c.through.ensures.0 c.through.ensures.1 _ c.in-Refused.is
+    let whole = passes-not _ _ _ _ _ _ _ c.through.ensures.0 c.through.ensures.1 _ c.in-Refused.is in record { result_value = whole.0; marks_after = whole.1 }
 
 pub returns-in-Marked : goal.returns-in-Marked
 returns-in-Marked c =
     let e = c.through.ensures in
-    passes-to _ _ _ _ _ _ _ e.0 e.1 _ _ _ _ c.in-Marked.is _ _ c.plus-all.ensures c.plus-marked.ensures
+    let whole = passes-to _ _ _ _ _ _ _ e.0 e.1 _ _ _ _ c.in-Marked.is _ _ c.plus-all.ensures c.plus-marked.ensures in record { result_value = whole.0; marks_after = whole.1 }

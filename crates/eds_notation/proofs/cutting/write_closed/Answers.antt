@@ -23,12 +23,12 @@ inside c = within-is _ _ _ (lies c)
 
 pub returns-then-counts-segments : goal.returns-then-counts-segments
 returns-then-counts-segments c =
-    closed-few c.args.tape c.args.letters.now c.args.lengths.now c.args.counts.now c.args.out.now c.if-counts-segments.true
+    let whole = closed-few c.args.tape c.args.letters.now c.args.lengths.now c.args.counts.now c.args.out.now c.if-counts-segments.true in record { result_value = whole.0; out_after = whole.1 }
 
 pub returns-then-not-is_within : goal.returns-then-not-is_within
 returns-then-not-is_within c =
-    closed-not c.args.tape c.args.letters.now c.args.lengths.now c.args.counts.now c.args.out.now
-    (sym c.is_within.ensures ∙ not-true _ c.if-not-is_within.true-raw)
+    let whole = closed-not c.args.tape c.args.letters.now c.args.lengths.now c.args.counts.now c.args.out.now
+    (sym c.is_within.ensures ∙ not-true _ c.if-not-is_within.true-raw) in record { result_value = whole.0; out_after = whole.1 }
 
 pub overflow_sub-spelt : goal.overflow_sub-spelt
 overflow_sub-spelt c = (inside (goal.at.overflow_sub-spelt c).Else-not-is_within).letters-open
@@ -48,5 +48,5 @@ slice_bounds-write-end-3 c = sym (length-take-le _ _ c.if-counts-segments.false)
 pub returns : goal.returns
 returns c =
     let p = c.write.ensures in
-    closed-done c.args.tape c.args.letters.now c.args.lengths.now c.args.counts.now c.args.out.now
-    c.if-counts-segments.false (lies (goal.at.returns c).Else-not-is_within) _ _ p.0 p.1
+    let whole = closed-done c.args.tape c.args.letters.now c.args.lengths.now c.args.counts.now c.args.out.now
+    c.if-counts-segments.false (lies (goal.at.returns c).Else-not-is_within) _ _ p.0 p.1 in record { result_value = whole.0; out_after = whole.1 }

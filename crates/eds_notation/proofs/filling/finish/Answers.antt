@@ -5,4 +5,4 @@ use Rattle.eds_notation.proofs.filling.finish.Goals as goal
 
 pub returns : goal.returns
 returns c =
-    acted-as _ _ _ _ _ _ _ c.end.ensures c.put.ensures
+    let whole = acted-as _ _ _ _ _ _ _ c.end.ensures c.put.ensures in record { value = whole.0; counts_after = whole.1 }

@@ -28,15 +28,15 @@ there : (c : Else-not-fits) → c.args.tape.letters ≤ length c.args.letters.no
 there c = c.if-letters-end.false
 
 pub returns-then-letters-end : goal.returns-then-letters-end
-returns-then-letters-end c = (c.full.ensures ∙ variant-far _ _ _ _ _ c.if-letters-end.true, full-leaves _ _ c.full.ensures _ _)
+returns-then-letters-end c = record { value = c.full.ensures ∙ variant-far _ _ _ _ _ c.if-letters-end.true; lengths_after = full-leaves _ _ c.full.ensures _ _ }
 
 pub returns-then-lengths-at : goal.returns-then-lengths-at
-returns-then-lengths-at c = (c.full-then-lengths-at.ensures ∙ variant-many _ _ _ _ _ c.if-lengths-at.true, full-leaves _ _ c.full-then-lengths-at.ensures _ _)
+returns-then-lengths-at c = record { value = c.full-then-lengths-at.ensures ∙ variant-many _ _ _ _ _ c.if-lengths-at.true; lengths_after = full-leaves _ _ c.full-then-lengths-at.ensures _ _ }
 
 pub returns-then-not-fits : goal.returns-then-not-fits
 returns-then-not-fits c =
     let none = sym c.fits.ensures ∙ not-true _ c.if-not-fits.true-raw in
-    (c.full-then-not-fits.ensures ∙ variant-full _ _ _ _ _ none, full-leaves _ _ c.full-then-not-fits.ensures _ _)
+    record { value = c.full-then-not-fits.ensures ∙ variant-full _ _ _ _ _ none; lengths_after = full-leaves _ _ c.full-then-not-fits.ensures _ _ }
 
 pub overflow_sub-first : goal.overflow_sub-first
 overflow_sub-first c = (fitting (goal.at.overflow_sub-first c).Else-not-fits).lengths
@@ -48,10 +48,8 @@ pub stands-requires : goal.stands-requires
 stands-requires c = open-size _ _ _ (fitting (goal.at.stands-requires c).Else-not-fits) (there (goal.at.stands-requires c).Else-not-fits)
 
 pub returns-then-stands : goal.returns-then-stands
-returns-then-stands c = (
-  variant-repeated _ _ _ _ _ (there (goal.at.returns-then-stands c).Else-not-fits) c.if-lengths-at.false (room (goal.at.returns-then-stands c).Else-not-fits) _ c.stands.ensures c.if-stands.true,
-  wrong-leaves _ _ _,
-)
+returns-then-stands c =
+    record { value = variant-repeated _ _ _ _ _ (there (goal.at.returns-then-stands c).Else-not-fits) c.if-lengths-at.false (room (goal.at.returns-then-stands c).Else-not-fits) _ c.stands.ensures c.if-stands.true; lengths_after = wrong-leaves _ _ _ }
 
 pub overflow_cast-lengths : goal.overflow_cast-lengths
 overflow_cast-lengths c =
@@ -59,8 +57,9 @@ overflow_cast-lengths c =
     omega (arith, f.spelt, f.letters, f.bytes)
 
 pub returns : goal.returns
-returns c = (
-  variant-done _ _ _ _ _ (there (goal.at.returns c).Else-not-fits) c.if-lengths-at.false (room (goal.at.returns c).Else-not-fits) _ c.stands.ensures
-      c.if-stands.false,
-  done-leaves _ _ _,
-)
+returns c =
+    record {
+      value = variant-done _ _ _ _ _ (there (goal.at.returns c).Else-not-fits) c.if-lengths-at.false (room (goal.at.returns c).Else-not-fits) _ c.stands.ensures
+          c.if-stands.false;
+      lengths_after = done-leaves _ _ _;
+    }

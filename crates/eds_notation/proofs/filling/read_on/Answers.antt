@@ -23,7 +23,7 @@ shape_of-counts-in-Full c =
 
 pub returns-in-Full : goal.returns-in-Full
 returns-in-Full c =
-    reach-full c.loop-at.invariant c.loop-at-test.true _ c.act-act.ensures _ _ c.put.ensures.0 c.put.ensures.1
+    reach-full c.loop-at.invariant c.loop-at-test.true _ c.act-act.ensures _ _ c.put.ensures.value c.put.ensures.counts_after
     c.in-Full.is
 
 pub shape_of-letters-in-Wrong : goal.shape_of-letters-in-Wrong
@@ -40,12 +40,12 @@ shape_of-counts-in-Wrong c =
 
 pub returns-in-Wrong : goal.returns-in-Wrong
 returns-in-Wrong c =
-    reach-wrong c.loop-at.invariant c.loop-at-test.true _ c.act-act.ensures _ _ c.put.ensures.0 c.put.ensures.1 _
+    reach-wrong c.loop-at.invariant c.loop-at-test.true _ c.act-act.ensures _ _ c.put.ensures.value c.put.ensures.counts_after _
     c.in-Wrong.is
 
 pub loop-at-preserved : goal.loop-at-preserved
 loop-at-preserved c =
-    reach-more c.loop-at.invariant c.loop-at-test.true _ c.act-act.ensures _ _ c.put.ensures.0 c.put.ensures.1 _
+    reach-more c.loop-at.invariant c.loop-at-test.true _ c.act-act.ensures _ _ c.put.ensures.value c.put.ensures.counts_after _
     c.in-Done.is
     c.put.auto.1.1.1.0 c.put.auto.1.1.1.1.0 c.put.auto.1.1.1.1.1.0
 

@@ -8,8 +8,8 @@ use Rattle.lines.proofs.answer.screened.Goals.{In-Marked}
 
 pub slice_bounds-marks-end : goal.slice_bounds-marks-end
 slice_bounds-marks-end c =
-    answered-long c.args.strands _ _ _ _ _ _ c.search_on.ensures.0
-    c.search_on.ensures.1 _ _ _ c.in-Marked.is
+    answered-long c.args.strands _ _ _ _ _ _ c.search_on.ensures.result_value
+    c.search_on.ensures.marks_after _ _ _ c.in-Marked.is
 
 pub slice_bounds-put_text-end : goal.slice_bounds-put_text-end
 slice_bounds-put_text-end c = simp length-take (omega (arith, array-share-prefix-marks (goal.at.slice_bounds-put_text-end c).In-Marked))
@@ -17,11 +17,11 @@ slice_bounds-put_text-end c = simp length-take (omega (arith, array-share-prefix
 pub returns-in-Refused : goal.returns-in-Refused
 returns-in-Refused c =
     let S = c.args.strands in
-    let l = answered-refused S _ _ _ _ _ _ c.search_on.ensures.0 c.search_on.ensures.1 _ c.in-Refused.is in
+    let l = answered-refused S _ _ _ _ _ _ c.search_on.ensures.result_value c.search_on.ensures.marks_after _ c.in-Refused.is in
     lines-put S _ _ _ c.pattern_in-pattern.ensures c.stretch_in-stretch.ensures l c.put_refusal.ensures
 
 pub returns-in-Marked : goal.returns-in-Marked
 returns-in-Marked c =
     let S = c.args.strands in
-    let l = answered-marked S _ _ _ _ _ _ c.search_on.ensures.0 c.search_on.ensures.1 _ _ _ c.in-Marked.is in
+    let l = answered-marked S _ _ _ _ _ _ c.search_on.ensures.result_value c.search_on.ensures.marks_after _ _ _ c.in-Marked.is in
     lines-put S _ _ _ c.pattern_in-pattern.ensures c.stretch_in-stretch.ensures l c.put_text.ensures

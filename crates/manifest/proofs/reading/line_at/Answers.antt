@@ -5,19 +5,19 @@ use borrow.Author.Rules.{rules}
 use Rattle.manifest.proofs.reading.line_at.Goals as goal
 
 pub returns-then-manifest-at : goal.returns-then-manifest-at
-returns-then-manifest-at c = (line-none _ _ c.if-manifest-at.true, tt)
+returns-then-manifest-at c = record { value = line-none _ _ c.if-manifest-at.true; onward = tt }
 
 pub returns-then-manifest-end : goal.returns-then-manifest-end
 returns-then-manifest-end c =
     let h = c.if-manifest-at.false in
     let e = line-cut _ _ h c.leading.ensures.0 c.if-manifest-end.true in
-    (e, onward-is _ _ h e)
+    record { value = e; onward = onward-is _ _ h e }
 
 pub returns-then-is_comment : goal.returns-then-is_comment
 returns-then-is_comment c =
     let h = c.if-manifest-at.false in
     let e = line-comment _ _ h c.leading.ensures.0 c.if-manifest-end.false c.is_comment.ensures c.if-is_comment.true in
-    (e, onward-is _ _ h e)
+    record { value = e; onward = onward-is _ _ h e }
 
 pub overflow_add-start : goal.overflow_add-start
 overflow_add-start c =
@@ -33,7 +33,7 @@ returns-then-is_entry c =
     let e =
     line-entry _ _ h c.leading.ensures.0 c.if-manifest-end.false c.is_comment.ensures c.if-is_comment.false c.is_entry.ensures
     c.if-is_entry.true in
-    (e, onward-is _ _ h e)
+    record { value = e; onward = onward-is _ _ h e }
 
 pub returns : goal.returns
 returns c =
@@ -41,4 +41,4 @@ returns c =
     let e =
     line_other _ _ h c.leading.ensures.0 c.if-manifest-end.false c.is_comment.ensures c.if-is_comment.false c.is_entry.ensures
     c.if-is_entry.false in
-    (e, onward-is _ _ h e)
+    record { value = e; onward = onward-is _ _ h e }

@@ -3,4 +3,4 @@ use Rattle.std.proofs.Common.{rules}
 use Rattle.pool_files.proofs.reference.put_base.Goals as goal
 
 pub returns-in-Base : goal.returns-in-Base
-returns-in-Base c = (rw c.in-Base.is, rw c.in-Base.is)
+returns-in-Base c = record { value = rw c.in-Base.is; bases_after = rw c.in-Base.is }

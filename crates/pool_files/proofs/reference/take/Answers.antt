@@ -12,7 +12,7 @@ shape_of-bases-then-space-eq0 c = c.loop-at.invariant.size
 pub returns-then-space-eq0 : goal.returns-then-space-eq0
 returns-then-space-eq0 c =
     let e = takes-full c.loop-at.invariant c.loop-at-test.true c.if-space-eq0.true in
-    (ap (λ (f : Filled). f.taken) e, ap (λ (f : Filled). f.buffer) e)
+    record { answer = ap (λ (f : Filled). f.taken) e; buffer = ap (λ (f : Filled). f.buffer) e }
 
 pub shape_of-bases-then-is_end : goal.shape_of-bases-then-is_end
 shape_of-bases-then-is_end c = c.loop-at.invariant.size
@@ -22,7 +22,7 @@ returns-then-is_end c =
     let e =
     takes-end c.loop-at.invariant c.loop-at-test.true c.if-space-eq0.false _ c.step-next.ensures _ c.led_to-led.ensures
     (sym c.is_end.ensures ∙ c.if-is_end.true) in
-    (ap (λ (f : Filled). f.taken) e, ap (λ (f : Filled). f.buffer) e)
+    record { answer = ap (λ (f : Filled). f.taken) e; buffer = ap (λ (f : Filled). f.buffer) e }
 
 pub put_base-space-requires : goal.put_base-space-requires
 put_base-space-requires c =
@@ -32,7 +32,7 @@ put_base-space-requires c =
 pub loop-at-preserved : goal.loop-at-preserved
 loop-at-preserved c =
     takes-more c.loop-at.invariant c.loop-at-test.true c.if-space-eq0.false _ _ _ _ c.step-next.ensures c.led_to-led.ensures
-    (sym c.is_end.ensures ∙ c.if-is_end.false) c.put_base-space.ensures.0 c.put_base-space.ensures.1
+    (sym c.is_end.ensures ∙ c.if-is_end.false) c.put_base-space.ensures.value c.put_base-space.ensures.bases_after
 
 pub shape_of-bases : goal.shape_of-bases
 shape_of-bases c = c.loop-at.invariant.size
@@ -40,4 +40,4 @@ shape_of-bases c = c.loop-at.invariant.size
 pub returns : goal.returns
 returns c =
     let e = takes_all c.loop-at.invariant c.loop-at-test.false in
-    (ap (λ (f : Filled). f.taken) e, ap (λ (f : Filled). f.buffer) e)
+    record { answer = ap (λ (f : Filled). f.taken) e; buffer = ap (λ (f : Filled). f.buffer) e }

@@ -12,11 +12,11 @@ shape_of-short-then-byte-eq10 c = c.loop-at.invariant.size
 pub returns-then-byte-eq10 : goal.returns-then-byte-eq10
 returns-then-byte-eq10 c =
     let e = reads-feed c.loop-at.invariant c.loop-at-test.true c.if-byte-eq10.true in
-    (ap (λ (o : Outcome). o.come) e, ap (λ (o : Outcome). o.left) e)
+    record { answer = ap (λ (o : Outcome). o.come) e; buffer = ap (λ (o : Outcome). o.left) e }
 
 pub loop-at-preserved : goal.loop-at-preserved
 loop-at-preserved c =
-    reads_more c.loop-at.invariant c.loop-at-test.true c.if-byte-eq10.false _ _ c.over-now.ensures.0 c.over-now.ensures.1
+    reads_more c.loop-at.invariant c.loop-at-test.true c.if-byte-eq10.false _ _ c.over-now.ensures.value c.over-now.ensures.short_after
     c.over-now.auto.1.1.1.0
 
 pub shape_of-short : goal.shape_of-short
@@ -25,4 +25,4 @@ shape_of-short c = c.loop-at.invariant.size
 pub returns : goal.returns
 returns c =
     let e = reads_all c.loop-at.invariant c.loop-at-test.false in
-    (ap (λ (o : Outcome). o.come) e, ap (λ (o : Outcome). o.left) e)
+    record { answer = ap (λ (o : Outcome). o.come) e; buffer = ap (λ (o : Outcome). o.left) e }

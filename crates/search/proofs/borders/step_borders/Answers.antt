@@ -4,11 +4,11 @@ use Rattle.search.proofs.BorderSteps.{steps-begun}
 use Rattle.search.proofs.borders.step_borders.Goals as goal
 
 pub carried-sent-requires : goal.carried-sent-requires
-carried-sent-requires c = let (y, good) = c.requires in (y.sized, y.state.small)
+carried-sent-requires c = let (y, good) = c.requires in record { sound_pattern = y.sized; state_bound = y.state.small }
 
 pub begun-fresh-requires : goal.begun-fresh-requires
-begun-fresh-requires c = let (y, good) = c.requires in (y.sized, (y.holds, good))
+begun-fresh-requires c = let (y, good) = c.requires in let whole = (y.sized, (y.holds, good)) in record { sound_pattern = whole.0; borders = whole.1; variant_value = whole.2 }
 
 pub returns : goal.returns
 returns c =
-    steps-begun c.requires.0.state.odd c.carried-sent.ensures c.begun-fresh.ensures
+    steps-begun c.requires.bordered.state.odd c.carried-sent.ensures c.begun-fresh.ensures

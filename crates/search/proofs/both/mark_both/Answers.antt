@@ -21,15 +21,15 @@ opening : (v : In-At)
 opening v = open_is _ (goal.at.In-At v).After-open.«open».ensures v.in-At.is
 
 pub returns-in-Refused : goal.returns-in-Refused
-returns-in-Refused c = into-not _ _ _ _ _ _ (open-not _ (goal.at.returns-in-Refused c).After-open.«open».ensures c.in-Refused.is).1
+returns-in-Refused c = let whole = into-not _ _ _ _ _ _ (open-not _ (goal.at.returns-in-Refused c).After-open.«open».ensures c.in-Refused.is).1 in record { result_value = whole.0; marks_after = whole.1 }
 
 pub run_both-sought-requires : goal.run_both-sought-requires
 run_both-sought-requires c =
     let p = c.requires in
-    let z = opening (goal.at.run_both-sought-requires c).In-At in (
+    let z = opening (goal.at.run_both-sought-requires c).In-At in let whole = (
       (record { founded = p.0.0; letters = c.classes-letters.ensures }, record { founded = p.0.1; letters = c.classes-letters.ensures }),
       ((p.1.0, p.1.1), (z.begins, omega (arith, z.first, c.if-stretch-le-SMALL_STRETCH.true))),
-    )
+    ) in record { vectors = whole.0; state_of = whole.1; begun = whole.2 }
 
 pub hand_both-requires : goal.hand_both-requires
 hand_both-requires c =
@@ -39,16 +39,16 @@ hand_both-requires c =
 pub returns-then-stretch-le-SMALL_STRETCH : goal.returns-then-stretch-le-SMALL_STRETCH
 returns-then-stretch-le-SMALL_STRETCH c =
     let e = c.run_both-sought.ensures in
-    into-handed _ _ c.args.marks.now segments (both-segments _ _ _) _ _
-    e.1 e.0 (opening (goal.at.returns-then-stretch-le-SMALL_STRETCH c).In-At).whole _ _ c.hand_both.ensures
+    let whole = into-handed _ _ c.args.marks.now segments (both-segments _ _ _) _ _
+    e.1 e.0 (opening (goal.at.returns-then-stretch-le-SMALL_STRETCH c).In-At).whole _ _ c.hand_both.ensures in record { result_value = whole.0; marks_after = whole.1 }
 
 pub run_both-sought-requires-2 : goal.run_both-sought-requires-2
 run_both-sought-requires-2 c =
     let p = c.requires in
-    let z = opening (goal.at.run_both-sought-requires-2 c).In-At in (
+    let z = opening (goal.at.run_both-sought-requires-2 c).In-At in let whole = (
       (record { founded = p.0.0; letters = c.classes-letters.ensures }, record { founded = p.0.1; letters = c.classes-letters.ensures }),
       ((p.1.0, p.1.1), (z.begins, omega (arith, p.1.2, z.states, z.first))),
-    )
+    ) in record { vectors = whole.0; state_of = whole.1; begun = whole.2 }
 
 pub hand_both-requires-2 : goal.hand_both-requires-2
 hand_both-requires-2 c =
@@ -58,5 +58,5 @@ hand_both-requires-2 c =
 pub returns : goal.returns
 returns c =
     let e = c.run_both-sought-2.ensures in
-    into-handed _ _ c.args.marks.now segments (both-segments _ _ _) _ _
-    e.1 e.0 (opening (goal.at.returns c).In-At).whole _ _ c.hand_both-2.ensures
+    let whole = into-handed _ _ c.args.marks.now segments (both-segments _ _ _) _ _
+    e.1 e.0 (opening (goal.at.returns c).In-At).whole _ _ c.hand_both-2.ensures in record { result_value = whole.0; marks_after = whole.1 }

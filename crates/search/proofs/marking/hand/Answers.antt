@@ -17,7 +17,7 @@ handed-requires c =
 pub returns-then-not-handed : goal.returns-then-not-handed
 returns-then-not-handed c =
     hand-short segments c.args.found.now c.args.marks.now _ _ (ap told_sought c.in-Marked.is) _
-    c.handed.ensures.1 _ c.handed.ensures.0 c.if-not-handed.true-raw
+    c.handed.ensures.marks_after _ c.handed.ensures.value c.if-not-handed.true-raw
 
 pub returns-in-Refused : goal.returns-in-Refused
 returns-in-Refused c =
@@ -26,4 +26,4 @@ returns-in-Refused c =
 pub returns-else-not-handed : goal.returns-else-not-handed
 returns-else-not-handed c =
     hand-all segments c.args.found.now c.args.marks.now _ _ (ap told_sought c.in-Marked.is) _
-    c.handed.ensures.1 _ c.handed.ensures.0 c.if-not-handed.false-raw
+    c.handed.ensures.marks_after _ c.handed.ensures.value c.if-not-handed.false-raw

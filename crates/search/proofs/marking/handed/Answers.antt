@@ -6,7 +6,7 @@ use Rattle.search.proofs.Markings.{handed-none, handed-all}
 use Rattle.search.proofs.marking.handed.Goals as goal
 
 pub returns-then-marks-segments : goal.returns-then-marks-segments
-returns-then-marks-segments c = handed-none _ c.args.found.now _ c.if-marks-segments.true
+returns-then-marks-segments c = let whole = handed-none _ c.args.found.now _ c.if-marks-segments.true in record { value = whole.0; marks_after = whole.1 }
 
 pub slice_bounds-copy-end : goal.slice_bounds-copy-end
 slice_bounds-copy-end c = simp length-take (omega arith)
@@ -16,4 +16,4 @@ copy-requires c = simp length-take (omega arith)
 
 pub returns : goal.returns
 returns c =
-    handed-all c.args.segments c.args.found.now c.args.marks.now _ (omega arith) c.copy.ensures
+    let whole = handed-all c.args.segments c.args.found.now c.args.marks.now _ (omega arith) c.copy.ensures in record { value = whole.0; marks_after = whole.1 }

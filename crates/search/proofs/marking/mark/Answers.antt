@@ -23,42 +23,42 @@ opening : (v : In-At)
 opening v = open_is _ (goal.at.In-At v).After-open.«open».ensures v.in-At.is
 
 pub returns-in-Refused : goal.returns-in-Refused
-returns-in-Refused c = into-not _ _ _ _ _ _ (open-not _ (goal.at.returns-in-Refused c).After-open.«open».ensures c.in-Refused.is).1
+returns-in-Refused c = let whole = into-not _ _ _ _ _ _ (open-not _ (goal.at.returns-in-Refused c).After-open.«open».ensures c.in-Refused.is).1 in record { result_value = whole.0; marks_after = whole.1 }
 
 pub run-sought-requires : goal.run-sought-requires
 run-sought-requires c =
     let p = c.requires in
-    let z = opening (goal.at.run-sought-requires c).In-At in (
+    let z = opening (goal.at.run-sought-requires c).In-At in let whole = (
       (record { founded = p.0; letters = c.classes-letters.ensures }, p.1),
       ((z.begins, omega (arith, p.2, z.states, z.first)), λ _. omega (arith, z.first, c.if-stretch-le-SMALL_STRETCH.true)),
-    )
+    ) in record { tools = whole.0; begun = whole.1; walk_in_bounds = whole.2 }
 
 pub hand-requires : goal.hand-requires
 hand-requires c =
-    let e = c.run-sought.ensures.1 in
+    let e = c.run-sought.ensures.result_value_2 in
     found-enough _ _ [] segments (seen-segments _ _) _ _ (e.1 refl) (e.0 refl) (marks-length _ _)
 
 pub returns-then-stretch-le-SMALL_STRETCH : goal.returns-then-stretch-le-SMALL_STRETCH
 returns-then-stretch-le-SMALL_STRETCH c =
-    let e = c.run-sought.ensures.1 in
-    into-handed _ _ c.args.marks.now segments (seen-segments _ _) _ _
-    (e.1 refl) (e.0 refl) (opening (goal.at.returns-then-stretch-le-SMALL_STRETCH c).In-At).whole _ _ c.hand.ensures
+    let e = c.run-sought.ensures.result_value_2 in
+    let whole = into-handed _ _ c.args.marks.now segments (seen-segments _ _) _ _
+    (e.1 refl) (e.0 refl) (opening (goal.at.returns-then-stretch-le-SMALL_STRETCH c).In-At).whole _ _ c.hand.ensures in record { result_value = whole.0; marks_after = whole.1 }
 
 pub run-sought-requires-2 : goal.run-sought-requires-2
 run-sought-requires-2 c =
     let p = c.requires in
-    let z = opening (goal.at.run-sought-requires-2 c).In-At in (
+    let z = opening (goal.at.run-sought-requires-2 c).In-At in let whole = (
       (record { founded = p.0; letters = c.classes-letters.ensures }, p.1),
       ((z.begins, omega (arith, p.2, z.states, z.first)), λ _. omega (arith, p.2, z.states, z.first)),
-    )
+    ) in record { tools = whole.0; begun = whole.1; walk_in_bounds = whole.2 }
 
 pub hand-requires-2 : goal.hand-requires-2
 hand-requires-2 c =
-    let e = c.run-sought-2.ensures.1 in
+    let e = c.run-sought-2.ensures.result_value_2 in
     found-enough _ _ [] segments (seen-segments _ _) _ _ (e.1 refl) (e.0 refl) (marks-length _ _)
 
 pub returns : goal.returns
 returns c =
-    let e = c.run-sought-2.ensures.1 in
-    into-handed _ _ c.args.marks.now segments (seen-segments _ _) _ _
-    (e.1 refl) (e.0 refl) (opening (goal.at.returns c).In-At).whole _ _ c.hand-2.ensures
+    let e = c.run-sought-2.ensures.result_value_2 in
+    let whole = into-handed _ _ c.args.marks.now segments (seen-segments _ _) _ _
+    (e.1 refl) (e.0 refl) (opening (goal.at.returns c).In-At).whole _ _ c.hand-2.ensures in record { result_value = whole.0; marks_after = whole.1 }

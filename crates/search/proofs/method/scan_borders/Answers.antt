@@ -8,7 +8,7 @@ pub returns-then-any_wrong : goal.returns-then-any_wrong
 returns-then-any_wrong c = letters-bad _ _ c.any_wrong.ensures _ _ _ c.if-any_wrong.true
 
 pub step_borders-stepped-requires : goal.step_borders-stepped-requires
-step_borders-stepped-requires c = (c.requires, letters-all _ _ c.any_wrong.ensures c.if-any_wrong.false)
+step_borders-stepped-requires c = record { bordered = c.requires; variant_value = letters-all _ _ c.any_wrong.ensures c.if-any_wrong.false }
 
 pub returns-then-stepped : goal.returns-then-stepped
 returns-then-stepped c =

@@ -36,12 +36,12 @@ mark-sought-requires c =
 pub returns-in-Refused : goal.returns-in-Refused
 returns-in-Refused c =
     let wrong = sym c.enter.ensures ∙ ap told_verdict c.in-Refused.is in
-    fresh-marked c.args.pattern.now _ c.args.stretch.now c.args.marks.now _ _ _
-    (seek-not c.args.pattern.now _ _ c.args.stretch.now c.args.marks.now _ _ wrong) refl
+    let whole = fresh-marked c.args.pattern.now _ c.args.stretch.now c.args.marks.now _ _ _
+    (seek-not c.args.pattern.now _ _ c.args.stretch.now c.args.marks.now _ _ wrong) refl in record { result_value = whole.0; marks_after = whole.1 }
 
 pub returns-in-Sound : goal.returns-in-Sound
 returns-in-Sound c =
     let y = entry (goal.at.returns-in-Sound c).In-Sound in
     let read = read_is c.args.strand _ _ c.read_on-bytes.ensures y.sound in
-    fresh-marked c.args.pattern.now _ c.args.stretch.now c.args.marks.now _ _ _
-    (seek-sound c.args.pattern.now _ _ c.args.stretch.now c.args.marks.now y _ read _ _ c.mark-sought.ensures) c.summed.ensures
+    let whole = fresh-marked c.args.pattern.now _ c.args.stretch.now c.args.marks.now _ _ _
+    (seek-sound c.args.pattern.now _ _ c.args.stretch.now c.args.marks.now y _ read _ _ c.mark-sought.ensures) c.summed.ensures in record { result_value = whole.0; marks_after = whole.1 }

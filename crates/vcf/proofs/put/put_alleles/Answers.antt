@@ -36,7 +36,7 @@ shape_of-out-then-end-alt c =
 
 pub returns-then-end-alt : goal.returns-then-end-alt
 returns-then-end-alt c =
-    alleles-end c.loop-at.inv c.end_of-end.ensures c.put_variant.ensures (place (goal.at.returns-then-end-alt c).After-after_variant-next) c.if-end-alt.true
+    let whole = alleles-end c.loop-at.inv c.end_of-end.ensures c.put_variant.ensures (place (goal.at.returns-then-end-alt c).After-after_variant-next) c.if-end-alt.true in record { value = whole.0; out_after = whole.1 }
 
 pub overflow_add-from : goal.overflow_add-from
 overflow_add-from c = omega (arith, c.if-end-alt.false)

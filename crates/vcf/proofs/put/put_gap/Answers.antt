@@ -24,7 +24,7 @@ exact : (c : After-segment_bytes) → c.segment_bytes.result ≡ segment_bytes (
 exact c = let e = (goal.at.After-segment_bytes c).Else-n-eq0 in omega (arith, c.segment_bytes.ensures, size e, narrow e, (S e).pre)
 
 pub returns-then-n-eq0 : goal.returns-then-n-eq0
-returns-then-n-eq0 c = gap-nothing c.args.bases.now _ _ c.if-n-eq0.true
+returns-then-n-eq0 c = let whole = gap-nothing c.args.bases.now _ _ c.if-n-eq0.true in record { value = whole.0; out_after = whole.1 }
 
 pub overflow_add-at : goal.overflow_add-at
 overflow_add-at c = omega (arith, size (goal.at.overflow_add-at c).Else-n-eq0, narrow (goal.at.overflow_add-at c).Else-n-eq0, c.requires)
@@ -36,7 +36,5 @@ pub shape_of-out : goal.shape_of-out
 shape_of-out c = c.put_variant.auto.out ∙ c.put_variants.auto.out
 
 pub returns : goal.returns
-returns c = (
-  omega (arith, exact (goal.at.returns c).After-segment_bytes, size (goal.at.returns c).Else-n-eq0),
-  gap-put c.args.bases.now _ _ c.if-n-eq0.left c.requires _ _ c.put_variants.ensures c.put_variant.ensures,
-)
+returns c =
+    record { value = omega (arith, exact (goal.at.returns c).After-segment_bytes, size (goal.at.returns c).Else-n-eq0); out_after = gap-put c.args.bases.now _ _ c.if-n-eq0.left c.requires _ _ c.put_variants.ensures c.put_variant.ensures }

@@ -46,16 +46,16 @@ before :
 before c = let s = c.args in part-meant s.window.now s.put.base (c.position-place.result - s.first - s.put.base)
 
 pub returns-then-is_comment : goal.returns-then-is_comment
-returns-then-is_comment c = idle-line _ _ _ _ (idle-comment _ _ c.args.put.base _ (sym c.is_comment.ensures ∙ c.if-is_comment.true))
-    _ _ _
+returns-then-is_comment c = let whole = idle-line _ _ _ _ (idle-comment _ _ c.args.put.base _ (sym c.is_comment.ensures ∙ c.if-is_comment.true))
+    _ _ _ in record { left_value = whole.0; out_after = whole.1 }
 
 pub returns-then-is_outside : goal.returns-then-is_outside
 returns-then-is_outside c =
-    idle-line _ _ _ _
-    (idle-is _ _ c.args.put.base _ (plain (goal.at.returns-then-is_outside c).After-position-place) c.requires.0.put _ (stated (goal.at.returns-then-is_outside c).After-position-place) _
+    let whole = idle-line _ _ _ _
+    (idle-is _ _ c.args.put.base _ (plain (goal.at.returns-then-is_outside c).After-position-place) c.requires.placing.put _ (stated (goal.at.returns-then-is_outside c).After-position-place) _
     (ap meant c.field-reference.ensures) _ (ending (goal.at.returns-then-is_outside c).After-behind-end) true
     (sym c.if-is_outside.true ∙ c.is_outside.ensures))
-    _ _ _
+    _ _ _ in record { left_value = whole.0; out_after = whole.1 }
 
 pub overflow_sub-start : goal.overflow_sub-start
 overflow_sub-start c = let h = bounds (goal.at.overflow_sub-start c).Else-is_outside in omega (arith, h)
@@ -83,12 +83,12 @@ put_record-last-requires c =
     let r = busy-room _ _ s.args.put.base _ (plain (goal.at.put_record-last-requires c).After-position-place) s.pre.0.put _ (stated (goal.at.put_record-last-requires c).After-position-place) _ (ap meant c.field-reference.ensures)
     _ (ending (goal.at.put_record-last-requires c).After-behind-end)
     (sym c.if-is_outside.false ∙ c.is_outside.ensures) s.args.put.left s.pre.0.lies _ (ap meant c.field-alt.ensures)
-    s.args.put.at _ s.pre.1 in (
-      busy-few _ _ s.args.put.base _ (plain (goal.at.put_record-last-requires c).After-position-place) s.pre.0.put _ (stated (goal.at.put_record-last-requires c).After-position-place) _ (ap meant c.field-reference.ensures) _
+    s.args.put.at _ s.pre.1 in record {
+      alt_len_bound = busy-few _ _ s.args.put.base _ (plain (goal.at.put_record-last-requires c).After-position-place) s.pre.0.put _ (stated (goal.at.put_record-last-requires c).After-position-place) _ (ap meant c.field-reference.ensures) _
           (ending (goal.at.put_record-last-requires c).After-behind-end)
-          (sym c.if-is_outside.false ∙ c.is_outside.ensures) s.args.put.left s.pre.0.lies _ (ap meant c.field-alt.ensures),
-      omega (arith, r.1, rw (before (goal.at.put_record-last-requires c).Else-is_outside) at c.put_gap-next.ensures.0, c.put_gap-next.auto.out),
-    )
+          (sym c.if-is_outside.false ∙ c.is_outside.ensures) s.args.put.left s.pre.0.lies _ (ap meant c.field-alt.ensures);
+      alt_in_bounds = omega (arith, r.1, rw (before (goal.at.put_record-last-requires c).Else-is_outside) at c.put_gap-next.ensures.value, c.put_gap-next.auto.out);
+    }
 
 pub overflow_sub-result : goal.overflow_sub-result
 overflow_sub-result c = let h = bounds (goal.at.overflow_sub-result c).Else-is_outside in omega (arith, h)
@@ -101,7 +101,7 @@ returns c =
     let s = (goal.at.returns c).Start in
     let x = rw (before (goal.at.returns c).Else-is_outside) at c.put_gap-next.ensures in
     let y = c.put_record-last.ensures in
-    busy-line _ _ s.args.put.base _ (plain (goal.at.returns c).After-position-place) s.pre.0.put _ (stated (goal.at.returns c).After-position-place) _ (ap meant c.field-reference.ensures) _
+    let whole = busy-line _ _ s.args.put.base _ (plain (goal.at.returns c).After-position-place) s.pre.0.put _ (stated (goal.at.returns c).After-position-place) _ (ap meant c.field-reference.ensures) _
     (ending (goal.at.returns c).After-behind-end)
     (sym c.if-is_outside.false ∙ c.is_outside.ensures) s.args.put.left s.pre.0.lies _ (ap meant c.field-alt.ensures) _ _
-    s.pre.1 _ _ x.0 y.0 _ _ x.1 y.1
+    s.pre.1 _ _ x.0 y.0 _ _ x.1 y.1 in record { left_value = whole.0; out_after = whole.1 }

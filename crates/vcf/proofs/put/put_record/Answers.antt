@@ -24,7 +24,7 @@ narrow c = omega arith
 
 -- the place after REF
 next : (v : After-after_variant-next) → v.after_variant-next.result ≡ after_variant (v.args.at + 1) (length v.args.reference.now)
-next v = omega (arith, v.after_variant-next.ensures, size (goal.at.After-after_variant-next v).Start, v.requires.1, narrow (goal.at.After-after_variant-next v).After-slice_known-1)
+next v = omega (arith, v.after_variant-next.ensures, size (goal.at.After-after_variant-next v).Start, v.requires.alt_in_bounds, narrow (goal.at.After-after_variant-next v).After-slice_known-1)
 
 some : (c : Else-is_none) → none c.args.alt.now ≡ false
 some c = sym c.is_none.ensures ∙ c.if-is_none.false
@@ -32,10 +32,10 @@ some c = sym c.is_none.ensures ∙ c.if-is_none.false
 -- at most 255 variants
 few : (k : After-count-alleles) → 1 + k.count-alleles.result ≤ 255
 few k =
-    omega (arith, few-pieces k.args.alt.now (some (goal.at.After-count-alleles k).Else-is_none) k.requires.0, k.count-alleles.ensures)
+    omega (arith, few-pieces k.args.alt.now (some (goal.at.After-count-alleles k).Else-is_none) k.requires.alt_len_bound, k.count-alleles.ensures)
 
 pub overflow_add-start : goal.overflow_add-start
-overflow_add-start c = omega (arith, size (goal.at.overflow_add-start c).Start, c.requires.1, narrow (goal.at.overflow_add-start c).After-slice_known-1)
+overflow_add-start c = omega (arith, size (goal.at.overflow_add-start c).Start, c.requires.alt_in_bounds, narrow (goal.at.overflow_add-start c).After-slice_known-1)
 
 pub shape_of-out-then-is_none : goal.shape_of-out-then-is_none
 shape_of-out-then-is_none c =
@@ -45,13 +45,10 @@ pub returns-then-is_none : goal.returns-then-is_none
 returns-then-is_none c =
     let ref = c.args.reference.now in
     let alt = c.args.alt.now in
-    let n = sym c.is_none.ensures ∙ c.if-is_none.true in (
-      omega (arith, none-size ref alt n, next (goal.at.returns-then-is_none c).After-after_variant-next),
-      segment-put-none ref alt _ _ c.requires.1 _ (one_more alt n) (omega arith) _ c.put_variants.ensures _ c.put_variant.ensures n,
-    )
+    let n = sym c.is_none.ensures ∙ c.if-is_none.true in record { value = omega (arith, none-size ref alt n, next (goal.at.returns-then-is_none c).After-after_variant-next); out_after = segment-put-none ref alt _ _ c.requires.alt_in_bounds _ (one_more alt n) (omega arith) _ c.put_variants.ensures _ c.put_variant.ensures n }
 
 pub count-alleles-requires : goal.count-alleles-requires
-count-alleles-requires c = few-pieces c.args.alt.now (some (goal.at.count-alleles-requires c).Else-is_none) c.requires.0
+count-alleles-requires c = few-pieces c.args.alt.now (some (goal.at.count-alleles-requires c).Else-is_none) c.requires.alt_len_bound
 
 pub overflow_add-alleles : goal.overflow_add-alleles
 overflow_add-alleles c = omega (arith, few (goal.at.overflow_add-alleles c).After-count-alleles)
@@ -59,7 +56,7 @@ overflow_add-alleles c = omega (arith, few (goal.at.overflow_add-alleles c).Afte
 pub put_alleles-requires : goal.put_alleles-requires
 put_alleles-requires c =
     let z = ap length (alleles-bytes c.args.alt.now (some (goal.at.put_alleles-requires c).Else-is_none)) in
-    omega (arith, size (goal.at.put_alleles-requires c).Start, c.requires.1, z, next (goal.at.put_alleles-requires c).After-after_variant-next, c.put_variant-2.auto.out, c.put_variants-2.auto.out)
+    omega (arith, size (goal.at.put_alleles-requires c).Start, c.requires.alt_in_bounds, z, next (goal.at.put_alleles-requires c).After-after_variant-next, c.put_variant-2.auto.out, c.put_variants-2.auto.out)
 
 pub shape_of-out : goal.shape_of-out
 shape_of-out c =
@@ -73,8 +70,8 @@ returns c =
     let z = ap length (alleles-bytes alt e) in
     let w = c.put_alleles.ensures in
     let x = c.put_variant-2.new.1.0 in
-    let last = w.1 ∙ ap (over x c.after_variant-next.result) (alleles-bytes alt e) ∙ ap (λ (n : ℕ). over x n (alleles_of alt)) (next (goal.at.returns c).After-after_variant-next) in (
-      omega (arith, size (goal.at.returns c).Start, w.0, next (goal.at.returns c).After-after_variant-next),
-      segment-put ref alt _ _ c.requires.1 _ (counted-all alt e _ c.count-alleles.ensures) (few (goal.at.returns c).After-count-alleles) _ c.put_variants-2.ensures _
-          c.put_variant-2.ensures _ last,
-    )
+    let last = w.1 ∙ ap (over x c.after_variant-next.result) (alleles-bytes alt e) ∙ ap (λ (n : ℕ). over x n (alleles_of alt)) (next (goal.at.returns c).After-after_variant-next) in record {
+      value = omega (arith, size (goal.at.returns c).Start, w.0, next (goal.at.returns c).After-after_variant-next);
+      out_after = segment-put ref alt _ _ c.requires.alt_in_bounds _ (counted-all alt e _ c.count-alleles.ensures) (few (goal.at.returns c).After-count-alleles) _ c.put_variants-2.ensures _
+          c.put_variant-2.ensures _ last;
+    }

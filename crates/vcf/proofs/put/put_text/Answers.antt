@@ -36,7 +36,7 @@ loop-put-init c = putting-none c.requires _ c.put_segments.auto.out
 pub put_line-put-requires : goal.put_line-put-requires
 put_line-put-requires c =
     let h = c.loop-put.invariant in
-    (putting-placing h c.loop-put-test.true c.far_end-end.ensures, putting-room h c.loop-put-test.true c.far_end-end.ensures)
+    record { placing = putting-placing h c.loop-put-test.true c.far_end-end.ensures; line_in_bounds = putting-room h c.loop-put-test.true c.far_end-end.ensures }
 
 pub loop-put-smaller : goal.loop-put-smaller
 loop-put-smaller c =
@@ -69,4 +69,4 @@ unfolding word_bytes
 returns c =
     putting-end c.loop-put.invariant c.loop-put-test.false _ c.requires
     (c.put_segments.ensures ∙ put-over c.args.out.now 0 _ (readable-room c.requires)) _
-    (rw (behind (goal.at.returns c).At-loop-put) at c.put_gap.ensures.1)
+    (rw (behind (goal.at.returns c).At-loop-put) at c.put_gap.ensures.out_after)

@@ -43,11 +43,11 @@ room c =
 
 pub overflow_add-next : goal.overflow_add-next
 overflow_add-next c =
-    omega (arith, segment-room (meant c.args.letters.now) c.args.out.now c.args.at c.requires.0 c.requires.1)
+    omega (arith, segment-room (meant c.args.letters.now) c.args.out.now c.args.at c.requires.within c.requires.count_in_bounds)
 
 pub loop-k-init : goal.loop-k-init
 loop-k-init c =
-    segment-none _ c.args.out.now c.args.at c.requires.0 c.requires.1 c.wide-variants.ensures.0 c.put_variants.auto.out
+    segment-none _ c.args.out.now c.args.at c.requires.within c.requires.count_in_bounds c.wide-variants.ensures.0 c.put_variants.auto.out
 
 pub overflow_add-first : goal.overflow_add-first
 overflow_add-first c = omega (arith, number (goal.at.overflow_add-first c).In-loop-k)
@@ -81,5 +81,5 @@ shape_of-out c = same (goal.at.shape_of-out c).At-loop-k
 
 pub returns : goal.returns
 returns c =
-    segment-end _ c.args.out.now c.args.at c.requires.0 c.requires.1
-    c.wide-variants.ensures c.put_variants.ensures c.loop-k.invariant c.loop-k-test.false
+    let whole = segment-end _ c.args.out.now c.args.at c.requires.within c.requires.count_in_bounds
+    c.wide-variants.ensures c.put_variants.ensures c.loop-k.invariant c.loop-k-test.false in record { value = whole.0; out_after = whole.1 }

@@ -30,12 +30,12 @@ place c =
 
 pub loop-segment-init : goal.loop-segment-init
 loop-segment-init c =
-    segments-none _ c.requires.0 (rw c.put_segments.auto.out c.requires.1)
+    segments-none _ c.requires.cases (rw c.put_segments.auto.out c.requires.counts_in_bounds)
 
 pub put_segment-letter-requires : goal.put_segment-letter-requires
 put_segment-letter-requires c =
     let i = c.loop-segment.invariant in
-    (matched-within i.matched c.loop-segment-test.true, rw (place (goal.at.put_segment-letter-requires c).After-text_bytes-at) (segments-room i c.loop-segment-test.true))
+    record { within = matched-within i.matched c.loop-segment-test.true; count_in_bounds = rw (place (goal.at.put_segment-letter-requires c).After-text_bytes-at) (segments-room i c.loop-segment-test.true) }
 
 pub overflow_add-variant : goal.overflow_add-variant
 overflow_add-variant c =
@@ -52,6 +52,6 @@ shape_of-out c = same (goal.at.shape_of-out c).At-loop-segment
 pub returns : goal.returns
 unfolding needed word_bytes
 returns c =
-    let room : first_segment ≤ length c.args.out.now = omega (arith, c.requires.1) in
+    let room : first_segment ≤ length c.args.out.now = omega (arith, c.requires.counts_in_bounds) in
     text-over _ _ _ _ room (c.put_segments.ensures ∙ put-over _ 0 _ room)
     (segments-end c.loop-segment.invariant c.loop-segment-test.false)

@@ -13,7 +13,7 @@ returns-then-count-eq0 c = sym (segment-empty _ _ _ _ c.wide-count.ensures.0 _ c
 
 pub loop-k-init : goal.loop-k-init
 loop-k-init c =
-    accepted-none _ _ _ _ c.wide-count.ensures.0 c.if-count-eq0.false c.requires.1
+    accepted-none _ _ _ _ c.wide-count.ensures.0 c.if-count-eq0.false c.requires.within
 
 pub variant_given-requires : goal.variant_given-requires
 variant_given-requires c = passing-behind c.loop-k.invariant.passing c.loop-k-test.true

@@ -13,7 +13,7 @@ pub loop-segment-init : goal.loop-segment-init
 loop-segment-init c = accepted-none c.requires
 
 pub segment_given-requires : goal.segment_given-requires
-segment_given-requires c = (c.loop-segment-test.true, matched-within c.loop-segment.invariant.matched c.loop-segment-test.true)
+segment_given-requires c = record { segment_in_bounds = c.loop-segment-test.true; within = matched-within c.loop-segment.invariant.matched c.loop-segment-test.true }
 
 pub returns-in-Refused : goal.returns-in-Refused
 returns-in-Refused c =

@@ -44,12 +44,12 @@ fitting c = record { matching = matching (goal.at.Else-needed-gt-GREATEST_STRETC
 pub returns-then-not-counts_sum : goal.returns-then-not-counts_sum
 returns-then-not-counts_sum c =
     let e = sym c.counts_sum.ensures ∙ not-true _ c.if-not-counts_sum.true-raw in
-    refused-leaves _ c.refused_at_0.ensures (counts-refused _ _ _ _ e)
+    let whole = refused-leaves _ c.refused_at_0.ensures (counts-refused _ _ _ _ e) in record { answer = whole.0; buffer = whole.1 }
 
 pub returns-then-not-lengths_sum : goal.returns-then-not-lengths_sum
 returns-then-not-lengths_sum c =
     let e = sym c.lengths_sum.ensures ∙ not-true _ c.if-not-lengths_sum.true-raw in
-    refused-leaves _ c.refused_at_0-then-not-lengths_sum.ensures (lengths-refused (meant c.args.letters.now) _ _ _ (rw (meant-length c.args.letters.now) e))
+    let whole = refused-leaves _ c.refused_at_0-then-not-lengths_sum.ensures (lengths-refused (meant c.args.letters.now) _ _ _ (rw (meant-length c.args.letters.now) e)) in record { answer = whole.0; buffer = whole.1 }
 
 pub returns-then-needed-gt-GREATEST_STRETCH : goal.returns-then-needed-gt-GREATEST_STRETCH
 unfolding needed
@@ -57,7 +57,7 @@ returns-then-needed-gt-GREATEST_STRETCH c =
     let n = needed (meant c.args.letters.now) c.args.lengths.now c.args.counts.now in
     let same = same-need (goal.at.returns-then-needed-gt-GREATEST_STRETCH c).Start in
     let long : greatest_stretch < n = omega (arith, c.text_bytes-needed.ensures, c.if-needed-gt-GREATEST_STRETCH.true) in
-    refused-leaves _ c.refused_at_0-then-needed-gt-GREATEST_STRETCH.ensures (long-refused _ (matching (goal.at.returns-then-needed-gt-GREATEST_STRETCH c).Else-not-lengths_sum) (lt-leb n greatest_stretch long))
+    let whole = refused-leaves _ c.refused_at_0-then-needed-gt-GREATEST_STRETCH.ensures (long-refused _ (matching (goal.at.returns-then-needed-gt-GREATEST_STRETCH c).Else-not-lengths_sum) (lt-leb n greatest_stretch long)) in record { answer = whole.0; buffer = whole.1 }
 
 pub segments_given-requires : goal.segments_given-requires
 segments_given-requires c = matching (goal.at.segments_given-requires c).Else-not-lengths_sum
@@ -65,20 +65,20 @@ segments_given-requires c = matching (goal.at.segments_given-requires c).Else-no
 pub returns-in-Refused : goal.returns-in-Refused
 returns-in-Refused c =
     let e = sym c.segments_given.ensures ∙ ap told_amount c.in-Refused.is in
-    refused-leaves _ refl (given-refused _ (fitting (goal.at.returns-in-Refused c).Else-needed-gt-GREATEST_STRETCH) _ _ e)
+    let whole = refused-leaves _ refl (given-refused _ (fitting (goal.at.returns-in-Refused c).Else-needed-gt-GREATEST_STRETCH) _ _ e) in record { answer = whole.0; buffer = whole.1 }
 
 pub returns-then-out-needed : goal.returns-then-out-needed
 returns-then-out-needed c =
     let e = sym c.segments_given.ensures ∙ ap told_amount c.in_default.is in
-    refused-leaves _ c.refused_at_0-then-out-needed.ensures
-    (room-refused _ (fitting (goal.at.returns-then-out-needed c).Else-needed-gt-GREATEST_STRETCH) e (rw (← size (goal.at.returns-then-out-needed c).Else-needed-gt-GREATEST_STRETCH) c.if-out-needed.true))
+    let whole = refused-leaves _ c.refused_at_0-then-out-needed.ensures
+    (room-refused _ (fitting (goal.at.returns-then-out-needed c).Else-needed-gt-GREATEST_STRETCH) e (rw (← size (goal.at.returns-then-out-needed c).Else-needed-gt-GREATEST_STRETCH) c.if-out-needed.true)) in record { answer = whole.0; buffer = whole.1 }
 
 pub put_text-requires : goal.put_text-requires
 put_text-requires c =
-    ((fitting (goal.at.put_text-requires c).Else-needed-gt-GREATEST_STRETCH).matching, rw (← size (goal.at.put_text-requires c).Else-needed-gt-GREATEST_STRETCH) c.if-out-needed.false)
+    record { cases = (fitting (goal.at.put_text-requires c).Else-needed-gt-GREATEST_STRETCH).matching; counts_in_bounds = rw (← size (goal.at.put_text-requires c).Else-needed-gt-GREATEST_STRETCH) c.if-out-needed.false }
 
 pub returns : goal.returns
 returns c =
     let e = sym c.segments_given.ensures ∙ ap told_amount c.in_default.is in
     let n = size (goal.at.returns c).Else-needed-gt-GREATEST_STRETCH in
-    rw (← n) at (accepted-leaves (fitting (goal.at.returns c).Else-needed-gt-GREATEST_STRETCH) _ e (rw (← n) c.if-out-needed.false) c.put_text.ensures)
+    let whole = rw (← n) at (accepted-leaves (fitting (goal.at.returns c).Else-needed-gt-GREATEST_STRETCH) _ e (rw (← n) c.if-out-needed.false) c.put_text.ensures) in record { answer = whole.0; buffer = whole.1 }

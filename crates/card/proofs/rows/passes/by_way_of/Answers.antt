@@ -13,11 +13,11 @@ use Rattle.card.proofs.rows.passes.by_way_of.Goals.{In-Marked}
 found : (c : In-Marked)
     → Accepted c.args.pattern.now c.args.stretch.now c.args.marks.now c.in-Marked.segments c.in-Marked.state.bits
 found c =
-    of-accepted _ _ c.args.marks.now c.requires _ _ _ _ (sym c.through.ensures.0 ∙ ap told_sought c.in-Marked.is)
+    of-accepted _ _ c.args.marks.now c.requires _ _ _ _ (sym c.through.ensures.result_value ∙ ap told_sought c.in-Marked.is)
 
 pub slice_bounds-first_end-end : goal.slice_bounds-first_end-end
 slice_bounds-first_end-end c =
-    of_room _ _ c.args.marks.now c.requires _ _ (found (goal.at.slice_bounds-first_end-end c).In-Marked) _ c.through.ensures.1
+    of_room _ _ c.args.marks.now c.requires _ _ (found (goal.at.slice_bounds-first_end-end c).In-Marked) _ c.through.ensures.marks_after
 
 pub slice_bounds-first_end-end-in-Marked : goal.slice_bounds-first_end-end-in-Marked
 slice_bounds-first_end-end-in-Marked c = simp length-take (omega (arith, slice-reshare-prefix-first-end (goal.at.slice_bounds-first_end-end-in-Marked c).In-Marked))
@@ -29,11 +29,11 @@ first_end-first-requires c =
 pub told-requires : goal.told-requires
 told-requires c =
     of_zero c.args.pattern.now c.args.stretch.now c.args.marks.now c.requires _ _ (found (goal.at.told-requires c).In-Marked) _
-    c.through.ensures.1 _ c.first_end-first.ensures
+    c.through.ensures.marks_after _ c.first_end-first.ensures
 
 pub returns-in-Refused : goal.returns-in-Refused
 returns-in-Refused c =
-    let wrong = sym c.through.ensures.0 ∙ ap told_sought c.in-Refused.is in
+    let wrong = sym c.through.ensures.result_value ∙ ap told_sought c.in-Refused.is in
     ap rowed (sym (of-refused _ _ c.args.marks.now c.requires _ _ wrong))
 
 pub returns-in-Marked : goal.returns-in-Marked

@@ -9,9 +9,9 @@ code-requires c =
 
 pub returns-in-Refused : goal.returns-in-Refused
 returns-in-Refused c =
-    form-not _ _ _ _ _ _ c.feed.ensures _ c.in-Refused.is _ c.code.ensures
+    let whole = form-not _ _ _ _ _ _ c.feed.ensures _ c.in-Refused.is _ c.code.ensures in record { value = whole.0; block_after = whole.1 }
 
 pub returns-in-Next : goal.returns-in-Next
 returns-in-Next c =
-    form-met _ _ _ _ c.args.block.now _ c.feed.ensures _ _ _ _ c.in-Next.is
-    c.two.ensures
+    let whole = form-met _ _ _ _ c.args.block.now _ c.feed.ensures _ _ _ _ c.in-Next.is
+    c.two.ensures in record { value = whole.0; block_after = whole.1 }

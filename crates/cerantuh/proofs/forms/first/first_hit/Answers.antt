@@ -9,14 +9,14 @@ code-requires c =
 
 pub returns-in-Refused : goal.returns-in-Refused
 returns-in-Refused c =
-    form-not _ _ _ _ _ _ c.first.ensures _ c.in-Refused.is _ c.code.ensures
+    let whole = form-not _ _ _ _ _ _ c.first.ensures _ c.in-Refused.is _ c.code.ensures in record { value = whole.0; block_after = whole.1 }
 
 pub returns-in-Ends : goal.returns-in-Ends
 returns-in-Ends c =
-    form-ends _ _ _ _ c.args.block.now _ c.first.ensures _ _ _ c.in-Ends.is
-    c.two.ensures
+    let whole = form-ends _ _ _ _ c.args.block.now _ c.first.ensures _ _ _ c.in-Ends.is
+    c.two.ensures in record { value = whole.0; block_after = whole.1 }
 
 pub returns-in-None : goal.returns-in-None
 returns-in-None c =
-    form-clear _ _ _ _ c.args.block.now _ c.first.ensures _ _ _ c.in-None.is
-    c.two-in-None.ensures
+    let whole = form-clear _ _ _ _ c.args.block.now _ c.first.ensures _ _ _ c.in-None.is
+    c.two-in-None.ensures in record { value = whole.0; block_after = whole.1 }

@@ -5,11 +5,11 @@ use borrow.Author.Rules.{rules}
 use Rattle.cerantuh.proofs.forms.from.roomless.Goals as goal
 
 pub code-requires : goal.code-requires
-code-requires c = roomless-fits _ Given _ _ _ c.through.ensures.0 _ c.in-Refused.is
+code-requires c = roomless-fits _ Given _ _ _ c.through.ensures.result_value _ c.in-Refused.is
 
 pub returns-in-Refused : goal.returns-in-Refused
 returns-in-Refused c =
-    roomless-not _ Given _ _ _ c.through.ensures.0 _ _ c.in-Refused.is c.code.ensures
+    roomless-not _ Given _ _ _ c.through.ensures.result_value _ _ c.in-Refused.is c.code.ensures
 
 pub returns-in-Marked : goal.returns-in-Marked
-returns-in-Marked c = roomless-met _ Given _ _ _ c.through.ensures.0 _ _ _ _ c.in-Marked.is
+returns-in-Marked c = roomless-met _ Given _ _ _ c.through.ensures.result_value _ _ _ _ c.in-Marked.is

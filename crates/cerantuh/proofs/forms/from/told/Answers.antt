@@ -9,10 +9,10 @@ code-requires c =
     c.requires.1
 
 pub returns-in-Refused : goal.returns-in-Refused
-returns-in-Refused c = told-not _ _ _ _ c.in-Refused.is c.code.ensures
+returns-in-Refused c = let whole = told-not _ _ _ _ c.in-Refused.is c.code.ensures in record { value = whole.0; block_after = whole.1 }
 
 pub returns-in-Marked : goal.returns-in-Marked
 returns-in-Marked c =
-    told-put _ c.args.block.now _ _ _ _ _ _ _ _ c.in-Marked.is c.requires.0 c.put.ensures
+    let whole = told-put _ c.args.block.now _ _ _ _ _ _ _ _ c.in-Marked.is c.requires.0 c.put.ensures
     c.put-in-Marked.ensures
-    c.put-in-Marked-2.ensures c.put-in-Marked-3.ensures
+    c.put-in-Marked-2.ensures c.put-in-Marked-3.ensures in record { value = whole.0; block_after = whole.1 }

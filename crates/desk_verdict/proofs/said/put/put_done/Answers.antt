@@ -8,4 +8,4 @@ use Rattle.desk_verdict.proofs.said.put.put_done.Goals as goal
 pub returns : goal.returns
 unfolding done_line
 returns c =
-    put-fits (put-more (put-more c.put_number-one.ensures c.put_counted-two.ensures) c.put_bytes.ensures)
+    let whole = put-fits (put-more (put-more c.put_number-one.ensures c.put_counted-two.ensures) c.put_bytes.ensures) in record { put = whole.0; fits = whole.1 }

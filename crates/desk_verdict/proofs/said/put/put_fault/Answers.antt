@@ -8,4 +8,4 @@ use Rattle.desk_verdict.proofs.said.put.put_fault.Goals as goal
 pub returns : goal.returns
 unfolding fault_words
 returns c =
-    put-fits (put-more c.put_counted-one.ensures c.put_bytes.ensures)
+    let whole = put-fits (put-more c.put_counted-one.ensures c.put_bytes.ensures) in record { put = whole.0; fits = whole.1 }

@@ -8,4 +8,4 @@ pub returns : goal.returns
 returns c =
     let all = put-more (put-more (put-more c.put_number-one.ensures c.put_counted-two.ensures) c.put_counted-three.ensures)
     c.put_named.ensures in
-    put-fits (hit-put _ _ _ _ c.plus-number.ensures all)
+    let whole = put-fits (hit-put _ _ _ _ c.plus-number.ensures all) in record { put = whole.0; fits = whole.1 }

@@ -8,4 +8,4 @@ use Rattle.desk_verdict.proofs.said.put.put_refused.Goals as goal
 pub returns : goal.returns
 unfolding refused_line
 returns c =
-    put-fits (put-more (put-more c.put_counted-one.ensures c.put_counted-two.ensures) c.put_named.ensures)
+    let whole = put-fits (put-more (put-more c.put_counted-one.ensures c.put_counted-two.ensures) c.put_named.ensures) in record { put = whole.0; fits = whole.1 }

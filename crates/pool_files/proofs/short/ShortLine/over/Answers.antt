@@ -12,32 +12,32 @@ overflow_add-next c =
 pub returns-in-Skip : goal.returns-in-Skip
 returns-in-Skip c =
     let e = sym c.act_of.ensures ∙ c.in-Skip.is in
-    (over-line _ _ _ _ Skip e, over-buffer _ _ _ _ Skip e)
+    record { value = over-line _ _ _ _ Skip e; short_after = over-buffer _ _ _ _ Skip e }
 
 pub returns-in-Keep : goal.returns-in-Keep
 returns-in-Keep c =
     let e = sym c.act_of.ensures ∙ c.in-Keep.is in
-    (c.put.ensures.0 ∙ over-line _ _ _ _ Keep e, c.put.ensures.1 ∙ over-buffer _ _ _ _ Keep e)
+    record { value = c.put.ensures.value ∙ over-line _ _ _ _ Keep e; short_after = c.put.ensures.short_after ∙ over-buffer _ _ _ _ Keep e }
 
 pub returns-in-Name : goal.returns-in-Name
 returns-in-Name c =
     let e = sym c.act_of.ensures ∙ c.in-Name.is in
     let s = c.args.self in
-    (ap (in_field s s.field) c.go_on.ensures ∙ over-line _ _ _ _ Name e, over-buffer _ _ _ _ Name e)
+    record { value = ap (in_field s s.field) c.go_on.ensures ∙ over-line _ _ _ _ Name e; short_after = over-buffer _ _ _ _ Name e }
 
 pub returns-in-Next : goal.returns-in-Next
 returns-in-Next c =
     let e = sym c.act_of.ensures ∙ c.in-Next.is in
     let n = c.wrapping_add_usize.ensures.value in
-    (c.put-in-Next.ensures.0 ∙ next-line _ _ _ _ e n, c.put-in-Next.ensures.1 ∙ next-buffer _ _ _ _ e n)
+    record { value = c.put-in-Next.ensures.value ∙ next-line _ _ _ _ e n; short_after = c.put-in-Next.ensures.short_after ∙ next-buffer _ _ _ _ e n }
 
 pub returns-in-Count : goal.returns-in-Count
 returns-in-Count c =
     let e = sym c.act_of.ensures ∙ c.in-Count.is in
     let s = c.args.self in
-    (ap (tabbed s) c.wrapping_add_usize-in-Count.ensures.value ∙ over-line _ _ _ _ Count e, over-buffer _ _ _ _ Count e)
+    record { value = ap (tabbed s) c.wrapping_add_usize-in-Count.ensures.value ∙ over-line _ _ _ _ Count e; short_after = over-buffer _ _ _ _ Count e }
 
 pub returns-in-Comment : goal.returns-in-Comment
 returns-in-Comment c =
     let e = sym c.act_of.ensures ∙ c.in-Comment.is in
-    (over-line _ _ _ _ Comment e, over-buffer _ _ _ _ Comment e)
+    record { value = over-line _ _ _ _ Comment e; short_after = over-buffer _ _ _ _ Comment e }

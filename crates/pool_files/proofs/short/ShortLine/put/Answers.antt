@@ -6,8 +6,8 @@ use Rattle.pool_files.proofs.short.ShortLine.put.Goals as goal
 
 pub returns-then-short-behind : goal.returns-then-short-behind
 unfolding putting
-returns-then-short-behind c = (sym (rw (le-leb _ _ c.if-short-behind.true)), sym (rw (le-leb _ _ c.if-short-behind.true)))
+returns-then-short-behind c = record { value = sym (rw (le-leb _ _ c.if-short-behind.true)); short_after = sym (rw (le-leb _ _ c.if-short-behind.true)) }
 
 pub returns : goal.returns
 unfolding putting
-returns c = (sym (rw (lt-leb _ _ c.if-short-behind.false)), sym (rw (lt-leb _ _ c.if-short-behind.false)))
+returns c = record { value = sym (rw (lt-leb _ _ c.if-short-behind.false)); short_after = sym (rw (lt-leb _ _ c.if-short-behind.false)) }

@@ -9,7 +9,7 @@ pub overflow_shl-bits : goal.overflow_shl-bits
 overflow_shl-bits c = omega arith
 
 pub loop-k-init : goal.loop-k-init
-loop-k-init c = chain-none c.requires.0 c.looked_through-scanned.ensures
+loop-k-init c = chain-none c.requires.sound_pattern c.looked_through-scanned.ensures
 
 pub offset_bounds-table-k : goal.offset_bounds-table-k
 offset_bounds-table-k c = omega arith
@@ -22,11 +22,11 @@ overflow_shl-bits-in-loop-k c = omega (arith, loop-less (goal.at.overflow_shl-bi
 
 pub loop-k-smaller : goal.loop-k-smaller
 loop-k-smaller c =
-    omega (arith, chain-less c.requires.1.0 c.loop-k.invariant c.loop-k-test.true)
+    omega (arith, chain-less c.requires.borders.0 c.loop-k.invariant c.loop-k-test.true)
 
 pub loop-k-preserved : goal.loop-k-preserved
 loop-k-preserved c =
-    chain_more c.requires.1.0 c.loop-k.invariant c.loop-k-test.true c.requires.0
+    chain_more c.requires.borders.0 c.loop-k.invariant c.loop-k-test.true c.requires.sound_pattern
 
 pub returns : goal.returns
 returns c = chain-all c.looked_through-scanned.ensures c.loop-k.invariant c.loop-k-test.false

@@ -8,14 +8,14 @@ use Rattle.search.proofs.BorderScans.{Scanning, scanning-none, scanning-matched,
 use Rattle.search.proofs.borders.begun.scan.Goals as goal
 
 pub loop-i-init : goal.loop-i-init
-loop-i-init c = scanning-none c.requires.0
+loop-i-init c = scanning-none c.requires.sound_pattern
 
 pub bounds-variant-i : goal.bounds-variant-i
 bounds-variant-i c = omega arith
 
 pub fallback-longest-requires : goal.fallback-longest-requires
 fallback-longest-requires c =
-    scanning-matched c.requires.0 c.requires.1.0 c.loop-i.invariant
+    scanning-matched c.requires.sound_pattern c.requires.borders.0 c.loop-i.invariant
 
 pub offset_bounds-table-m : goal.offset_bounds-table-m
 offset_bounds-table-m c = omega arith

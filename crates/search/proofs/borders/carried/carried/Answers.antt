@@ -9,11 +9,11 @@ loop-rest-init c = walk_none
 
 pub carried_one-one-requires : goal.carried_one-one-requires
 carried_one-one-requires c =
-    (c.requires.0, walk-near c.loop-rest.invariant c.requires.1 c.loop-rest-test.true)
+    record { sound_pattern = c.requires.sound_pattern; q_in_bounds = walk-near c.loop-rest.invariant c.requires.state_bound c.loop-rest-test.true }
 
 pub overflow_add-q : goal.overflow_add-q
 overflow_add-q c =
-    omega (arith, c.requires.0.short, walk-near c.loop-rest.invariant c.requires.1 c.loop-rest-test.true)
+    omega (arith, c.requires.sound_pattern.short, walk-near c.loop-rest.invariant c.requires.state_bound c.loop-rest-test.true)
 
 pub loop-rest-smaller : goal.loop-rest-smaller
 loop-rest-smaller c = omega arith
@@ -28,4 +28,4 @@ loop-rest-preserved c =
 
 pub returns : goal.returns
 returns c =
-    walk-all c.loop-rest.invariant c.requires.1 c.loop-rest-test.false
+    walk-all c.loop-rest.invariant c.requires.state_bound c.loop-rest-test.false

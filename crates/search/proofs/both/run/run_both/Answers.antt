@@ -22,7 +22,7 @@ ahead : (c : In-loop-walked)
 ahead c = omega (arith, c.loop-walked-test.true, c.loop-walked.invariant.0.walk.go.count)
 
 pub loop-walked-init : goal.loop-walked-init
-loop-walked-init c = (uniting-none _ _ _ _ _ _ c.requires.1.1.0, refl)
+loop-walked-init c = (uniting-none _ _ _ _ _ _ c.requires.state_of.1.0, refl)
 
 pub over-requires : goal.over-requires
 over-requires c =
@@ -38,13 +38,13 @@ shape_of-marks-in-Refused c = c.loop-walked.invariant.1
 pub returns-in-Refused : goal.returns-in-Refused
 returns-in-Refused c =
     let wrong = passed-not c.over.ensures.0 c.over.ensures.1 c.in-Refused.is in
-    uniting-refused c.loop-walked.invariant.0 (ahead (goal.at.returns-in-Refused c).In-loop-walked) _ _ wrong
+    let whole = uniting-refused c.loop-walked.invariant.0 (ahead (goal.at.returns-in-Refused c).In-loop-walked) _ _ wrong in record { result_value = whole.0; marks_of = whole.1 }
 
 pub bounds-marks-k : goal.bounds-marks-k
 bounds-marks-k c =
     let own = passed-own c.over.ensures.0 c.over.ensures.1 c.in-To.is in
     let turned = passed-turned c.over.ensures.0 c.over.ensures.1 c.in-To.is in
-    let room = c.requires.1.1.1 in
+    let room = c.requires.state_of.1.1 in
     uniting-room c.loop-walked.invariant.0 own turned (ahead (goal.at.bounds-marks-k c).In-loop-walked) (omega (arith, room, c.loop-walked.invariant.1))
 
 pub overflow_add-ends : goal.overflow_add-ends
@@ -70,7 +70,7 @@ shape_of-marks-in-Refused-end c = c.loop-walked.invariant.1
 pub returns-in-Refused-end : goal.returns-in-Refused-end
 returns-in-Refused-end c =
     let q = c.loop-walked.invariant.0 in
-    uniting-left q (omega (arith, q.walk.go.count)) c.end.ensures c.in-Refused-end.is
+    let whole = uniting-left q (omega (arith, q.walk.go.count)) c.end.ensures c.in-Refused-end.is in record { result_value = whole.0; marks_of = whole.1 }
 
 pub shape_of-marks-in-Sound : goal.shape_of-marks-in-Sound
 shape_of-marks-in-Sound c = c.loop-walked.invariant.1
@@ -78,4 +78,4 @@ shape_of-marks-in-Sound c = c.loop-walked.invariant.1
 pub returns-in-Sound : goal.returns-in-Sound
 returns-in-Sound c =
     let q = c.loop-walked.invariant.0 in
-    uniting-sound q (omega (arith, q.walk.go.count)) c.end.ensures c.in-Sound.is
+    let whole = uniting-sound q (omega (arith, q.walk.go.count)) c.end.ensures c.in-Sound.is in record { result_value = whole.0; marks_of = whole.1 }

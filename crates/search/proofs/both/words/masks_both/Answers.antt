@@ -12,4 +12,4 @@ loop-c-preserved c = laid_more _ _ _ _ _ _ c.loop-c.invariant c.loop-c-test.true
 
 pub returns : goal.returns
 returns c =
-    laid-all _ _ _ _ _ _ c.loop-c.invariant c.loop-c-test.false c.complements-evens.ensures c.complements-odds.ensures
+    let whole = laid-all _ _ _ _ _ _ c.loop-c.invariant c.loop-c-test.false c.complements-evens.ensures c.complements-odds.ensures in record { others = whole.0; others_2 = whole.1 }

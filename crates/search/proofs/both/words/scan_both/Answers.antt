@@ -57,11 +57,11 @@ loop-i-preserved c = (
 pub returns : goal.returns
 returns c =
     let end = c.loop-i-test.false in
-    let i = c.loop-i.invariant in (
-      λ P y.
+    let i = c.loop-i.invariant in record {
+      scanned_by = λ P y.
           let t = i.0 _ refl P y in
-          (turning-all P _ _ _ _ _ _ _ t end, scanning-wrong P _ _ _ _ _ _ t.scanning end),
-      λ P y.
+          (turning-all P _ _ _ _ _ _ _ t end, scanning-wrong P _ _ _ _ _ _ t.scanning end);
+      scanned_by_2 = λ P y.
           let t = i.1 _ refl P y in
-          (turning-all P _ _ _ _ _ _ _ t end, scanning-wrong P _ _ _ _ _ _ t.scanning end),
-    )
+          (turning-all P _ _ _ _ _ _ _ t end, scanning-wrong P _ _ _ _ _ _ t.scanning end);
+    }

@@ -46,7 +46,7 @@ returns-in-Refused-open c =
 pub run-requires : goal.run-requires
 run-requires c =
     let y = entry (goal.at.run-requires c).In_default in
-    let z = read-sound _ _ _ c.read_on-bytes.ensures y.sound in (
+    let z = read-sound _ _ _ c.read_on-bytes.ensures y.sound in let whole = (
       (
         record {
           founded = record { some = z.some; short = z.short; bases = z.bases; holds = masks-short _ _ z.short c.complements-table.ensures };
@@ -55,26 +55,26 @@ run-requires c =
         read-state _ _ _ c.read_on-bytes.ensures y.sound _ y.state,
       ),
       (((opening (goal.at.run-requires c).In-At).begins, omega (arith, y.short)), λ kept. absurd (false≢true (sym kept))),
-    )
+    ) in record { tools = whole.0; begun = whole.1; walk_in_bounds = whole.2 }
 
 pub returns-then-ends-eq0 : goal.returns-then-ends-eq0
 returns-then-ends-eq0 c =
     let y = entry (goal.at.returns-then-ends-eq0 c).In_default in
     let read = read_is _ _ _ c.read_on-bytes.ensures y.sound in
     let told = told-clear _ _ _ _ c.in-Marked.is c.if-ends-eq0.true in
-    let all = (c.run.ensures.0 refl).0 ∙ sym (hit-walk _ _ _ (opening (goal.at.returns-then-ends-eq0 c).In-At) y.short) in
+    let all = (c.run.ensures.result_value refl).0 ∙ sym (hit-walk _ _ _ (opening (goal.at.returns-then-ends-eq0 c).In-At) y.short) in
     sym (first-is _ _ _ _ _ read y _ (sym told ∙ all))
 
 pub overflow_sub-result : goal.overflow_sub-result
 overflow_sub-result c =
-    few-some _ _ _ _ c.in-Marked.is (c.run.ensures.0 refl).1 c.if-ends-eq0.false
+    few-some _ _ _ _ c.in-Marked.is (c.run.ensures.result_value refl).1 c.if-ends-eq0.false
 
 pub returns-in-Refused-run : goal.returns-in-Refused-run
 returns-in-Refused-run c =
     let y = entry (goal.at.returns-in-Refused-run c).In_default in
     let read = read_is _ _ _ c.read_on-bytes.ensures y.sound in
     let told = ap told_hit c.in-Refused-run.is in
-    let all = (c.run.ensures.0 refl).0 ∙ sym (hit-walk _ _ _ (opening (goal.at.returns-in-Refused-run c).In-At) y.short) in
+    let all = (c.run.ensures.result_value refl).0 ∙ sym (hit-walk _ _ _ (opening (goal.at.returns-in-Refused-run c).In-At) y.short) in
     sym (first-is _ _ _ _ _ read y _ (sym told ∙ all))
 
 pub returns-else-ends-eq0 : goal.returns-else-ends-eq0
@@ -82,5 +82,5 @@ returns-else-ends-eq0 c =
     let y = entry (goal.at.returns-else-ends-eq0 c).In_default in
     let read = read_is _ _ _ c.read_on-bytes.ensures y.sound in
     let told = told-ends _ _ _ _ c.in-Marked.is c.if-ends-eq0.false in
-    let all = (c.run.ensures.0 refl).0 ∙ sym (hit-walk _ _ _ (opening (goal.at.returns-else-ends-eq0 c).In-At) y.short) in
+    let all = (c.run.ensures.result_value refl).0 ∙ sym (hit-walk _ _ _ (opening (goal.at.returns-else-ends-eq0 c).In-At) y.short) in
     sym (first-is _ _ _ _ _ read y _ (sym told ∙ all))

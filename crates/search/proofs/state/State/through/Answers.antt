@@ -33,10 +33,10 @@ mark-requires c =
 pub returns-in-Refused : goal.returns-in-Refused
 returns-in-Refused c =
     let wrong = sym c.enter.ensures ∙ ap told_verdict c.in-Refused.is in
-    seek-not _ _ _ _ _ _ _ wrong
+    let whole = seek-not _ _ _ _ _ _ _ wrong in record { result_value = whole.0; marks_after = whole.1 }
 
 pub returns-in-Sound : goal.returns-in-Sound
 returns-in-Sound c =
     let y = entry (goal.at.returns-in-Sound c).In-Sound in
     let read = read_is _ _ _ c.read_on-bytes.ensures y.sound in
-    seek-sound _ _ _ _ c.args.marks.now y _ read _ _ c.mark.ensures
+    let whole = seek-sound _ _ _ _ c.args.marks.now y _ read _ _ c.mark.ensures in record { result_value = whole.0; marks_after = whole.1 }

@@ -16,11 +16,12 @@ pub line-requires : goal.line-requires
 line-requires c = c.loop-at.invariant.reach
 
 pub returns-in-Wrong : goal.returns-in-Wrong
-returns-in-Wrong c = (
-  scanning-wrong c.loop-at.invariant c.loop-at-test.true c.far_end-end.ensures
-      (sym c.line.ensures ∙ c.in-Wrong.is),
-  tt,
-)
+returns-in-Wrong c =
+    record {
+      result_value = scanning-wrong c.loop-at.invariant c.loop-at-test.true c.far_end-end.ensures
+          (sym c.line.ensures ∙ c.in-Wrong.is);
+      starts = tt;
+    }
 
 pub loop-at-smaller : goal.loop-at-smaller
 loop-at-smaller c =
@@ -47,4 +48,4 @@ pub returns : goal.returns
 returns c =
     let h = c.loop-at.invariant in
     let w = c.args.window.now in
-    (scanning-end h c.loop-at-test.false _ (rw (meant-length w) c.gap-whole.ensures), scanning-starts h c.loop-at-test.false)
+    record { result_value = scanning-end h c.loop-at-test.false _ (rw (meant-length w) c.gap-whole.ensures); starts = scanning-starts h c.loop-at-test.false }

@@ -42,23 +42,23 @@ pub returns-in-Wrong : goal.returns-in-Wrong
 returns-in-Wrong c =
     rw c.refused-in-Wrong.ensures
     (survey-record _ _ _ _ (P1 (goal.at.returns-in-Wrong c).Else-not-is_placed) (P2 (goal.at.returns-in-Wrong c).Else-not-is_headed) _ c.first_wrong-wrong.ensures c.if-wrong-window.false _
-    (sym c.scan.ensures.0 ∙ ap told_gathered c.in-Wrong.is))
+    (sym c.scan.ensures.result_value ∙ ap told_gathered c.in-Wrong.is))
 
 pub returns-in-Long : goal.returns-in-Long
 returns-in-Long c =
     rw c.refused-in-Long.ensures
     (survey-long _ _ _ _ (P1 (goal.at.returns-in-Long c).Else-not-is_placed) (P2 (goal.at.returns-in-Long c).Else-not-is_headed) _ c.first_wrong-wrong.ensures c.if-wrong-window.false _
-    (sym c.scan.ensures.0 ∙ ap told_gathered c.in-Needs.is) c.in-Long.is)
+    (sym c.scan.ensures.result_value ∙ ap told_gathered c.in-Needs.is) c.in-Long.is)
 
 pub returns-in-Repeated : goal.returns-in-Repeated
 returns-in-Repeated c =
     rw c.refused-in-Repeated.ensures
     (survey-repeated _ _ _ _ (P1 (goal.at.returns-in-Repeated c).Else-not-is_placed) (P2 (goal.at.returns-in-Repeated c).Else-not-is_headed) _ c.first_wrong-wrong.ensures c.if-wrong-window.false _
-    (sym c.scan.ensures.0 ∙ ap told_gathered c.in-Needs.is) _ _
+    (sym c.scan.ensures.result_value ∙ ap told_gathered c.in-Needs.is) _ _
     c.in-Repeated.is)
 
 pub returns-in-Fits : goal.returns-in-Fits
 returns-in-Fits c =
     let is = c.in-Needs.is in
     survey-fits _ _ _ _ (P1 (goal.at.returns-in-Fits c).Else-not-is_placed) (P2 (goal.at.returns-in-Fits c).Else-not-is_headed) _ c.first_wrong-wrong.ensures c.if-wrong-window.false _
-    (sym c.scan.ensures.0 ∙ ap told_gathered is) _ _ _ c.in-Fits.is (rw is at c.scan.ensures.1)
+    (sym c.scan.ensures.result_value ∙ ap told_gathered is) _ _ _ c.in-Fits.is (rw is at c.scan.ensures.starts)

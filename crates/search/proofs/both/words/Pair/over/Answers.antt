@@ -54,13 +54,13 @@ slice_bounds-letters-end c = let w = here (goal.at.slice_bounds-letters-end c).I
 
 pub returns-then-scanned : goal.returns-then-scanned
 returns-then-scanned c =
-    let spelt = (c.scan_both-scanned.ensures.0 _ (ready _ _ _ _ c.requires.0)).1 in
+    let spelt = (c.scan_both-scanned.ensures.scanned_by _ (ready _ _ _ _ c.requires.0)).1 in
     let none = walk-misspelt c.loop-cursor.invariant.0.walk c.loop-cursor-test.true (here (goal.at.returns-then-scanned c).In-At-head) spelt c.if-scanned.true c.misspelt.ensures in
     (sym (segment-passed-not _ _ _ _ _ _ none), sym (segment-passed-not _ _ _ _ _ _ none))
 
 pub returns-in-Refused-compared : goal.returns-in-Refused-compared
 returns-in-Refused-compared c =
-    let spelt = (c.scan_both-scanned.ensures.0 _ (ready _ _ _ _ c.requires.0)).1 in
+    let spelt = (c.scan_both-scanned.ensures.scanned_by _ (ready _ _ _ _ c.requires.0)).1 in
     let none = walk-again c.loop-cursor.invariant.0.walk c.loop-cursor-test.true (here (goal.at.returns-in-Refused-compared c).In-At-head) spelt c.if-scanned.false c.compared.ensures
     c.in-Refused-compared.is in
     (sym (segment-passed-not _ _ _ _ _ _ none), sym (segment-passed-not _ _ _ _ _ _ none))
@@ -72,8 +72,8 @@ loop-cursor-smaller c =
 pub loop-cursor-preserved : goal.loop-cursor-preserved
 loop-cursor-preserved c =
     let q = c.loop-cursor.invariant in
-    let x = c.scan_both-scanned.ensures.0 _ (ready _ _ _ _ c.requires.0) in
-    let y = c.scan_both-scanned.ensures.1 _ (ready _ _ _ _ c.requires.1) in
+    let x = c.scan_both-scanned.ensures.scanned_by _ (ready _ _ _ _ c.requires.0) in
+    let y = c.scan_both-scanned.ensures.scanned_by_2 _ (ready _ _ _ _ c.requires.1) in
     let fits = narrow (goal.at.loop-cursor-preserved c).After-enter in
     let new = ⊎_elim (λ n. walk-new q.0.walk c.loop-cursor-test.true (here (goal.at.loop-cursor-preserved c).In-At-head) x.1 n.1.ensures n.3.given.1)
     (λ n. walk-unsuspected q.0.walk c.loop-cursor-test.true (here (goal.at.loop-cursor-preserved c).In-At-head) x.1 (sym c.suspects.ensures ∙ n.left)) c.if-suspects.branch in

@@ -29,18 +29,18 @@ mark_both-requires c =
     let e = entry (goal.at.mark_both-requires c).In-Sound in
     let y = e.own.sound in
     let z = strand-sound Opposite _ y in
-    let read = read_is Opposite _ _ c.read_on-bytes.ensures y in (
-      (
-        record { some = y.some; short = y.short; bases = y.bases; holds = masks-short _ _ y.short c.masks_both-table.ensures.0 },
+    let read = read_is Opposite _ _ c.read_on-bytes.ensures y in record {
+      founds = (
+        record { some = y.some; short = y.short; bases = y.bases; holds = masks-short _ _ y.short c.masks_both-table.ensures.others },
         record {
           some = z.some;
           short = z.short;
           bases = z.bases;
-          holds = masks-short _ _ z.short (rw read at c.masks_both-table.ensures.1);
+          holds = masks-short _ _ z.short (rw read at c.masks_both-table.ensures.others_2);
         },
-      ),
-      (state-of _ _ e.own.state, rw read at (read-state Opposite _ _ c.read_on-bytes.ensures y _ e.turned), omega (arith, e.own.short)),
-    )
+      );
+      state_of = (state-of _ _ e.own.state, rw read at (read-state Opposite _ _ c.read_on-bytes.ensures y _ e.turned), omega (arith, e.own.short));
+    }
 
 pub returns-in-Refused : goal.returns-in-Refused
 returns-in-Refused c =
