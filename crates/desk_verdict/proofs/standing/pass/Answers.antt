@@ -5,7 +5,7 @@ use Rattle.desk_verdict.proofs.standing.pass.Goals as goal
 
 pub returns-in-Refused : goal.returns-in-Refused
 returns-in-Refused c =
-    let whole = passes-not _ _ _ _ _ _ _ c.through.ensures.0 c.through.ensures.1 _ c.in-Refused.is in record { result_value = whole.0; marks_after = whole.1 }
+    let whole = passes-not _ _ _ _ _ _ _ c.through.ensures.result_value c.through.ensures.marks_after _ c.in-Refused.is in record { result_value = whole.0; marks_after = whole.1 }
 
 pub returns-in-Marked : goal.returns-in-Marked
 returns-in-Marked c =

@@ -12,7 +12,7 @@ slice_bounds-marks-end c =
     c.search_on.ensures.marks_after _ _ _ c.in-Marked.is
 
 pub slice_bounds-put_text-end : goal.slice_bounds-put_text-end
-slice_bounds-put_text-end c = simp length-take (omega (arith, array-share-prefix-marks (goal.at.slice_bounds-put_text-end c).In-Marked))
+slice_bounds-put_text-end c = simp length-take (omega (arith, slice_bounds-marks-end (goal.at.slice_bounds-put_text-end c).In-Marked))
 
 pub returns-in-Refused : goal.returns-in-Refused
 returns-in-Refused c =

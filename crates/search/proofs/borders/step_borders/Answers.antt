@@ -7,7 +7,7 @@ pub carried-sent-requires : goal.carried-sent-requires
 carried-sent-requires c = let (y, good) = c.requires in record { sound_pattern = y.sized; state_bound = y.state.small }
 
 pub begun-fresh-requires : goal.begun-fresh-requires
-begun-fresh-requires c = let (y, good) = c.requires in let whole = (y.sized, (y.holds, good)) in record { sound_pattern = whole.0; borders = whole.1; variant_value = whole.2 }
+begun-fresh-requires c = let (y, good) = c.requires in record { sound_pattern = y.sized; borders = y.holds; variant_value = good }
 
 pub returns : goal.returns
 returns c =

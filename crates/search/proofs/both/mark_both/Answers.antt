@@ -26,10 +26,7 @@ returns-in-Refused c = let whole = into-not _ _ _ _ _ _ (open-not _ (goal.at.ret
 pub run_both-sought-requires : goal.run_both-sought-requires
 run_both-sought-requires c =
     let p = c.requires in
-    let z = opening (goal.at.run_both-sought-requires c).In-At in let whole = (
-      (record { founded = p.0.0; letters = c.classes-letters.ensures }, record { founded = p.0.1; letters = c.classes-letters.ensures }),
-      ((p.1.0, p.1.1), (z.begins, omega (arith, z.first, c.if-stretch-le-SMALL_STRETCH.true))),
-    ) in record { vectors = whole.0; state_of = whole.1; begun = whole.2 }
+    let z = opening (goal.at.run_both-sought-requires c).In-At in record { vectors = (record { founded = p.0.0; letters = c.classes-letters.ensures }, record { founded = p.0.1; letters = c.classes-letters.ensures }); state_of = (p.1.0, p.1.1); begun = (z.begins, omega (arith, z.first, c.if-stretch-le-SMALL_STRETCH.true)) }
 
 pub hand_both-requires : goal.hand_both-requires
 hand_both-requires c =
@@ -45,10 +42,7 @@ returns-then-stretch-le-SMALL_STRETCH c =
 pub run_both-sought-requires-2 : goal.run_both-sought-requires-2
 run_both-sought-requires-2 c =
     let p = c.requires in
-    let z = opening (goal.at.run_both-sought-requires-2 c).In-At in let whole = (
-      (record { founded = p.0.0; letters = c.classes-letters.ensures }, record { founded = p.0.1; letters = c.classes-letters.ensures }),
-      ((p.1.0, p.1.1), (z.begins, omega (arith, p.1.2, z.states, z.first))),
-    ) in record { vectors = whole.0; state_of = whole.1; begun = whole.2 }
+    let z = opening (goal.at.run_both-sought-requires-2 c).In-At in record { vectors = (record { founded = p.0.0; letters = c.classes-letters.ensures }, record { founded = p.0.1; letters = c.classes-letters.ensures }); state_of = (p.1.0, p.1.1); begun = (z.begins, omega (arith, p.1.2, z.states, z.first)) }
 
 pub hand_both-requires-2 : goal.hand_both-requires-2
 hand_both-requires-2 c =

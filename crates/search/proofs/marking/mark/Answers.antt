@@ -28,37 +28,31 @@ returns-in-Refused c = let whole = into-not _ _ _ _ _ _ (open-not _ (goal.at.ret
 pub run-sought-requires : goal.run-sought-requires
 run-sought-requires c =
     let p = c.requires in
-    let z = opening (goal.at.run-sought-requires c).In-At in let whole = (
-      (record { founded = p.0; letters = c.classes-letters.ensures }, p.1),
-      ((z.begins, omega (arith, p.2, z.states, z.first)), λ _. omega (arith, z.first, c.if-stretch-le-SMALL_STRETCH.true)),
-    ) in record { tools = whole.0; begun = whole.1; walk_in_bounds = whole.2 }
+    let z = opening (goal.at.run-sought-requires c).In-At in record { tools = (record { founded = p.0; letters = c.classes-letters.ensures }, p.1); begun = (z.begins, omega (arith, p.2, z.states, z.first)); walk_in_bounds = λ _. omega (arith, z.first, c.if-stretch-le-SMALL_STRETCH.true) }
 
 pub hand-requires : goal.hand-requires
 hand-requires c =
-    let e = c.run-sought.ensures.result_value_2 in
+    let e = c.run-sought.ensures.1 in
     found-enough _ _ [] segments (seen-segments _ _) _ _ (e.1 refl) (e.0 refl) (marks-length _ _)
 
 pub returns-then-stretch-le-SMALL_STRETCH : goal.returns-then-stretch-le-SMALL_STRETCH
 returns-then-stretch-le-SMALL_STRETCH c =
-    let e = c.run-sought.ensures.result_value_2 in
+    let e = c.run-sought.ensures.1 in
     let whole = into-handed _ _ c.args.marks.now segments (seen-segments _ _) _ _
     (e.1 refl) (e.0 refl) (opening (goal.at.returns-then-stretch-le-SMALL_STRETCH c).In-At).whole _ _ c.hand.ensures in record { result_value = whole.0; marks_after = whole.1 }
 
 pub run-sought-requires-2 : goal.run-sought-requires-2
 run-sought-requires-2 c =
     let p = c.requires in
-    let z = opening (goal.at.run-sought-requires-2 c).In-At in let whole = (
-      (record { founded = p.0; letters = c.classes-letters.ensures }, p.1),
-      ((z.begins, omega (arith, p.2, z.states, z.first)), λ _. omega (arith, p.2, z.states, z.first)),
-    ) in record { tools = whole.0; begun = whole.1; walk_in_bounds = whole.2 }
+    let z = opening (goal.at.run-sought-requires-2 c).In-At in record { tools = (record { founded = p.0; letters = c.classes-letters.ensures }, p.1); begun = (z.begins, omega (arith, p.2, z.states, z.first)); walk_in_bounds = λ _. omega (arith, p.2, z.states, z.first) }
 
 pub hand-requires-2 : goal.hand-requires-2
 hand-requires-2 c =
-    let e = c.run-sought-2.ensures.result_value_2 in
+    let e = c.run-sought-2.ensures.1 in
     found-enough _ _ [] segments (seen-segments _ _) _ _ (e.1 refl) (e.0 refl) (marks-length _ _)
 
 pub returns : goal.returns
 returns c =
-    let e = c.run-sought-2.ensures.result_value_2 in
+    let e = c.run-sought-2.ensures.1 in
     let whole = into-handed _ _ c.args.marks.now segments (seen-segments _ _) _ _
     (e.1 refl) (e.0 refl) (opening (goal.at.returns c).In-At).whole _ _ c.hand-2.ensures in record { result_value = whole.0; marks_after = whole.1 }

@@ -21,7 +21,7 @@ ahead : (c : In-loop-walked)
 ahead c = omega (arith, c.loop-walked-test.true, c.loop-walked.invariant.0.walk.go.count)
 
 pub loop-walked-init : goal.loop-walked-init
-loop-walked-init c = (searching-none _ _ _ _ _ _ c.requires.begun.0.0, refl)
+loop-walked-init c = (searching-none _ _ _ _ _ _ c.requires.begun.0, refl)
 
 pub over-requires : goal.over-requires
 over-requires c =
@@ -34,12 +34,12 @@ shape_of-marks-in-Refused c = c.loop-walked.invariant.1
 pub returns-in-Refused : goal.returns-in-Refused
 returns-in-Refused c =
     let wrong = sym c.over.ensures ∙ ap told_passed c.in-Refused.is in
-    let whole = says-refused c.loop-walked.invariant.0 c.requires.begun.0.1 (ahead (goal.at.returns-in-Refused c).In-loop-walked) _ wrong in record { result_value = whole.0; result_value_2 = whole.1; marks_of = whole.2 }
+    let whole = says-refused c.loop-walked.invariant.0 c.requires.begun.1 (ahead (goal.at.returns-in-Refused c).In-loop-walked) _ wrong in record { result_value = whole.0; result_value_2 = whole.1.0; marks_of = whole.1.1 }
 
 pub keep-requires : goal.keep-requires
 keep-requires c =
     let on = sym c.over.ensures ∙ ap told_passed c.in-To.is in
-    let room = c.requires.begun.1 kept in
+    let room = c.requires.walk_in_bounds kept in
     searching-room c.loop-walked.invariant.0 on (ahead (goal.at.keep-requires c).In-loop-walked) (omega (arith, room, c.loop-walked.invariant.1))
 
 pub overflow_add-ends : goal.overflow_add-ends
@@ -63,8 +63,8 @@ returns-then-stop-hit c =
     let w = searching-walk c.loop-walked.invariant.0 on (ahead (goal.at.returns-then-stop-hit c).In-loop-walked) _ is kept _ c.keep.ensures (narrow (goal.at.returns-then-stop-hit c).After-slice_known-1)
     c.past-walked.ensures in
     let z = searching-stopped c.loop-walked.invariant.0 on (ahead (goal.at.returns-then-stop-hit c).In-loop-walked) _ is kept _ c.keep.ensures (narrow (goal.at.returns-then-stop-hit c).After-slice_known-1)
-    c.past-walked.ensures c.requires.begun.0.1 c.if-stop-hit.true in
-    let whole = says-stopped _ _ _ _ _ _ _ c.loop-walked.walked.passed _ _ _ _ z.0 z.1 w.few z.2 z.3 in record { result_value = whole.0; result_value_2 = whole.1; marks_of = whole.2 }
+    c.past-walked.ensures c.requires.begun.1 c.if-stop-hit.true in
+    let whole = says-stopped _ _ _ _ _ _ _ c.loop-walked.walked.passed _ _ _ _ z.0 z.1 w.few z.2 z.3 in record { result_value = whole.0; result_value_2 = whole.1.0; marks_of = whole.1.1 }
 
 pub loop-walked-smaller : goal.loop-walked-smaller
 loop-walked-smaller c =
@@ -86,8 +86,8 @@ shape_of-marks-in-Refused-end c = c.loop-walked.invariant.1
 pub returns-in-Refused-end : goal.returns-in-Refused-end
 returns-in-Refused-end c =
     let q = c.loop-walked.invariant.0 in
-    let whole = says-left q c.requires.begun.0.1 (omega (arith, q.walk.go.count)) c.end.ensures _
-    c.in-Refused-end.is in record { result_value = whole.0; result_value_2 = whole.1; marks_of = whole.2 }
+    let whole = says-left q c.requires.begun.1 (omega (arith, q.walk.go.count)) c.end.ensures _
+    c.in-Refused-end.is in record { result_value = whole.0; result_value_2 = whole.1.0; marks_of = whole.1.1 }
 
 pub shape_of-marks-in-Sound : goal.shape_of-marks-in-Sound
 shape_of-marks-in-Sound c = c.loop-walked.invariant.1
@@ -95,5 +95,5 @@ shape_of-marks-in-Sound c = c.loop-walked.invariant.1
 pub returns-in-Sound : goal.returns-in-Sound
 returns-in-Sound c =
     let q = c.loop-walked.invariant.0 in
-    let whole = says-sound q c.requires.begun.0.1 (omega (arith, q.walk.go.count)) c.end.ensures
-    c.in-Sound.is _ refl in record { result_value = whole.0; result_value_2 = whole.1; marks_of = whole.2 }
+    let whole = says-sound q c.requires.begun.1 (omega (arith, q.walk.go.count)) c.end.ensures
+    c.in-Sound.is _ refl in record { result_value = whole.0; result_value_2 = whole.1.0; marks_of = whole.1.1 }

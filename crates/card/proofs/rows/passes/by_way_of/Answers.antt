@@ -20,7 +20,7 @@ slice_bounds-first_end-end c =
     of_room _ _ c.args.marks.now c.requires _ _ (found (goal.at.slice_bounds-first_end-end c).In-Marked) _ c.through.ensures.marks_after
 
 pub slice_bounds-first_end-end-in-Marked : goal.slice_bounds-first_end-end-in-Marked
-slice_bounds-first_end-end-in-Marked c = simp length-take (omega (arith, slice-reshare-prefix-first-end (goal.at.slice_bounds-first_end-end-in-Marked c).In-Marked))
+slice_bounds-first_end-end-in-Marked c = simp length-take (omega (arith, slice_bounds-first_end-end (goal.at.slice_bounds-first_end-end-in-Marked c).In-Marked))
 
 pub first_end-first-requires : goal.first_end-first-requires
 first_end-first-requires c =

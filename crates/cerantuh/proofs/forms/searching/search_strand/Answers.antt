@@ -8,7 +8,7 @@ use Rattle.cerantuh.proofs.SearchForms.{form-short, form-room, searched-fits}
 use Rattle.cerantuh.proofs.forms.searching.search_strand.Goals as goal
 
 pub returns-then-block-lt-SEARCH_BLOCK : goal.returns-then-block-lt-SEARCH_BLOCK
-returns-then-block-lt-SEARCH_BLOCK c = let whole = form-short _ _ _ _ _ _ _ c.if-block-lt-SEARCH_BLOCK.true c.roomless.ensures in record { value = whole.0; marks_after = whole.1; block_after = whole.2 }
+returns-then-block-lt-SEARCH_BLOCK c = let whole = form-short _ _ _ _ _ _ _ c.if-block-lt-SEARCH_BLOCK.true c.roomless.ensures in record { value = whole.0; marks_after = whole.1.0; block_after = whole.1.1 }
 
 pub told-requires : goal.told-requires
 told-requires c =
@@ -31,11 +31,11 @@ returns-in-Bits c =
     let Q : List ℕ = on_strand c.args.strand c.args.pattern.now in
     let whole = form-room (marked Q) (sums_of Q) c.args.pattern.now c.args.stretch.now c.args.marks.now c.args.block.now c.by_bits-searched.result
     c.by_bits-searched.ensures.result_value _ _ _
-    c.if-block-lt-SEARCH_BLOCK.false c.by_bits-searched.ensures.marks_after c.told.ensures in record { value = whole.0; marks_after = whole.1; block_after = whole.2 }
+    c.if-block-lt-SEARCH_BLOCK.false c.by_bits-searched.ensures.marks_after c.told.ensures in record { value = whole.0; marks_after = whole.1.0; block_after = whole.1.1 }
 
 pub returns-in-Borders : goal.returns-in-Borders
 returns-in-Borders c =
     let Q : List ℕ = on_strand c.args.strand c.args.pattern.now in
     let whole = form-room (marked Q) (sums_of Q) c.args.pattern.now c.args.stretch.now c.args.marks.now c.args.block.now c.by_borders-searched.result
     c.by_borders-searched.ensures.result_value _ _ _
-    c.if-block-lt-SEARCH_BLOCK.false c.by_borders-searched.ensures.marks_after c.told-in-Borders.ensures in record { value = whole.0; marks_after = whole.1; block_after = whole.2 }
+    c.if-block-lt-SEARCH_BLOCK.false c.by_borders-searched.ensures.marks_after c.told-in-Borders.ensures in record { value = whole.0; marks_after = whole.1.0; block_after = whole.1.1 }

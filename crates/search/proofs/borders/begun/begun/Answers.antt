@@ -18,15 +18,15 @@ pub bounds-table-k : goal.bounds-table-k
 bounds-table-k c = omega arith
 
 pub overflow_shl-bits-in-loop-k : goal.overflow_shl-bits-in-loop-k
-overflow_shl-bits-in-loop-k c = omega (arith, loop-less (goal.at.overflow_shl-bits-in-loop-k c).After-k-1)
+overflow_shl-bits-in-loop-k c = omega (arith, loop-k-smaller (goal.at.overflow_shl-bits-in-loop-k c).After-k-1)
 
 pub loop-k-smaller : goal.loop-k-smaller
 loop-k-smaller c =
-    omega (arith, chain-less c.requires.borders.0 c.loop-k.invariant c.loop-k-test.true)
+    omega (arith, chain-less c.requires.borders c.loop-k.invariant c.loop-k-test.true)
 
 pub loop-k-preserved : goal.loop-k-preserved
 loop-k-preserved c =
-    chain_more c.requires.borders.0 c.loop-k.invariant c.loop-k-test.true c.requires.sound_pattern
+    chain_more c.requires.borders c.loop-k.invariant c.loop-k-test.true c.requires.sound_pattern
 
 pub returns : goal.returns
 returns c = chain-all c.looked_through-scanned.ensures c.loop-k.invariant c.loop-k-test.false

@@ -18,7 +18,7 @@ overflow_sub-k c =
     ending-some c.requires.sound_pattern c.loop-k.invariant c.alike_suffix.ensures c.loop-k-test.true-raw
 
 pub loop-k-smaller : goal.loop-k-smaller
-loop-k-smaller c = omega (arith, sub-k (goal.at.loop-k-smaller c).In-loop-k)
+loop-k-smaller c = omega (arith, overflow_sub-k (goal.at.loop-k-smaller c).In-loop-k)
 
 pub loop-k-preserved : goal.loop-k-preserved
 loop-k-preserved c =

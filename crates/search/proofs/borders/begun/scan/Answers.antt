@@ -15,7 +15,7 @@ bounds-variant-i c = omega arith
 
 pub fallback-longest-requires : goal.fallback-longest-requires
 fallback-longest-requires c =
-    scanning-matched c.requires.sound_pattern c.requires.borders.0 c.loop-i.invariant
+    scanning-matched c.requires.sound_pattern c.requires.borders c.loop-i.invariant
 
 pub offset_bounds-table-m : goal.offset_bounds-table-m
 offset_bounds-table-m c = omega arith

@@ -22,33 +22,30 @@ ahead : (c : In-loop-walked)
 ahead c = omega (arith, c.loop-walked-test.true, c.loop-walked.invariant.0.walk.go.count)
 
 pub loop-walked-init : goal.loop-walked-init
-loop-walked-init c = (uniting-none _ _ _ _ _ _ c.requires.state_of.1.0, refl)
+loop-walked-init c = (uniting-none _ _ _ _ _ _ c.requires.begun.0, refl)
 
 pub over-requires : goal.over-requires
 over-requires c =
     let p = c.requires in
-    let q = c.loop-walked.invariant.0 in (
-      (p.0.0, uniting-own q p.0.0.founded.some p.1.0.0),
-      (p.0.1, uniting-turned q p.0.1.founded.some p.1.0.1),
-    )
+    let q = c.loop-walked.invariant.0 in record { vectors = (p.0.0, uniting-own q p.0.0.founded.some p.1.0.0); vectors_2 = (p.0.1, uniting-turned q p.0.1.founded.some p.1.0.1) }
 
 pub shape_of-marks-in-Refused : goal.shape_of-marks-in-Refused
 shape_of-marks-in-Refused c = c.loop-walked.invariant.1
 
 pub returns-in-Refused : goal.returns-in-Refused
 returns-in-Refused c =
-    let wrong = passed-not c.over.ensures.0 c.over.ensures.1 c.in-Refused.is in
+    let wrong = passed-not c.over.ensures.result_value c.over.ensures.result_value_2 c.in-Refused.is in
     let whole = uniting-refused c.loop-walked.invariant.0 (ahead (goal.at.returns-in-Refused c).In-loop-walked) _ _ wrong in record { result_value = whole.0; marks_of = whole.1 }
 
 pub bounds-marks-k : goal.bounds-marks-k
 bounds-marks-k c =
-    let own = passed-own c.over.ensures.0 c.over.ensures.1 c.in-To.is in
-    let turned = passed-turned c.over.ensures.0 c.over.ensures.1 c.in-To.is in
-    let room = c.requires.state_of.1.1 in
+    let own = passed-own c.over.ensures.result_value c.over.ensures.result_value_2 c.in-To.is in
+    let turned = passed-turned c.over.ensures.result_value c.over.ensures.result_value_2 c.in-To.is in
+    let room = c.requires.begun.1 in
     uniting-room c.loop-walked.invariant.0 own turned (ahead (goal.at.bounds-marks-k c).In-loop-walked) (omega (arith, room, c.loop-walked.invariant.1))
 
 pub overflow_add-ends : goal.overflow_add-ends
-overflow_add-ends c = let m = (loop-again (goal.at.overflow_add-ends c).After-past-walked).0.walk in omega (arith, m.few)
+overflow_add-ends c = let m = (loop-walked-preserved (goal.at.overflow_add-ends c).After-past-walked).0.walk in omega (arith, m.few)
 
 pub loop-walked-smaller : goal.loop-walked-smaller
 loop-walked-smaller c =
@@ -57,10 +54,10 @@ loop-walked-smaller c =
 pub loop-walked-preserved : goal.loop-walked-preserved
 loop-walked-preserved c =
     let r = c.next-1.given in
-    let own = passed-own c.over.ensures.0 c.over.ensures.1 r.1 in
-    let turned = passed-turned c.over.ensures.0 c.over.ensures.1 r.1 in
+    let own = passed-own c.over.ensures.result_value c.over.ensures.result_value_2 r.1 in
+    let turned = passed-turned c.over.ensures.result_value c.over.ensures.result_value_2 r.1 in
     let mark = byte-mark (r.0.1.1.1.0 || r.0.1.1.1.1.0) in (
-      uniting-more c.loop-walked.invariant.0 own turned (ahead (goal.at.loop-walked-preserved c).In-loop-walked) _ mark (slice-write-marks (goal.at.loop-walked-preserved c).In-To) (narrow (goal.at.loop-walked-preserved c).After-slice_known-1) c.past-walked.ensures,
+      uniting-more c.loop-walked.invariant.0 own turned (ahead (goal.at.loop-walked-preserved c).In-loop-walked) _ mark (bounds-marks-k (goal.at.loop-walked-preserved c).In-To) (narrow (goal.at.loop-walked-preserved c).After-slice_known-1) c.past-walked.ensures,
       length-set c.loop-walked.marks c.loop-walked.walked.passed _ ∙ c.loop-walked.invariant.1,
     )
 

@@ -32,25 +32,26 @@ pub run-requires : goal.run-requires
 run-requires c =
     let y = entry (goal.at.run-requires c).In_default in
     let z = read-sound _ _ _ c.read_on-bytes.ensures y.sound in
-    let w = lone-begins c.args.segment.now c.lone-walk.ensures in let whole = (
-      (
+    let w = lone-begins c.args.segment.now c.lone-walk.ensures in record {
+      tools = (
         record {
           founded = record { some = z.some; short = z.short; bases = z.bases; holds = masks-short _ _ z.short c.complements-table.ensures };
           letters = c.classes-letters.ensures;
         },
         read-state _ _ _ c.read_on-bytes.ensures y.sound _ y.state,
-      ),
-      ((w.0, omega (arith, w.1)), λ _. omega (arith, w.1)),
-    ) in record { tools = whole.0; begun = whole.1; walk_in_bounds = whole.2 }
+      );
+      begun = (w.0, omega (arith, w.1));
+      walk_in_bounds = λ _. omega (arith, w.1);
+    }
 
 pub returns-in-Refused-run : goal.returns-in-Refused-run
 returns-in-Refused-run c =
     let y = entry (goal.at.returns-in-Refused-run c).In_default in
     let read = read_is _ _ _ c.read_on-bytes.ensures y.sound in
-    sym (fed-refused _ _ _ _ _ read y c.lone-walk.ensures (c.run.ensures.result_value_2.0 refl) _ _ (ap told_sought c.in-Refused-run.is))
+    sym (fed-refused _ _ _ _ _ read y c.lone-walk.ensures (c.run.ensures.result_value_2 refl) _ _ (ap told_sought c.in-Refused-run.is))
 
 pub returns-in-Marked : goal.returns-in-Marked
 returns-in-Marked c =
     let y = entry (goal.at.returns-in-Marked c).In_default in
     let read = read_is _ _ _ c.read_on-bytes.ensures y.sound in
-    sym (fed-next _ _ _ _ _ read y c.lone-walk.ensures (c.run.ensures.result_value_2.0 refl) _ _ _ _ (ap told_sought c.in-Marked.is))
+    sym (fed-next _ _ _ _ _ read y c.lone-walk.ensures (c.run.ensures.result_value_2 refl) _ _ _ _ (ap told_sought c.in-Marked.is))

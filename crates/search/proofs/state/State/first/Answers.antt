@@ -46,16 +46,17 @@ returns-in-Refused-open c =
 pub run-requires : goal.run-requires
 run-requires c =
     let y = entry (goal.at.run-requires c).In_default in
-    let z = read-sound _ _ _ c.read_on-bytes.ensures y.sound in let whole = (
-      (
+    let z = read-sound _ _ _ c.read_on-bytes.ensures y.sound in record {
+      tools = (
         record {
           founded = record { some = z.some; short = z.short; bases = z.bases; holds = masks-short _ _ z.short c.complements-table.ensures };
           letters = c.classes-letters.ensures;
         },
         read-state _ _ _ c.read_on-bytes.ensures y.sound _ y.state,
-      ),
-      (((opening (goal.at.run-requires c).In-At).begins, omega (arith, y.short)), λ kept. absurd (false≢true (sym kept))),
-    ) in record { tools = whole.0; begun = whole.1; walk_in_bounds = whole.2 }
+      );
+      begun = ((opening (goal.at.run-requires c).In-At).begins, omega (arith, y.short));
+      walk_in_bounds = λ kept. absurd (false≢true (sym kept));
+    }
 
 pub returns-then-ends-eq0 : goal.returns-then-ends-eq0
 returns-then-ends-eq0 c =

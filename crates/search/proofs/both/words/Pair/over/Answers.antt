@@ -29,7 +29,7 @@ here c = head-is _ _ _ _ (sym c.head.ensures ∙ ap told_part c.in-At-head.is)
 pub returns-in-Refused : goal.returns-in-Refused
 returns-in-Refused c =
     let none = walk-not _ _ c.enter.ensures c.in-Refused.is in
-    (sym (segment-passed-not _ _ _ _ _ _ none), sym (segment-passed-not _ _ _ _ _ _ none))
+    record { result_value = sym (segment-passed-not _ _ _ _ _ _ none); result_value_2 = sym (segment-passed-not _ _ _ _ _ _ none) }
 
 pub loop-cursor-init : goal.loop-cursor-init
 loop-cursor-init c =
@@ -41,7 +41,7 @@ loop-cursor-init c =
 pub returns-in-Refused-head : goal.returns-in-Refused-head
 returns-in-Refused-head c =
     let none = walk-cut c.loop-cursor.invariant.0.walk c.loop-cursor-test.true c.head.ensures c.in-Refused-head.is in
-    (sym (segment-passed-not _ _ _ _ _ _ none), sym (segment-passed-not _ _ _ _ _ _ none))
+    record { result_value = sym (segment-passed-not _ _ _ _ _ _ none); result_value_2 = sym (segment-passed-not _ _ _ _ _ _ none) }
 
 pub slice_bounds-letters-count : goal.slice_bounds-letters-count
 slice_bounds-letters-count c = let w = here (goal.at.slice_bounds-letters-count c).In-At-head in omega (arith, w.starts, w.ends)
@@ -54,16 +54,16 @@ slice_bounds-letters-end c = let w = here (goal.at.slice_bounds-letters-end c).I
 
 pub returns-then-scanned : goal.returns-then-scanned
 returns-then-scanned c =
-    let spelt = (c.scan_both-scanned.ensures.scanned_by _ (ready _ _ _ _ c.requires.0)).1 in
+    let spelt = (c.scan_both-scanned.ensures.scanned_by _ (ready _ _ _ _ c.requires.vectors)).1 in
     let none = walk-misspelt c.loop-cursor.invariant.0.walk c.loop-cursor-test.true (here (goal.at.returns-then-scanned c).In-At-head) spelt c.if-scanned.true c.misspelt.ensures in
-    (sym (segment-passed-not _ _ _ _ _ _ none), sym (segment-passed-not _ _ _ _ _ _ none))
+    record { result_value = sym (segment-passed-not _ _ _ _ _ _ none); result_value_2 = sym (segment-passed-not _ _ _ _ _ _ none) }
 
 pub returns-in-Refused-compared : goal.returns-in-Refused-compared
 returns-in-Refused-compared c =
-    let spelt = (c.scan_both-scanned.ensures.scanned_by _ (ready _ _ _ _ c.requires.0)).1 in
+    let spelt = (c.scan_both-scanned.ensures.scanned_by _ (ready _ _ _ _ c.requires.vectors)).1 in
     let none = walk-again c.loop-cursor.invariant.0.walk c.loop-cursor-test.true (here (goal.at.returns-in-Refused-compared c).In-At-head) spelt c.if-scanned.false c.compared.ensures
     c.in-Refused-compared.is in
-    (sym (segment-passed-not _ _ _ _ _ _ none), sym (segment-passed-not _ _ _ _ _ _ none))
+    record { result_value = sym (segment-passed-not _ _ _ _ _ _ none); result_value_2 = sym (segment-passed-not _ _ _ _ _ _ none) }
 
 pub loop-cursor-smaller : goal.loop-cursor-smaller
 loop-cursor-smaller c =
@@ -72,8 +72,8 @@ loop-cursor-smaller c =
 pub loop-cursor-preserved : goal.loop-cursor-preserved
 loop-cursor-preserved c =
     let q = c.loop-cursor.invariant in
-    let x = c.scan_both-scanned.ensures.scanned_by _ (ready _ _ _ _ c.requires.0) in
-    let y = c.scan_both-scanned.ensures.scanned_by_2 _ (ready _ _ _ _ c.requires.1) in
+    let x = c.scan_both-scanned.ensures.scanned_by _ (ready _ _ _ _ c.requires.vectors) in
+    let y = c.scan_both-scanned.ensures.scanned_by_2 _ (ready _ _ _ _ c.requires.vectors_2) in
     let fits = narrow (goal.at.loop-cursor-preserved c).After-enter in
     let new = ⊎_elim (λ n. walk-new q.0.walk c.loop-cursor-test.true (here (goal.at.loop-cursor-preserved c).In-At-head) x.1 n.1.ensures n.3.given.1)
     (λ n. walk-unsuspected q.0.walk c.loop-cursor-test.true (here (goal.at.loop-cursor-preserved c).In-At-head) x.1 (sym c.suspects.ensures ∙ n.left)) c.if-suspects.branch in
@@ -88,7 +88,4 @@ pub returns : goal.returns
 returns c =
     let p = c.requires in
     let none : c.loop-cursor.cursor.left ≡ 0 = omega arith in
-    let high = ap (λ (m : ℕ). 0xffff_ffff_ffff_ffff * 2 ^ (m - 1) % 2 ^ 64) (sym (opposite-length c.args.pattern.now)) in (
-      sym (segment-passed (sweeping-taken c.loop-cursor.invariant.0 p.0.0.founded.some p.0.0.founded.short _ refl) none),
-      sym (segment-passed (sweeping-taken c.loop-cursor.invariant.1 p.1.0.founded.some p.1.0.founded.short _ high) none),
-    )
+    let high = ap (λ (m : ℕ). 0xffff_ffff_ffff_ffff * 2 ^ (m - 1) % 2 ^ 64) (sym (opposite-length c.args.pattern.now)) in record { result_value = sym (segment-passed (sweeping-taken c.loop-cursor.invariant.0 p.0.0.founded.some p.0.0.founded.short _ refl) none); result_value_2 = sym (segment-passed (sweeping-taken c.loop-cursor.invariant.1 p.1.0.founded.some p.1.0.founded.short _ high) none) }

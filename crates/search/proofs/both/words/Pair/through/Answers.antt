@@ -45,8 +45,8 @@ mark_both-requires c =
 pub returns-in-Refused : goal.returns-in-Refused
 returns-in-Refused c =
     let wrong = sym c.enter_both.ensures ∙ ap told_verdict c.in-Refused.is in
-    both-seek-not _ _ _ _ _ _ _ wrong
+    let whole = both-seek-not _ _ _ _ _ _ _ wrong in record { result_value = whole.0; marks_after = whole.1 }
 
 pub returns-in-Sound : goal.returns-in-Sound
 returns-in-Sound c =
-    both-seek-sound _ _ _ _ c.args.marks.now (entry (goal.at.returns-in-Sound c).In-Sound) _ _ c.mark_both.ensures
+    let whole = both-seek-sound _ _ _ _ c.args.marks.now (entry (goal.at.returns-in-Sound c).In-Sound) _ _ c.mark_both.ensures in record { result_value = whole.0; marks_after = whole.1 }
