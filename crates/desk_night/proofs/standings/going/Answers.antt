@@ -9,7 +9,7 @@ pub loop-k-init : goal.loop-k-init
 loop-k-init c = counting-none _ _
 
 pub offset_bounds-standings-k : goal.offset_bounds-standings-k
-offset_bounds-standings-k c = let small = c.requires in search (rules, small)
+offset_bounds-standings-k c = search (rules, c.requires)
 
 pub bounds-standings-k : goal.bounds-standings-k
 bounds-standings-k c = omega (arith, c.requires, c.loop-k-test.true)
@@ -18,8 +18,7 @@ pub overflow_add-sum : goal.overflow_add-sum
 overflow_add-sum c =
     let few = c.loop-k.invariant.few in
     let near = c.loop-k.invariant.near in
-    let small = c.requires in
-    search (rules, few, near, small)
+    search (rules, few, near, c.requires)
 
 pub loop-k-preserved : goal.loop-k-preserved
 loop-k-preserved c =

@@ -9,5 +9,4 @@ returns-in-Refused c =
 
 pub returns-in-Marked : goal.returns-in-Marked
 returns-in-Marked c =
-    let e = c.through.ensures in
-    let whole = passes-to _ _ _ _ _ _ _ e.0 e.1 _ _ _ _ c.in-Marked.is _ _ c.plus-all.ensures c.plus-marked.ensures in record { result_value = whole.0; marks_after = whole.1 }
+    let whole = passes-to _ _ _ _ _ _ _ c.through.ensures.result_value c.through.ensures.marks_after _ _ _ _ c.in-Marked.is _ _ c.plus-all.ensures c.plus-marked.ensures in record { result_value = whole.0; marks_after = whole.1 }

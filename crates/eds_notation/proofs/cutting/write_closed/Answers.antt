@@ -47,6 +47,5 @@ slice_bounds-write-end-3 c = sym (length-take-le _ _ c.if-counts-segments.false)
 
 pub returns : goal.returns
 returns c =
-    let p = c.write.ensures in
     let whole = closed-done c.args.tape c.args.letters.now c.args.lengths.now c.args.counts.now c.args.out.now
-    c.if-counts-segments.false (lies (goal.at.returns c).Else-not-is_within) _ _ p.0 p.1 in record { result_value = whole.0; out_after = whole.1 }
+    c.if-counts-segments.false (lies (goal.at.returns c).Else-not-is_within) _ _ c.write.ensures.answer c.write.ensures.buffer in record { result_value = whole.0; out_after = whole.1 }

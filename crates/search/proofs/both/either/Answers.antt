@@ -5,5 +5,4 @@ use Rattle.search.proofs.both.either.Goals as goal
 
 pub returns : goal.returns
 returns c =
-    let e = c.through-sought.ensures in
-    let whole = both-fresh c.args.pattern.now c.args.stretch.now c.args.marks.now _ _ _ e c.summed_both.ensures in record { result_value = whole.0; marks_after = whole.1 }
+    let whole = both-fresh c.args.pattern.now c.args.stretch.now c.args.marks.now _ _ _ c.through-sought.ensures c.summed_both.ensures in record { result_value = whole.0; marks_after = whole.1 }

@@ -25,32 +25,26 @@ returns-in-Refused c = let whole = into-not _ _ _ _ _ _ (open-not _ (goal.at.ret
 
 pub run_both-sought-requires : goal.run_both-sought-requires
 run_both-sought-requires c =
-    let p = c.requires in
-    let z = opening (goal.at.run_both-sought-requires c).In-At in record { vectors = (record { founded = p.0.0; letters = c.classes-letters.ensures }, record { founded = p.0.1; letters = c.classes-letters.ensures }); state_of = (p.1.0, p.1.1); begun = (z.begins, omega (arith, z.first, c.if-stretch-le-SMALL_STRETCH.true)) }
+    let z = opening (goal.at.run_both-sought-requires c).In-At in record { vectors = (record { founded = c.requires.founds.0; letters = c.classes-letters.ensures }, record { founded = c.requires.founds.1; letters = c.classes-letters.ensures }); state_of = (c.requires.state_of.0, c.requires.state_of.1); begun = (z.begins, omega (arith, z.first, c.if-stretch-le-SMALL_STRETCH.true)) }
 
 pub hand_both-requires : goal.hand_both-requires
 hand_both-requires c =
-    let e = c.run_both-sought.ensures in
-    found-enough _ _ [] segments (both-segments _ _ _) _ _ e.1 e.0 (from-length _ _ _)
+    found-enough _ _ [] segments (both-segments _ _ _) _ _ c.run_both-sought.ensures.marks_of c.run_both-sought.ensures.result_value (from-length _ _ _)
 
 pub returns-then-stretch-le-SMALL_STRETCH : goal.returns-then-stretch-le-SMALL_STRETCH
 returns-then-stretch-le-SMALL_STRETCH c =
-    let e = c.run_both-sought.ensures in
     let whole = into-handed _ _ c.args.marks.now segments (both-segments _ _ _) _ _
-    e.1 e.0 (opening (goal.at.returns-then-stretch-le-SMALL_STRETCH c).In-At).whole _ _ c.hand_both.ensures in record { result_value = whole.0; marks_after = whole.1 }
+    c.run_both-sought.ensures.marks_of c.run_both-sought.ensures.result_value (opening (goal.at.returns-then-stretch-le-SMALL_STRETCH c).In-At).whole _ _ c.hand_both.ensures in record { result_value = whole.0; marks_after = whole.1 }
 
 pub run_both-sought-requires-2 : goal.run_both-sought-requires-2
 run_both-sought-requires-2 c =
-    let p = c.requires in
-    let z = opening (goal.at.run_both-sought-requires-2 c).In-At in record { vectors = (record { founded = p.0.0; letters = c.classes-letters.ensures }, record { founded = p.0.1; letters = c.classes-letters.ensures }); state_of = (p.1.0, p.1.1); begun = (z.begins, omega (arith, p.1.2, z.states, z.first)) }
+    let z = opening (goal.at.run_both-sought-requires-2 c).In-At in record { vectors = (record { founded = c.requires.founds.0; letters = c.classes-letters.ensures }, record { founded = c.requires.founds.1; letters = c.classes-letters.ensures }); state_of = (c.requires.state_of.0, c.requires.state_of.1); begun = (z.begins, omega (arith, c.requires.state_of.2, z.states, z.first)) }
 
 pub hand_both-requires-2 : goal.hand_both-requires-2
 hand_both-requires-2 c =
-    let e = c.run_both-sought-2.ensures in
-    found-enough _ _ [] segments (both-segments _ _ _) _ _ e.1 e.0 (from-length _ _ _)
+    found-enough _ _ [] segments (both-segments _ _ _) _ _ c.run_both-sought-2.ensures.marks_of c.run_both-sought-2.ensures.result_value (from-length _ _ _)
 
 pub returns : goal.returns
 returns c =
-    let e = c.run_both-sought-2.ensures in
     let whole = into-handed _ _ c.args.marks.now segments (both-segments _ _ _) _ _
-    e.1 e.0 (opening (goal.at.returns c).In-At).whole _ _ c.hand_both-2.ensures in record { result_value = whole.0; marks_after = whole.1 }
+    c.run_both-sought-2.ensures.marks_of c.run_both-sought-2.ensures.result_value (opening (goal.at.returns c).In-At).whole _ _ c.hand_both-2.ensures in record { result_value = whole.0; marks_after = whole.1 }

@@ -27,8 +27,7 @@ returns-in-Refused c = let whole = into-not _ _ _ _ _ _ (open-not _ (goal.at.ret
 
 pub run-sought-requires : goal.run-sought-requires
 run-sought-requires c =
-    let p = c.requires in
-    let z = opening (goal.at.run-sought-requires c).In-At in record { tools = (record { founded = p.0; letters = c.classes-letters.ensures }, p.1); begun = (z.begins, omega (arith, p.2, z.states, z.first)); walk_in_bounds = λ _. omega (arith, z.first, c.if-stretch-le-SMALL_STRETCH.true) }
+    let z = opening (goal.at.run-sought-requires c).In-At in record { tools = (record { founded = c.requires.0; letters = c.classes-letters.ensures }, c.requires.1); begun = (z.begins, omega (arith, c.requires.2, z.states, z.first)); walk_in_bounds = λ _. omega (arith, z.first, c.if-stretch-le-SMALL_STRETCH.true) }
 
 pub hand-requires : goal.hand-requires
 hand-requires c =
@@ -43,8 +42,7 @@ returns-then-stretch-le-SMALL_STRETCH c =
 
 pub run-sought-requires-2 : goal.run-sought-requires-2
 run-sought-requires-2 c =
-    let p = c.requires in
-    let z = opening (goal.at.run-sought-requires-2 c).In-At in record { tools = (record { founded = p.0; letters = c.classes-letters.ensures }, p.1); begun = (z.begins, omega (arith, p.2, z.states, z.first)); walk_in_bounds = λ _. omega (arith, p.2, z.states, z.first) }
+    let z = opening (goal.at.run-sought-requires-2 c).In-At in record { tools = (record { founded = c.requires.0; letters = c.classes-letters.ensures }, c.requires.1); begun = (z.begins, omega (arith, c.requires.2, z.states, z.first)); walk_in_bounds = λ _. omega (arith, c.requires.2, z.states, z.first) }
 
 pub hand-requires-2 : goal.hand-requires-2
 hand-requires-2 c =

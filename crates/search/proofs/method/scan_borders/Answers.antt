@@ -12,12 +12,10 @@ step_borders-stepped-requires c = record { bordered = c.requires; variant_value 
 
 pub returns-then-stepped : goal.returns-then-stepped
 returns-then-stepped c =
-    let y = c.requires in
     letters-good _ _ c.any_wrong.ensures _ _ _ c.if-any_wrong.false _ _
-    (turned-hit _ _ _ _ y.sized.some y.sized.short _ c.step_borders-stepped.ensures c.if-stepped.true)
+    (turned-hit _ _ _ _ c.requires.sized.some c.requires.sized.short _ c.step_borders-stepped.ensures c.if-stepped.true)
 
 pub returns : goal.returns
 returns c =
-    let y = c.requires in
     letters-good _ _ c.any_wrong.ensures _ _ _ c.if-any_wrong.false _ _
-    (turned-miss _ _ _ _ y.sized.some y.sized.short _ c.step_borders-stepped.ensures (omega arith) c.if-stepped.false)
+    (turned-miss _ _ _ _ c.requires.sized.some c.requires.sized.short _ c.step_borders-stepped.ensures (omega arith) c.if-stepped.false)

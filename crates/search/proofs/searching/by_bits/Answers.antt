@@ -5,5 +5,4 @@ use Rattle.search.proofs.searching.by_bits.Goals as goal
 
 pub returns : goal.returns
 returns c =
-    let e = c.through-sought.ensures in
-    let whole = fresh-marked c.args.pattern.now _ c.args.stretch.now c.args.marks.now _ _ _ e c.summed.ensures in record { result_value = whole.0; marks_after = whole.1 }
+    let whole = fresh-marked c.args.pattern.now _ c.args.stretch.now c.args.marks.now _ _ _ c.through-sought.ensures c.summed.ensures in record { result_value = whole.0; marks_after = whole.1 }

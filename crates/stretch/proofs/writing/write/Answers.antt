@@ -6,10 +6,8 @@ use Rattle.stretch.proofs.writing.write.Goals as goal
 
 pub returns-in-Is : goal.returns-in-Is
 returns-in-Is c =
-    let e = c.put_stretch.ensures in
-    record { answer = sym (ap told_amount c.in-Is.is) ∙ e.0; buffer = e.1 }
+    record { answer = sym (ap told_amount c.in-Is.is) ∙ c.put_stretch.ensures.answer; buffer = c.put_stretch.ensures.buffer }
 
 pub returns-in-Refused : goal.returns-in-Refused
 returns-in-Refused c =
-    let e = c.put_stretch.ensures in
-    record { answer = sym (ap told_amount c.in-Refused.is) ∙ e.0; buffer = e.1 }
+    record { answer = sym (ap told_amount c.in-Refused.is) ∙ c.put_stretch.ensures.answer; buffer = c.put_stretch.ensures.buffer }

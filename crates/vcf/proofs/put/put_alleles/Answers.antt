@@ -22,7 +22,7 @@ place c =
 -- fewer bytes are left after it
 ends : (d : After-end_of-end) → (d.loop-at.from ≤ d.end_of-end.result) ×
     (d.end_of-end.result ≤ length d.args.alt.now)
-ends d = let e = d.end_of-end.ensures in (e.behind, omega (arith, e.inside, d.loop-at.invariant.inside))
+ends d = (d.end_of-end.ensures.behind, omega (arith, d.end_of-end.ensures.inside, d.loop-at.invariant.inside))
 
 less : (n from end : ℕ) → from ≤ end → end ≤ n → (end ≡ n → ⊥) → n - (end + 1) < n - from
 less n from end a b c = omega (arith, c)

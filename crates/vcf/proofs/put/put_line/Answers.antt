@@ -100,8 +100,7 @@ pub returns : goal.returns
 returns c =
     let s = (goal.at.returns c).Start in
     let x = rw (before (goal.at.returns c).Else-is_outside) at c.put_gap-next.ensures in
-    let y = c.put_record-last.ensures in
     let whole = busy-line _ _ s.args.put.base _ (plain (goal.at.returns c).After-position-place) s.pre.0.put _ (stated (goal.at.returns c).After-position-place) _ (ap meant c.field-reference.ensures) _
     (ending (goal.at.returns c).After-behind-end)
     (sym c.if-is_outside.false ∙ c.is_outside.ensures) s.args.put.left s.pre.0.lies _ (ap meant c.field-alt.ensures) _ _
-    s.pre.1 _ _ x.0 y.0 _ _ x.1 y.1 in record { left_value = whole.0; out_after = whole.1 }
+    s.pre.1 _ _ x.0 c.put_record-last.ensures.value _ _ x.1 c.put_record-last.ensures.out_after in record { left_value = whole.0; out_after = whole.1 }

@@ -68,10 +68,9 @@ returns c =
     let alt = c.args.alt.now in
     let e = some (goal.at.returns c).Else-is_none in
     let z = ap length (alleles-bytes alt e) in
-    let w = c.put_alleles.ensures in
     let x = c.put_variant-2.new.1.0 in
-    let last = w.1 ∙ ap (over x c.after_variant-next.result) (alleles-bytes alt e) ∙ ap (λ (n : ℕ). over x n (alleles_of alt)) (next (goal.at.returns c).After-after_variant-next) in record {
-      value = omega (arith, size (goal.at.returns c).Start, w.0, next (goal.at.returns c).After-after_variant-next);
+    let last = c.put_alleles.ensures.out_after ∙ ap (over x c.after_variant-next.result) (alleles-bytes alt e) ∙ ap (λ (n : ℕ). over x n (alleles_of alt)) (next (goal.at.returns c).After-after_variant-next) in record {
+      value = omega (arith, size (goal.at.returns c).Start, c.put_alleles.ensures.value, next (goal.at.returns c).After-after_variant-next);
       out_after = segment-put ref alt _ _ c.requires.alt_in_bounds _ (counted-all alt e _ c.count-alleles.ensures) (few (goal.at.returns c).After-count-alleles) _ c.put_variants-2.ensures _
           c.put_variant-2.ensures _ last;
     }

@@ -46,9 +46,8 @@ loop-put-smaller c =
 
 pub loop-put-preserved : goal.loop-put-preserved
 loop-put-preserved c =
-    let w = c.put_line-put.ensures in
     putting-more c.loop-put.invariant c.loop-put-test.true c.far_end-end.ensures _ _ _ _ _ c.next_line-at.ensures
-    w.0.0 w.0.1 w.0.2 w.1
+    c.put_line-put.ensures.left_value.0 c.put_line-put.ensures.left_value.1 c.put_line-put.ensures.left_value.2 c.put_line-put.ensures.out_after
 
 pub slice_bounds-put_gap-count : goal.slice_bounds-put_gap-count
 slice_bounds-put_gap-count c = within (goal.at.slice_bounds-put_gap-count c).At-loop-put

@@ -13,13 +13,11 @@ returns-in_default c =
 
 pub loop-walk-init : goal.loop-walk-init
 loop-walk-init c =
-    let p = c.requires in
-    unended-none _ _ _ _ p.0 p.1 (open_is _ (goal.at.loop-walk-init c).After-open.«open».ensures c.in-At.is)
+    unended-none _ _ _ _ c.requires.0 c.requires.1 (open_is _ (goal.at.loop-walk-init c).After-open.«open».ensures c.in-At.is)
 
 pub over-passed-requires : goal.over-passed-requires
 over-passed-requires c =
-    let p = c.requires in
-    (record { tables = p.0; state = c.loop-walk.invariant.state }, unended-readable c.loop-walk.invariant c.loop-walk-test.true)
+    (record { tables = c.requires.0; state = c.loop-walk.invariant.state }, unended-readable c.loop-walk.invariant c.loop-walk-test.true)
 
 pub returns-then-passed : goal.returns-then-passed
 returns-then-passed c =
@@ -32,8 +30,7 @@ loop-walk-smaller c =
 
 pub loop-walk-preserved : goal.loop-walk-preserved
 loop-walk-preserved c =
-    let p = c.requires in
-    unended-more c.loop-walk.invariant c.loop-walk-test.true _ _ _ c.over-passed.ensures p.0.some c.if-passed.false _ c.past-walk.ensures
+    unended-more c.loop-walk.invariant c.loop-walk-test.true _ _ _ c.over-passed.ensures c.requires.0.some c.if-passed.false _ c.past-walk.ensures
 
 pub returns : goal.returns
 returns c = unended-all c.loop-walk.invariant c.loop-walk-test.false

@@ -52,10 +52,9 @@ loop-cursor-smaller c =
 
 pub loop-cursor-preserved : goal.loop-cursor-preserved
 loop-cursor-preserved c =
-    let p = c.requires in
-    let on = sound-past c.loop-cursor.invariant.walk c.loop-cursor-test.true p.1.is (here (goal.at.loop-cursor-preserved c).In-At-head) (narrow (goal.at.loop-cursor-preserved c).After-enter) refl
+    let on = sound-past c.loop-cursor.invariant.walk c.loop-cursor-test.true c.requires.1.is (here (goal.at.loop-cursor-preserved c).In-At-head) (narrow (goal.at.loop-cursor-preserved c).After-enter) refl
     c.past-cursor.ensures in
-    sweeping-more c.loop-cursor.invariant on (swept-by _ _ (here (goal.at.loop-cursor-preserved c).In-At-head) (c.scan-scanned.ensures _ p.0))
+    sweeping-more c.loop-cursor.invariant on (swept-by _ _ (here (goal.at.loop-cursor-preserved c).In-At-head) (c.scan-scanned.ensures _ c.requires.0))
 
 pub overflow_sub-high : goal.overflow_sub-high
 overflow_sub-high c = let p = c.requires.0 in omega (arith, p.tables.some)

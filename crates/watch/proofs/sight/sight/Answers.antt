@@ -24,8 +24,7 @@ slice_bounds-pattern-end c = bases-length _ _ (short (goal.at.slice_bounds-patte
 
 pub first_end-requires : goal.first_end-requires
 first_end-requires c =
-    let p = c.requires in
-    (record-vectors _ _ p.spells c.complements-vectors.ensures, p.means)
+    (record-vectors _ _ c.requires.spells c.complements-vectors.ensures, c.requires.means)
 
 pub returns : goal.returns
 returns c = c.first_end.ensures ∙ first-is _ _

@@ -43,8 +43,7 @@ overflow_add-variant c =
 
 pub loop-segment-preserved : goal.loop-segment-preserved
 loop-segment-preserved c =
-    let w = c.put_segment-letter.ensures in
-    segments-more c.loop-segment.invariant c.loop-segment-test.true c.wide-variant.ensures.0 w.0 (rw (place (goal.at.loop-segment-preserved c).After-text_bytes-at) at w.1)
+    segments-more c.loop-segment.invariant c.loop-segment-test.true c.wide-variant.ensures.0 c.put_segment-letter.ensures.value (rw (place (goal.at.loop-segment-preserved c).After-text_bytes-at) at c.put_segment-letter.ensures.out_after)
 
 pub shape_of-out : goal.shape_of-out
 shape_of-out c = same (goal.at.shape_of-out c).At-loop-segment

@@ -35,9 +35,8 @@ returns-in_default c =
 
 pub loop-walk-init : goal.loop-walk-init
 loop-walk-init c =
-    let p = c.requires in
     let opening = open_is _ (goal.at.loop-walk-init c).After-open.«open».ensures c.in-At.is in
-    (p.3, rowing-none _ _ _ _ p.0 p.2 p.4 _ c.low-live.ensures opening)
+    (c.requires.3, rowing-none _ _ _ _ c.requires.0 c.requires.2 c.requires.4 _ c.low-live.ensures opening)
 
 pub shape_of-exits-then-live-eq0 : goal.shape_of-exits-then-live-eq0
 shape_of-exits-then-live-eq0 c = even-states (goal.at.shape_of-exits-then-live-eq0 c).At-loop-walk
@@ -47,8 +46,7 @@ shape_of-firsts-then-live-eq0 c = even-ends (goal.at.shape_of-firsts-then-live-e
 
 pub returns-then-live-eq0 : goal.returns-then-live-eq0
 returns-then-live-eq0 c =
-    let p = c.requires in
-    (c.loop-walk.invariant.0, rowing-dead c.loop-walk.invariant.1 p.0.some c.if-live-eq0.true)
+    (c.loop-walk.invariant.0, rowing-dead c.loop-walk.invariant.1 c.requires.0.some c.if-live-eq0.true)
 
 pub overflow_cast-number : goal.overflow_cast-number
 overflow_cast-number c =
@@ -56,10 +54,9 @@ overflow_cast-number c =
 
 pub segment_rows-behind-requires : goal.segment_rows-behind-requires
 segment_rows-behind-requires c =
-    let p = c.requires in
     let (full, q) = c.loop-walk.invariant in
     let covers = subst (Covers _ _) (exits-in _ _ (even full)) q.covers in
-    (record { bases = p.0; vectors = p.1; lengths = q.lengths }, covers, full, rowing-readable q c.loop-walk-test.true)
+    (record { bases = c.requires.0; vectors = c.requires.1; lengths = q.lengths }, covers, full, rowing-readable q c.loop-walk-test.true)
 
 pub loop-walk-smaller : goal.loop-walk-smaller
 loop-walk-smaller c =
@@ -68,8 +65,7 @@ loop-walk-smaller c =
 
 pub loop-walk-preserved : goal.loop-walk-preserved
 loop-walk-preserved c =
-    let over = c.segment_rows-behind.ensures in
-    (over.0, rowing_more c.loop-walk.invariant.1 c.loop-walk-test.true _ _ _ over.1 _ c.past-walk.ensures)
+    (c.segment_rows-behind.ensures.0, rowing_more c.loop-walk.invariant.1 c.loop-walk-test.true _ _ _ c.segment_rows-behind.ensures.1 _ c.past-walk.ensures)
 
 pub shape_of-exits : goal.shape_of-exits
 shape_of-exits c = even-states (goal.at.shape_of-exits c).At-loop-walk

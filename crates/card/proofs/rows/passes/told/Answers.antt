@@ -8,10 +8,9 @@ use Rattle.card.proofs.rows.passes.told.Goals as goal
 
 pub rows_over-requires : goal.rows_over-requires
 rows_over-requires c =
-    let z = c.requires in
-    let vectors = told-short _ _ z.bases.short c.masks-vectors.ensures in
-    let rows = rowed-none _ z.bases _ c.lone-exits.ensures in
-    (z.bases, vectors, sound-states _ _ z.sound, record { states = search rules; ends = search rules }, rows)
+    let vectors = told-short _ _ c.requires.bases.short c.masks-vectors.ensures in
+    let rows = rowed-none _ c.requires.bases _ c.lone-exits.ensures in
+    (c.requires.bases, vectors, sound-states _ _ c.requires.sound, record { states = search rules; ends = search rules }, rows)
 
 pub overflow_cast-result : goal.overflow_cast-result
 overflow_cast-result c =

@@ -29,8 +29,7 @@ returns-in_default c =
 pub loop-cursor-init : goal.loop-cursor-init
 loop-cursor-init c =
     let few : c.in-At.entered.count < 2 ^ 64 = omega arith in
-    let p = c.requires in
-    bearing-none p.0 p.1 (walk_none _ _ c.enter.ensures c.in-At.is few)
+    bearing-none c.requires.0 c.requires.1 (walk_none _ _ c.enter.ensures c.in-At.is few)
 
 pub returns-in_default-head : goal.returns-in_default-head
 returns-in_default-head c =
@@ -49,8 +48,7 @@ slice_bounds-variant-end c = let w = here (goal.at.slice_bounds-variant-end c).I
 
 pub variant_rows-ended-requires : goal.variant_rows-ended-requires
 variant_rows-ended-requires c =
-    let p = c.requires in
-    (p.0, p.1, p.2.states, c.loop-cursor.invariant.full)
+    (c.requires.0, c.requires.1, c.requires.2.states, c.loop-cursor.invariant.full)
 
 pub loop-cursor-smaller : goal.loop-cursor-smaller
 loop-cursor-smaller c =
@@ -58,15 +56,13 @@ loop-cursor-smaller c =
 
 pub loop-cursor-preserved : goal.loop-cursor-preserved
 loop-cursor-preserved c =
-    let p = c.requires in
-    let on = sound-past c.loop-cursor.invariant.walk c.loop-cursor-test.true p.3.is (here (goal.at.loop-cursor-preserved c).In-At-head) (narrow (goal.at.loop-cursor-preserved c).After-enter) refl
+    let on = sound-past c.loop-cursor.invariant.walk c.loop-cursor-test.true c.requires.3.is (here (goal.at.loop-cursor-preserved c).In-At-head) (narrow (goal.at.loop-cursor-preserved c).After-enter) refl
     c.past-cursor.ensures in
     bearing-more c.loop-cursor.invariant on (here (goal.at.loop-cursor-preserved c).In-At-head) c.variant_rows-ended.ensures
 
 pub settle-alive-requires : goal.settle-alive-requires
 settle-alive-requires c =
-    let p = c.requires in
-    (p.0.bases.short, c.loop-cursor.invariant.full, p.2)
+    (c.requires.0.bases.short, c.loop-cursor.invariant.full, c.requires.2)
 
 pub shape_of-exits : goal.shape_of-exits
 shape_of-exits c =
@@ -78,6 +74,5 @@ shape_of-firsts c =
 
 pub returns : goal.returns
 returns c =
-    let p = c.requires in
     let none : c.loop-cursor.cursor.left ≡ 0 = omega (arith, c.loop-cursor-test.false) in
-    (c.settle-alive.ensures.0, bearing-end c.loop-cursor.invariant p.0 p.1 p.2 c.settle-alive.ensures.1 none)
+    (c.settle-alive.ensures.0, bearing-end c.loop-cursor.invariant c.requires.0 c.requires.1 c.requires.2 c.settle-alive.ensures.1 none)

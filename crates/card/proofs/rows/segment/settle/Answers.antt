@@ -6,7 +6,7 @@ use Rattle.card.proofs.RowSteps.{Settling, settling-none, settling-more, settlin
 use Rattle.card.proofs.rows.segment.settle.Goals as goal
 
 pub loop-q-init : goal.loop-q-init
-loop-q-init c = let p = c.requires in settling-none _ _ _ _ _ _ p.2
+loop-q-init c = settling-none _ _ _ _ _ _ c.requires.2
 
 pub loop-q-preserved : goal.loop-q-preserved
 loop-q-preserved c =

@@ -5,9 +5,8 @@ use Rattle.card.proofs.rows.segment.variant_rows.Goals as goal
 
 pub spread-requires : goal.spread-requires
 spread-requires c =
-    let p = c.requires in
-    let few = passed-short _ _ _ _ c.args.next.now _ _ p.1 c.carry-moved.ensures c.if-moved-ne0.true in
-    (p.0.bases.short, few, p.2, p.3)
+    let few = passed-short _ _ _ _ c.args.next.now _ _ c.requires.1 c.carry-moved.ensures c.if-moved-ne0.true in
+    (c.requires.0.bases.short, few, c.requires.2, c.requires.3)
 
 pub returns-then-moved-ne0 : goal.returns-then-moved-ne0
 returns-then-moved-ne0 c =
@@ -15,5 +14,4 @@ returns-then-moved-ne0 c =
 
 pub returns-else-moved-ne0 : goal.returns-else-moved-ne0
 returns-else-moved-ne0 c =
-    let p = c.requires in
-    passed_none _ _ _ _ _ _ _ p.1 c.carry-moved.ensures p.3 c.if-moved-ne0.false
+    passed_none _ _ _ _ _ _ _ c.requires.1 c.carry-moved.ensures c.requires.3 c.if-moved-ne0.false

@@ -28,8 +28,7 @@ returns-in-Name c =
 pub returns-in-Next : goal.returns-in-Next
 returns-in-Next c =
     let e = sym c.act_of.ensures ∙ c.in-Next.is in
-    let n = c.wrapping_add_usize.ensures.value in
-    record { value = c.put-in-Next.ensures.value ∙ next-line _ _ _ _ e n; short_after = c.put-in-Next.ensures.short_after ∙ next-buffer _ _ _ _ e n }
+    record { value = c.put-in-Next.ensures.value ∙ next-line _ _ _ _ e c.wrapping_add_usize.ensures.value; short_after = c.put-in-Next.ensures.short_after ∙ next-buffer _ _ _ _ e c.wrapping_add_usize.ensures.value }
 
 pub returns-in-Count : goal.returns-in-Count
 returns-in-Count c =

@@ -26,8 +26,7 @@ loop-walked-init c = (uniting-none _ _ _ _ _ _ c.requires.begun.0, refl)
 
 pub over-requires : goal.over-requires
 over-requires c =
-    let p = c.requires in
-    let q = c.loop-walked.invariant.0 in record { vectors = (p.0.0, uniting-own q p.0.0.founded.some p.1.0.0); vectors_2 = (p.0.1, uniting-turned q p.0.1.founded.some p.1.0.1) }
+    let q = c.loop-walked.invariant.0 in record { vectors = (c.requires.vectors.0, uniting-own q c.requires.vectors.0.founded.some c.requires.state_of.0); vectors_2 = (c.requires.vectors.1, uniting-turned q c.requires.vectors.1.founded.some c.requires.state_of.1) }
 
 pub shape_of-marks-in-Refused : goal.shape_of-marks-in-Refused
 shape_of-marks-in-Refused c = c.loop-walked.invariant.1

@@ -29,8 +29,7 @@ returns-in-Refused c = sym (segment-passed-not _ _ _ _ _ _ (walk-not _ _ c.enter
 pub loop-cursor-init : goal.loop-cursor-init
 loop-cursor-init c =
     let few : c.in-At.cursor.count < 2 ^ 64 = omega arith in
-    let p = c.requires in
-    sweeping-none p.0.founded.some p.1.odd (walk_none _ _ c.enter.ensures c.in-At.is few)
+    sweeping-none c.requires.0.founded.some c.requires.1.odd (walk_none _ _ c.enter.ensures c.in-At.is few)
 
 pub returns-in-Refused-head : goal.returns-in-Refused-head
 returns-in-Refused-head c =
@@ -72,6 +71,5 @@ loop-cursor-preserved c =
 
 pub returns : goal.returns
 returns c =
-    let p = c.requires in
     let none : c.loop-cursor.cursor.left ≡ 0 = omega arith in
-    sym (segment-passed (sweeping-taken c.loop-cursor.invariant p.0.founded.some p.0.founded.short _ refl) none)
+    sym (segment-passed (sweeping-taken c.loop-cursor.invariant c.requires.0.founded.some c.requires.0.founded.short _ refl) none)

@@ -34,9 +34,8 @@ returns-in-Refused c =
 pub loop-cursor-init : goal.loop-cursor-init
 loop-cursor-init c =
     let few : c.in-At.cursor.count < 2 ^ 64 = omega arith in
-    let p = c.requires in
     let w = walk_none _ _ c.enter.ensures c.in-At.is few in
-    (sweeping-none p.0.0.founded.some p.0.1.odd w, sweeping-none p.1.0.founded.some p.1.1.odd w)
+    (sweeping-none c.requires.vectors.0.founded.some c.requires.vectors.1.odd w, sweeping-none c.requires.vectors_2.0.founded.some c.requires.vectors_2.1.odd w)
 
 pub returns-in-Refused-head : goal.returns-in-Refused-head
 returns-in-Refused-head c =
@@ -76,16 +75,14 @@ loop-cursor-preserved c =
     let y = c.scan_both-scanned.ensures.scanned_by_2 _ (ready _ _ _ _ c.requires.vectors_2) in
     let fits = narrow (goal.at.loop-cursor-preserved c).After-enter in
     let new = ⊎_elim (λ n. walk-new q.0.walk c.loop-cursor-test.true (here (goal.at.loop-cursor-preserved c).In-At-head) x.1 n.1.ensures n.3.given.1)
-    (λ n. walk-unsuspected q.0.walk c.loop-cursor-test.true (here (goal.at.loop-cursor-preserved c).In-At-head) x.1 (sym c.suspects.ensures ∙ n.left)) c.if-suspects.branch in
-    let and = c.and-words.ensures in (
+    (λ n. walk-unsuspected q.0.walk c.loop-cursor-test.true (here (goal.at.loop-cursor-preserved c).In-At-head) x.1 (sym c.suspects.ensures ∙ n.left)) c.if-suspects.branch in (
       sweeping-on q.0 (walk-past q.0.walk c.loop-cursor-test.true (here (goal.at.loop-cursor-preserved c).In-At-head) x.1 fits c.if-scanned.false new refl c.past-cursor.ensures)
-          (swept-by _ _ (here (goal.at.loop-cursor-preserved c).In-At-head) x.0) and.0,
+          (swept-by _ _ (here (goal.at.loop-cursor-preserved c).In-At-head) x.0) c.and-words.ensures.0,
       sweeping-on q.1 (walk-past q.1.walk c.loop-cursor-test.true (here (goal.at.loop-cursor-preserved c).In-At-head) y.1 fits c.if-scanned.false new refl c.past-cursor.ensures)
-          (swept-by _ _ (here (goal.at.loop-cursor-preserved c).In-At-head) y.0) and.1,
+          (swept-by _ _ (here (goal.at.loop-cursor-preserved c).In-At-head) y.0) c.and-words.ensures.1,
     )
 
 pub returns : goal.returns
 returns c =
-    let p = c.requires in
     let none : c.loop-cursor.cursor.left ≡ 0 = omega arith in
-    let high = ap (λ (m : ℕ). 0xffff_ffff_ffff_ffff * 2 ^ (m - 1) % 2 ^ 64) (sym (opposite-length c.args.pattern.now)) in record { result_value = sym (segment-passed (sweeping-taken c.loop-cursor.invariant.0 p.0.0.founded.some p.0.0.founded.short _ refl) none); result_value_2 = sym (segment-passed (sweeping-taken c.loop-cursor.invariant.1 p.1.0.founded.some p.1.0.founded.short _ high) none) }
+    let high = ap (λ (m : ℕ). 0xffff_ffff_ffff_ffff * 2 ^ (m - 1) % 2 ^ 64) (sym (opposite-length c.args.pattern.now)) in record { result_value = sym (segment-passed (sweeping-taken c.loop-cursor.invariant.0 c.requires.vectors.0.founded.some c.requires.vectors.0.founded.short _ refl) none); result_value_2 = sym (segment-passed (sweeping-taken c.loop-cursor.invariant.1 c.requires.vectors_2.0.founded.some c.requires.vectors_2.0.founded.short _ high) none) }
