@@ -6,6 +6,3 @@ pub mod Checks
 pub mod TextPlaces
 pub mod ReadsAtPlace
 pub mod ReadsOnward
-pub mod CallReturned
-pub mod ReaderOwned
-pub mod ReaderMethods

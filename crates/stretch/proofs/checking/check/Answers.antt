@@ -16,7 +16,7 @@ use Rattle.stretch.proofs.checking.check.Goals as goal
 use Rattle.stretch.proofs.checking.check.Goals.{After-fits, After-open, In-At}
 
 -- the stretch is no longer than a number can say
-narrow : (c : tie.After-fits2 invariant-loop decreases-loop) → length c.before.before.args.stretch.now < 2 ^ 64
+narrow : (c : After-fits) → length c.args.stretch.now < 2 ^ 64
 narrow c = omega arith
 
 -- the stretch was opened

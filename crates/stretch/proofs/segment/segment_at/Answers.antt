@@ -13,7 +13,7 @@ use Rattle.layout.proofs.Walking.{Walking, walk-not, walk_none, walk-done, walk-
 use Rattle.layout.proofs.Walking.{walk-past, walk-less}
 use Rattle.stretch.proofs.Checks.{walked-refused, walked-done}
 use Rattle.stretch.proofs.segment.segment_at.Goals as goal
-use Rattle.stretch.proofs.segment.segment_at.Goals.{In-At-head}
+use Rattle.stretch.proofs.segment.segment_at.Goals.{In-At-head, then-suspects+in_default, else-suspects}
 
 -- where the letters stand
 here : (c : In-At-head)
@@ -64,9 +64,15 @@ loop-cursor-preserved c =
     let w = c.loop-cursor.invariant.1 in
     let spelt = c.any_wrong_by.ensures ∙ wrong-letters c.requires _ in
     let fits : length c.args.stretch.now < 2 ^ 64 = omega arith in
-    let new = ⊎_elim (λ y. walk-new w c.loop-cursor-test.true (here (goal.at.loop-cursor-preserved c).In-At-head) spelt y.1.ensures y.3.given.1)
-    (λ y. walk-unsuspected w c.loop-cursor-test.true (here (goal.at.loop-cursor-preserved c).In-At-head) spelt (sym c.suspects.ensures ∙ y.left)) c.if-suspects.branch in
-    (_, walk-past w c.loop-cursor-test.true (here (goal.at.loop-cursor-preserved c).In-At-head) spelt fits c.if-any_wrong_by.false new refl c.past-cursor.ensures)
+    let h = here (goal.at.loop-cursor-preserved c).In-At-head in (
+      _,
+      walk-past w c.loop-cursor-test.true h spelt fits c.if-any_wrong_by.false
+          (elim c.if-suspects.branch [
+            | then-suspects+in_default b ↦ walk-new w c.loop-cursor-test.true h spelt b.compared.ensures b.in_default.is
+            | else-suspects b ↦ walk-unsuspected w c.loop-cursor-test.true h spelt (sym c.suspects.ensures ∙ b.if-suspects.false)
+          ])
+          refl c.past-cursor.ensures,
+    )
 
 pub returns : goal.returns
 returns c =
