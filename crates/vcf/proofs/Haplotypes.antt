@@ -28,6 +28,7 @@ alone-from v U h s = let (u, t, e) = s.is in (u, t, rw (only s.variant s.listed)
   where
     only : (x : Variant) → Memᴰ x (v ∷ []) → x ≡ v
     only x (Memᴰ.head e) = e
+    only x (Memᴰ.tail m) = elim m [ ]
 
 alone-to : (v : Variant) (U : Text) (h : List ℕ) → Behind v U h → Spells ((v ∷ []) ∷ U) h
 alone-to v U h b = record { variant = v; listed = Memᴰ.head refl; is = b }

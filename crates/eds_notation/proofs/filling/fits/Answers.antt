@@ -18,9 +18,9 @@ size c =
       c.text_bytes.ensures,
       c.wide-2.ensures.1,
       c.wide.ensures.1,
-      c.if-counts-gt-GREATEST_STRETCH.left,
-      c.if-lengths-gt-GREATEST_STRETCH.left,
-      c.if-letters-gt-GREATEST_STRETCH.left,
+      c.if-counts-gt-GREATEST_STRETCH.false,
+      c.if-lengths-gt-GREATEST_STRETCH.false,
+      c.if-letters-gt-GREATEST_STRETCH.false,
     )
 
 -- each test that fails is one of the facts

@@ -8,19 +8,19 @@ use Rattle.files.proofs.reading.fill.Goals as goal
 
 pub overflow_add-at : goal.overflow_add-at
 overflow_add-at c =
-    let e = piece-ends c.loop-at.bytes c.read_piece.new.1.0 c.loop-at.at c.in-Bytes.is c.read_piece.ensures
+    let e = piece-ends c.loop-at.bytes c.read_piece.new.out c.loop-at.at c.in-Bytes.is c.read_piece.ensures
     c.loop-at-test.true c.bytes-1.given.0 in
     omega (arith, e.1)
 
 pub loop-at-smaller : goal.loop-at-smaller
 loop-at-smaller c =
-    let e = piece-ends c.loop-at.bytes c.read_piece.new.1.0 c.loop-at.at c.in-Bytes.is c.read_piece.ensures
+    let e = piece-ends c.loop-at.bytes c.read_piece.new.out c.loop-at.at c.in-Bytes.is c.read_piece.ensures
     c.loop-at-test.true c.bytes-1.given.0 in
     omega (arith, e.0, e.1, c.bytes-1.given.1, c.loop-at-test.true)
 
 pub loop-at-preserved : goal.loop-at-preserved
 loop-at-preserved c =
-    let e = piece-ends c.loop-at.bytes c.read_piece.new.1.0 c.loop-at.at c.in-Bytes.is c.read_piece.ensures
+    let e = piece-ends c.loop-at.bytes c.read_piece.new.out c.loop-at.at c.in-Bytes.is c.read_piece.ensures
     c.loop-at-test.true c.bytes-1.given.0 in
     (omega (arith, e.1, c.bytes-1.given.1), c.bytes-1.given.1 ∙ c.loop-at.invariant.1)
 

@@ -5,4 +5,4 @@ use Rattle.lines.proofs.put.put_number.Goals as goal
 
 pub returns : goal.returns
 returns c =
-    spelt _ c.spell-first.new.1.0 _ _ _ c.spell-first.result _ 20 c.spell-first.auto.out c.spell-first.ensures.1 c.put_bytes.ensures
+    spelt _ c.spell-first.new.out _ _ _ c.spell-first.result _ 20 c.spell-first.auto.out c.spell-first.ensures.1 c.put_bytes.ensures

@@ -15,8 +15,8 @@ narrow c = omega arith
 place : (c : After-after_variant-next) →
     c.after_variant-next.result ≡ after_variant c.loop-at.next (c.end_of-end.result - c.loop-at.from)
 place c =
-    let h = alleles-room c.loop-at.inv c.end_of-end.ensures in
-    let k = alleles-kept c.loop-at.inv c.end_of-end.ensures in
+    let h = alleles-room c.loop-at.invariant c.end_of-end.ensures in
+    let k = alleles-kept c.loop-at.invariant c.end_of-end.ensures in
     omega (arith, c.after_variant-next.ensures, narrow (goal.at.After-after_variant-next c).After-slice_known-1)
 
 -- fewer bytes are left after it
@@ -32,11 +32,11 @@ loop-at-init c = alleles-none _ _ _ c.requires
 
 pub shape_of-out-then-end-alt : goal.shape_of-out-then-end-alt
 shape_of-out-then-end-alt c =
-    c.put_variant.auto.out ∙ alleles-kept c.loop-at.inv c.end_of-end.ensures
+    c.put_variant.auto.out ∙ alleles-kept c.loop-at.invariant c.end_of-end.ensures
 
 pub returns-then-end-alt : goal.returns-then-end-alt
 returns-then-end-alt c =
-    let whole = alleles-end c.loop-at.inv c.end_of-end.ensures c.put_variant.ensures (place (goal.at.returns-then-end-alt c).After-after_variant-next) c.if-end-alt.true in record { value = whole.0; out_after = whole.1 }
+    let whole = alleles-end c.loop-at.invariant c.end_of-end.ensures c.put_variant.ensures (place (goal.at.returns-then-end-alt c).After-after_variant-next) c.if-end-alt.true in record { value = whole.0; out_after = whole.1 }
 
 pub overflow_add-from : goal.overflow_add-from
 overflow_add-from c = omega (arith, c.if-end-alt.false)
@@ -46,4 +46,4 @@ loop-at-smaller c = less _ _ _ (ends (goal.at.loop-at-smaller c).After-end_of-en
 
 pub loop-at-preserved : goal.loop-at-preserved
 loop-at-preserved c =
-    alleles-more c.loop-at.inv c.end_of-end.ensures c.put_variant.ensures (place (goal.at.loop-at-preserved c).After-after_variant-next) c.if-end-alt.false
+    alleles-more c.loop-at.invariant c.end_of-end.ensures c.put_variant.ensures (place (goal.at.loop-at-preserved c).After-after_variant-next) c.if-end-alt.false

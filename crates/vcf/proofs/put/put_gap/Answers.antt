@@ -21,7 +21,7 @@ narrow : (e : Else-n-eq0) → length e.args.out.now < 18446744073709551616
 narrow e = omega arith
 
 exact : (c : After-segment_bytes) → c.segment_bytes.result ≡ segment_bytes (length c.args.bases.now) 1
-exact c = let e = (goal.at.After-segment_bytes c).Else-n-eq0 in omega (arith, c.segment_bytes.ensures, size e, narrow e, (S e).pre)
+exact c = omega (arith, c.segment_bytes.ensures, size (goal.at.After-segment_bytes c).Else-n-eq0, narrow (goal.at.After-segment_bytes c).Else-n-eq0, c.requires)
 
 pub returns-then-n-eq0 : goal.returns-then-n-eq0
 returns-then-n-eq0 c = let whole = gap-nothing c.args.bases.now _ _ c.if-n-eq0.true in record { value = whole.0; out_after = whole.1 }
@@ -30,11 +30,11 @@ pub overflow_add-at : goal.overflow_add-at
 overflow_add-at c = omega (arith, size (goal.at.overflow_add-at c).Else-n-eq0, narrow (goal.at.overflow_add-at c).Else-n-eq0, c.requires)
 
 pub overflow_add-result : goal.overflow_add-result
-overflow_add-result c = let e = (goal.at.overflow_add-result c).Else-n-eq0 in omega (arith, exact (goal.at.overflow_add-result c).After-segment_bytes, size e, narrow e, (S e).pre)
+overflow_add-result c = omega (arith, exact (goal.at.overflow_add-result c).After-segment_bytes, size (goal.at.overflow_add-result c).Else-n-eq0, narrow (goal.at.overflow_add-result c).Else-n-eq0, c.requires)
 
 pub shape_of-out : goal.shape_of-out
 shape_of-out c = c.put_variant.auto.out ∙ c.put_variants.auto.out
 
 pub returns : goal.returns
 returns c =
-    record { value = omega (arith, exact (goal.at.returns c).After-segment_bytes, size (goal.at.returns c).Else-n-eq0); out_after = gap-put c.args.bases.now _ _ c.if-n-eq0.left c.requires _ _ c.put_variants.ensures c.put_variant.ensures }
+    record { value = omega (arith, exact (goal.at.returns c).After-segment_bytes, size (goal.at.returns c).Else-n-eq0); out_after = gap-put c.args.bases.now _ _ c.if-n-eq0.false c.requires _ _ c.put_variants.ensures c.put_variant.ensures }

@@ -11,7 +11,7 @@ use mathlib.Core.Bool.{true, false}
 use Rattle.vcf.specs.Records.{beyond, comment, position, position_of}
 use Rattle.vcf.proofs.Lines.{idle-comment, idle-is, idle-line, busy-bounds, busy-few, busy-room, busy-line}
 use Rattle.vcf.proofs.put.put_line.Goals as goal
-use Rattle.vcf.proofs.put.put_line.Goals.{After-behind-end, After-position-place, Else-is_outside, Start}
+use Rattle.vcf.proofs.put.put_line.Goals.{After-behind-end, After-position-place, Else-is_outside}
 
 plain : (q : After-position-place) → comment q.args.line.now ≡ false
 plain q = sym q.is_comment.ensures ∙ q.if-is_comment.false
@@ -32,18 +32,16 @@ bounds :
     × (c.args.first ≤ c.behind-end.result)
     × (0 < c.args.put.left)
 bounds c =
-    let s = (goal.at.Else-is_outside c).Start in
-    busy-bounds _ _ s.args.put.base _ (plain (goal.at.Else-is_outside c).After-position-place) s.pre.0.put _ (stated (goal.at.Else-is_outside c).After-position-place) _ (ap meant c.field-reference.ensures) _
+    busy-bounds _ _ c.args.put.base _ (plain (goal.at.Else-is_outside c).After-position-place) c.requires.placing.put _ (stated (goal.at.Else-is_outside c).After-position-place) _ (ap meant c.field-reference.ensures) _
     (ending (goal.at.Else-is_outside c).After-behind-end)
-    (sym c.if-is_outside.false ∙ c.is_outside.ensures) s.args.put.left s.pre.0.lies
+    (sym c.if-is_outside.false ∙ c.is_outside.ensures) c.args.put.left c.requires.placing.lies
 
 -- the bases before it
 before :
     (c : Else-is_outside) →
-    let s = c.args in
-    meant (take (c.position-place.result - s.first - s.put.base) (drop s.put.base s.window.now))
-    ≡ take (c.position-place.result - s.first - s.put.base) (drop s.put.base (meant s.window.now))
-before c = let s = c.args in part-meant s.window.now s.put.base (c.position-place.result - s.first - s.put.base)
+    meant (take (c.position-place.result - c.args.first - c.args.put.base) (drop c.args.put.base c.args.window.now))
+    ≡ take (c.position-place.result - c.args.first - c.args.put.base) (drop c.args.put.base (meant c.args.window.now))
+before c = part-meant c.args.window.now c.args.put.base (c.position-place.result - c.args.first - c.args.put.base)
 
 pub returns-then-is_comment : goal.returns-then-is_comment
 returns-then-is_comment c = let whole = idle-line _ _ _ _ (idle-comment _ _ c.args.put.base _ (sym c.is_comment.ensures ∙ c.if-is_comment.true))
@@ -71,22 +69,20 @@ slice_bounds-put_gap-end c = let h = bounds (goal.at.slice_bounds-put_gap-end c)
 
 pub put_gap-next-requires : goal.put_gap-next-requires
 put_gap-next-requires c =
-    let s = (goal.at.put_gap-next-requires c).Start in
     rw (before (goal.at.put_gap-next-requires c).Else-is_outside)
-    (busy-room _ _ s.args.put.base _ (plain (goal.at.put_gap-next-requires c).After-position-place) s.pre.0.put _ (stated (goal.at.put_gap-next-requires c).After-position-place) _ (ap meant c.field-reference.ensures) _
+    (busy-room _ _ c.args.put.base _ (plain (goal.at.put_gap-next-requires c).After-position-place) c.requires.placing.put _ (stated (goal.at.put_gap-next-requires c).After-position-place) _ (ap meant c.field-reference.ensures) _
     (ending (goal.at.put_gap-next-requires c).After-behind-end)
-    (sym c.if-is_outside.false ∙ c.is_outside.ensures) s.args.put.left s.pre.0.lies _ refl s.args.put.at _ s.pre.1).0
+    (sym c.if-is_outside.false ∙ c.is_outside.ensures) c.args.put.left c.requires.placing.lies _ refl c.args.put.at _ c.requires.line_in_bounds).0
 
 pub put_record-last-requires : goal.put_record-last-requires
 put_record-last-requires c =
-    let s = (goal.at.put_record-last-requires c).Start in
-    let r = busy-room _ _ s.args.put.base _ (plain (goal.at.put_record-last-requires c).After-position-place) s.pre.0.put _ (stated (goal.at.put_record-last-requires c).After-position-place) _ (ap meant c.field-reference.ensures)
+    let r = busy-room _ _ c.args.put.base _ (plain (goal.at.put_record-last-requires c).After-position-place) c.requires.placing.put _ (stated (goal.at.put_record-last-requires c).After-position-place) _ (ap meant c.field-reference.ensures)
     _ (ending (goal.at.put_record-last-requires c).After-behind-end)
-    (sym c.if-is_outside.false ∙ c.is_outside.ensures) s.args.put.left s.pre.0.lies _ (ap meant c.field-alt.ensures)
-    s.args.put.at _ s.pre.1 in record {
-      alt_len_bound = busy-few _ _ s.args.put.base _ (plain (goal.at.put_record-last-requires c).After-position-place) s.pre.0.put _ (stated (goal.at.put_record-last-requires c).After-position-place) _ (ap meant c.field-reference.ensures) _
+    (sym c.if-is_outside.false ∙ c.is_outside.ensures) c.args.put.left c.requires.placing.lies _ (ap meant c.field-alt.ensures)
+    c.args.put.at _ c.requires.line_in_bounds in record {
+      alt_len_bound = busy-few _ _ c.args.put.base _ (plain (goal.at.put_record-last-requires c).After-position-place) c.requires.placing.put _ (stated (goal.at.put_record-last-requires c).After-position-place) _ (ap meant c.field-reference.ensures) _
           (ending (goal.at.put_record-last-requires c).After-behind-end)
-          (sym c.if-is_outside.false ∙ c.is_outside.ensures) s.args.put.left s.pre.0.lies _ (ap meant c.field-alt.ensures);
+          (sym c.if-is_outside.false ∙ c.is_outside.ensures) c.args.put.left c.requires.placing.lies _ (ap meant c.field-alt.ensures);
       alt_in_bounds = omega (arith, r.1, rw (before (goal.at.put_record-last-requires c).Else-is_outside) at c.put_gap-next.ensures.value, c.put_gap-next.auto.out);
     }
 
@@ -98,9 +94,8 @@ overflow_sub-result-2 c = let h = bounds (goal.at.overflow_sub-result-2 c).Else-
 
 pub returns : goal.returns
 returns c =
-    let s = (goal.at.returns c).Start in
     let x = rw (before (goal.at.returns c).Else-is_outside) at c.put_gap-next.ensures in
-    let whole = busy-line _ _ s.args.put.base _ (plain (goal.at.returns c).After-position-place) s.pre.0.put _ (stated (goal.at.returns c).After-position-place) _ (ap meant c.field-reference.ensures) _
+    let whole = busy-line _ _ c.args.put.base _ (plain (goal.at.returns c).After-position-place) c.requires.placing.put _ (stated (goal.at.returns c).After-position-place) _ (ap meant c.field-reference.ensures) _
     (ending (goal.at.returns c).After-behind-end)
-    (sym c.if-is_outside.false ∙ c.is_outside.ensures) s.args.put.left s.pre.0.lies _ (ap meant c.field-alt.ensures) _ _
-    s.pre.1 _ _ x.0 c.put_record-last.ensures.value _ _ x.1 c.put_record-last.ensures.out_after in record { left_value = whole.0; out_after = whole.1 }
+    (sym c.if-is_outside.false ∙ c.is_outside.ensures) c.args.put.left c.requires.placing.lies _ (ap meant c.field-alt.ensures) _ _
+    c.requires.line_in_bounds _ _ x.0 c.put_record-last.ensures.value _ _ x.1 c.put_record-last.ensures.out_after in record { left_value = whole.0; out_after = whole.1 }

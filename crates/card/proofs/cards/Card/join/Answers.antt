@@ -14,33 +14,33 @@ use Rattle.card.proofs.cards.Card.join.Goals.{Else-not-same_pattern, Else-not-we
 
 -- the left card was found well formed, then the right one, then both of one pattern
 left : (c : Else-not-well_formed) → well_formed (card_in c.args.self) ≡ true
-left c = passed c.well-formed.ensures c.if-not-well_formed.left
+left c = passed c.well-formed.ensures c.if-not-well_formed.false
 
 right : (c : Else-not-well_formed-2) → well_formed (card_in c.args.right) ≡ true
-right c = passed c.well_formed-2.ensures c.if-not-well_formed-2.left
+right c = passed c.well_formed-2.ensures c.if-not-well_formed-2.false
 
 alike : (c : Else-not-same_pattern)
     → same_pattern (card_in c.args.self) (card_in c.args.right) ≡ true
-alike c = passed c.same_pattern.ensures c.if-not-same_pattern.left
+alike c = passed c.same_pattern.ensures c.if-not-same_pattern.false
 
 -- the cards can be joined
 fits : (c : Else-self-right)
     → join (card_in c.args.self) (card_in c.args.right) ≡ ok (joined (card_in c.args.self) (card_in c.args.right))
 fits c =
-    join-fits _ _ (left (goal.at.Else-self-right c).Else-not-well_formed) (right (goal.at.Else-self-right c).Else-not-well_formed-2) (alike (goal.at.Else-self-right c).Else-not-same_pattern) c.if-self-right.left
+    join-fits _ _ (left (goal.at.Else-self-right c).Else-not-well_formed) (right (goal.at.Else-self-right c).Else-not-well_formed-2) (alike (goal.at.Else-self-right c).Else-not-same_pattern) c.if-self-right.false
 
 pub returns-then-not-well_formed : goal.returns-then-not-well_formed
 returns-then-not-well_formed c =
-    c.refused.ensures ∙ ap made (sym (join-left-malformed _ _ (failed c.well-formed.ensures c.if-not-well_formed.taken)))
+    c.refused.ensures ∙ ap made (sym (join-left-malformed _ _ (failed c.well-formed.ensures c.if-not-well_formed.true)))
 
 pub returns-then-not-well_formed-2 : goal.returns-then-not-well_formed-2
 returns-then-not-well_formed-2 c =
-    let wrong = failed c.well_formed-2.ensures c.if-not-well_formed-2.taken in
+    let wrong = failed c.well_formed-2.ensures c.if-not-well_formed-2.true in
     c.refused-then-not-well_formed-2.ensures ∙ ap made (sym (join-right-malformed _ _ (left (goal.at.returns-then-not-well_formed-2 c).Else-not-well_formed) wrong))
 
 pub returns-then-not-same_pattern : goal.returns-then-not-same_pattern
 returns-then-not-same_pattern c =
-    let wrong = failed c.same_pattern.ensures c.if-not-same_pattern.taken in
+    let wrong = failed c.same_pattern.ensures c.if-not-same_pattern.true in
     c.refused-then-not-same_pattern.ensures ∙ ap made (sym (join-differ _ _ (left (goal.at.returns-then-not-same_pattern c).Else-not-well_formed) (right (goal.at.returns-then-not-same_pattern c).Else-not-well_formed-2) wrong))
 
 pub overflow_sub-self : goal.overflow_sub-self
@@ -48,7 +48,7 @@ overflow_sub-self c = ((well _).0 (left (goal.at.overflow_sub-self c).Else-not-w
 
 pub returns-then-self-right : goal.returns-then-self-right
 returns-then-self-right c =
-    c.refused-then-self-right.ensures ∙ ap made (sym (join-long _ _ (left (goal.at.returns-then-self-right c).Else-not-well_formed) (right (goal.at.returns-then-self-right c).Else-not-well_formed-2) (alike (goal.at.returns-then-self-right c).Else-not-same_pattern) c.if-self-right.taken))
+    c.refused-then-self-right.ensures ∙ ap made (sym (join-long _ _ (left (goal.at.returns-then-self-right c).Else-not-well_formed) (right (goal.at.returns-then-self-right c).Else-not-well_formed-2) (alike (goal.at.returns-then-self-right c).Else-not-same_pattern) c.if-self-right.true))
 
 pub joined-requires : goal.joined-requires
 joined-requires c = fits (goal.at.joined-requires c).Else-self-right

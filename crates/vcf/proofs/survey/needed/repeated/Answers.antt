@@ -15,9 +15,8 @@ use Rattle.vcf.proofs.survey.needed.repeated.Goals.{Else-alike}
 -- it is not REF
 other :
     (c : Else-alike) →
-    let a = c.args in
-    among (meant a.allele.now) (meant a.reference.now ∷ take a.k (pieces 0x2C (meant a.alt.now)))
-    ≡ among (meant a.allele.now) (take a.k (pieces 0x2C (meant a.alt.now)))
+    among (meant c.args.allele.now) (meant c.args.reference.now ∷ take c.args.k (pieces 0x2C (meant c.args.alt.now)))
+    ≡ among (meant c.args.allele.now) (take c.args.k (pieces 0x2C (meant c.args.alt.now)))
 other c = among-rest c.args.allele.now c.args.reference.now _ (sym c.alike.ensures ∙ c.if-alike.false)
 
 pub returns-then-alike : goal.returns-then-alike

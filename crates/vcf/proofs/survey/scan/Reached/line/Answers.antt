@@ -12,7 +12,7 @@ use Rattle.vcf.specs.Records.{beyond, comment}
 use Rattle.vcf.proofs.Tallying.{sane-gap}
 use Rattle.vcf.proofs.Scanning.{step-comment, step-unsound, step-early, step-over, step-apart, step-bounds, step_in}
 use Rattle.vcf.proofs.survey.scan.Reached.line.Goals as goal
-use Rattle.vcf.proofs.survey.scan.Reached.line.Goals.{After-behind-end, After-record-next, Else-is_comment, Else-not-agrees, Start}
+use Rattle.vcf.proofs.survey.scan.Reached.line.Goals.{After-behind-end, After-record-next, Else-is_comment, Else-not-agrees}
 
 plain : (c : Else-is_comment) → comment c.args.line.now ≡ false
 plain c = sym c.is_comment.ensures ∙ c.if-is_comment.false
@@ -70,7 +70,7 @@ pub overflow_sub-result : goal.overflow_sub-result
 overflow_sub-result c = let h = bounds (goal.at.overflow_sub-result c).Else-not-agrees in omega (arith, h)
 
 pub overflow_add-result : goal.overflow_add-result
-overflow_add-result c = let s = (goal.at.overflow_add-result c).Start in omega (arith, s.pre.few, s.pre.inside, meant-length s.args.window.now)
+overflow_add-result c = omega (arith, c.requires.few, c.requires.inside, meant-length c.args.window.now)
 
 pub returns : goal.returns
 returns c =
