@@ -47,12 +47,12 @@ sound e = sounds (is_record _ _) (position (L (goal.at.Else-sound-eq0 e).After-f
 
 needed :
     (r : After-record) →
-    r.«record».result
+    r.record.result
     ≡ tally_in (opened nothing) [] (meant (field (L (goal.at.After-record r).After-field-reference) 3) ∷ alternates (meant (field (L (goal.at.After-record r).After-field-reference) 4)))
 needed r =
     let ref = r.field-reference in
     let alt = r.field-alt in
-    r.«record».ensures
+    r.record.ensures
     ∙ ap (λ (t : Needed). tally_in (opened t) [] (meant ref.result.now ∷ alternates (meant alt.result.now))) r.nothing-nothing.ensures
     ∙ ap₂ (λ (a b : List ℕ). tally_in (opened nothing) [] (meant a ∷ alternates (meant b))) ref.ensures alt.ensures
 

@@ -5,15 +5,14 @@ use Rattle.layout.proofs.Going.{open_is, passed_on}
 use Rattle.watch.specs.Rounds.{text_of}
 use Rattle.watch.proofs.Sights.{open-there, Unended, unended-none, unended-readable, unended-ends, unended-more, unended-all}
 use Rattle.watch.proofs.sight.first_end.Goals as goal
-use Rattle.watch.proofs.sight.first_end.Goals.{After-open}
 
 pub returns-in_default : goal.returns-in_default
 returns-in_default c =
-    absurd (open-there _ _ c.requires.1 (goal.at.returns-in_default c).After-open.«open».ensures c.in_default.is)
+    absurd (open-there _ _ c.requires.1 c.open.ensures c.in_default.is)
 
 pub loop-walk-init : goal.loop-walk-init
 loop-walk-init c =
-    unended-none _ _ _ _ c.requires.0 c.requires.1 (open_is _ (goal.at.loop-walk-init c).After-open.«open».ensures c.in-At.is)
+    unended-none _ _ _ _ c.requires.0 c.requires.1 (open_is _ c.open.ensures c.in-At.is)
 
 pub over-passed-requires : goal.over-passed-requires
 over-passed-requires c =

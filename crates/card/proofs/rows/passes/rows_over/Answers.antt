@@ -11,7 +11,7 @@ use Rattle.card.specs.RowStep.{Covers}
 use Rattle.card.proofs.RowsHeld.{exits-in, even}
 use Rattle.card.proofs.RowWalks.{sound-opens, Rowing, rowing-none, rowing-readable, rowing_more, rowing-all, rowing-dead}
 use Rattle.card.proofs.rows.passes.rows_over.Goals as goal
-use Rattle.card.proofs.rows.passes.rows_over.Goals.{After-open, At-loop-walk}
+use Rattle.card.proofs.rows.passes.rows_over.Goals.{At-loop-walk}
 
 -- the lists keep their lengths
 even-states : (a : At-loop-walk)
@@ -31,11 +31,11 @@ overflow_sub-live c =
 
 pub returns-in_default : goal.returns-in_default
 returns-in_default c =
-    absurd (sound-opens _ _ c.requires.2 (goal.at.returns-in_default c).After-open.«open».ensures c.in_default.is)
+    absurd (sound-opens _ _ c.requires.2 c.open.ensures c.in_default.is)
 
 pub loop-walk-init : goal.loop-walk-init
 loop-walk-init c =
-    let opening = open_is _ (goal.at.loop-walk-init c).After-open.«open».ensures c.in-At.is in
+    let opening = open_is _ c.open.ensures c.in-At.is in
     (c.requires.3, rowing-none _ _ _ _ c.requires.0 c.requires.2 c.requires.4 _ c.low-live.ensures opening)
 
 pub shape_of-exits-then-live-eq0 : goal.shape_of-exits-then-live-eq0

@@ -8,9 +8,8 @@ pub returns-then-position-first : goal.returns-then-position-first
 returns-then-position-first c = sym (agrees-before c.args.window.now _ _ c.args.reference.now c.if-position-first.true)
 
 pub returns-then-window-start : goal.returns-then-window-start
-returns-then-window-start c = let s =
-    c.args in sym
-    (agrees-behind s.window.now _ _ s.reference.now c.if-position-first.false c.if-window-start.true)
+returns-then-window-start c = sym
+    (agrees-behind c.args.window.now _ _ c.args.reference.now c.if-position-first.false c.if-window-start.true)
 
 pub returns-then-window-start-2 : goal.returns-then-window-start-2
 returns-then-window-start-2 c =

@@ -5,7 +5,6 @@ use borrow.Author.Rules.{rules}
 use borrow.Author.Tests.{not-true, not-false}
 use Rattle.vcf.proofs.Tallying.{fits-sane, open-fits, open-long, repeated-sane, open-repeated, open-repeated-long, open-at-long}
 use Rattle.vcf.proofs.survey.needed.Needed.open.Goals as goal
-use Rattle.vcf.proofs.survey.needed.Needed.open.Goals.{After-fits-in-Repeated}
 
 pub returns-then-not-fits : goal.returns-then-not-fits
 returns-then-not-fits c = open-long c.in-Fits.is (sym c.fits.ensures ∙ not-true _ c.if-not-fits.true-raw)
@@ -17,8 +16,7 @@ pub overflow_add-result-in-Fits : goal.overflow_add-result-in-Fits
 overflow_add-result-in-Fits c = omega (arith, fits-sane c.in-Fits.is c.requires)
 
 pub returns-then-not-fits-2 : goal.returns-then-not-fits-2
-returns-then-not-fits-2 c = let f =
-    (goal.at.returns-then-not-fits-2 c).After-fits-in-Repeated in open-repeated-long f.before.before.self2.given.1 (sym f.fits3.ensures ∙ not-true _ c.if-not-fits-2.true-raw)
+returns-then-not-fits-2 c = open-repeated-long c.in-Repeated.is (sym c.fits-in-Repeated.ensures ∙ not-true _ c.if-not-fits-2.true-raw)
 
 pub overflow_add-result-in-Repeated : goal.overflow_add-result-in-Repeated
 overflow_add-result-in-Repeated c = omega (arith, repeated-sane c.in-Repeated.is c.requires)

@@ -8,12 +8,12 @@ use Rattle.vcf.proofs.Tallying.{sane-opened, sane-tallied, record-none, record-s
 use Rattle.vcf.proofs.survey.needed.Needed.record.Goals as goal
 use Rattle.vcf.proofs.survey.needed.Needed.record.Goals.{After-open-begun, After-variant-first}
 
-begun : (c : After-open-begun) → Sane c.«open».result
-begun c = rw c.«open».ensures (sane-opened c.args.self c.requires)
+begun : (c : After-open-begun) → Sane c.open-begun.result
+begun c = rw c.open-begun.ensures (sane-opened c.args.self c.requires)
 
 whole : (v : After-variant-first) → v.variant-first.result ≡ tallied (opened v.args.self)
     (length v.args.reference.now) false
-whole v = v.variant-first.ensures ∙ rw (goal.at.After-variant-first v).After-open-begun.«open».ensures
+whole v = v.variant-first.ensures ∙ rw v.open-begun.ensures
 
 pub variant-first-requires : goal.variant-first-requires
 variant-first-requires c = begun (goal.at.variant-first-requires c).After-open-begun
@@ -24,9 +24,8 @@ returns-then-is_none c = record-none c.args.self c.args.reference.now _ _ (whole
 
 pub alternates-requires : goal.alternates-requires
 alternates-requires c =
-    rw c.variant-first.ensures (sane-tallied (goal.at.alternates-requires c).After-open-begun.«open».result (length c.args.reference.now) false (begun (goal.at.alternates-requires c).After-open-begun))
+    rw c.variant-first.ensures (sane-tallied c.open-begun.result (length c.args.reference.now) false (begun (goal.at.alternates-requires c).After-open-begun))
 
 pub returns : goal.returns
-returns c = let v =
-    (goal.at.returns c).After-variant-first in record-some (S v).args.self (S v).args.reference.now _ _ (whole v)
+returns c = record-some c.args.self c.args.reference.now _ _ (whole (goal.at.returns c).After-variant-first)
     (sym c.is_none.ensures ∙ c.if-is_none.false) _ c.alternates.ensures

@@ -12,7 +12,7 @@ use Rattle.vcf.specs.Records.{beyond, comment}
 use Rattle.vcf.proofs.Tallying.{sane-gap}
 use Rattle.vcf.proofs.Scanning.{step-comment, step-unsound, step-early, step-over, step-apart, step-bounds, step_in}
 use Rattle.vcf.proofs.survey.scan.Reached.line.Goals as goal
-use Rattle.vcf.proofs.survey.scan.Reached.line.Goals.{After-behind-end, After-record-next, Else-is_comment, Else-not-agrees}
+use Rattle.vcf.proofs.survey.scan.Reached.line.Goals.{After-behind-end, Else-is_comment, Else-not-agrees}
 
 plain : (c : Else-is_comment) → comment c.args.line.now ≡ false
 plain c = sym c.is_comment.ensures ∙ c.if-is_comment.false
@@ -77,4 +77,4 @@ returns c =
     step_in _ _ _ _ _ (plain (goal.at.returns c).Else-is_comment) _ c.sound-position.ensures c.if-position-eq0.false c.if-position-from.false _ (ap meant c.field-reference.ensures)
     c.requires.put _ (ending (goal.at.returns c).After-behind-end)
     (sym c.if-is_outside.false ∙ c.is_outside.ensures) (sym (not-false _ c.if-not-agrees.false-raw) ∙ c.agrees.ensures)
-    _ (ap meant c.field-alt.ensures) _ _ c.gap-before.ensures (goal.at.returns c).After-record-next.«record».ensures
+    _ (ap meant c.field-alt.ensures) _ _ c.gap-before.ensures c.record-next.ensures
