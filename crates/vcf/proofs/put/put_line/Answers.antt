@@ -98,4 +98,4 @@ returns c =
     let whole = busy-line _ _ c.args.put.base _ (plain (goal.at.returns c).After-position-place) c.requires.placing.put _ (stated (goal.at.returns c).After-position-place) _ (ap meant c.field-reference.ensures) _
     (ending (goal.at.returns c).After-behind-end)
     (sym c.if-is_outside.false ∙ c.is_outside.ensures) c.args.put.left c.requires.placing.lies _ (ap meant c.field-alt.ensures) _ _
-    c.requires.line_in_bounds _ _ x.0 c.put_record-last.ensures.value _ _ x.1 c.put_record-last.ensures.out_after in record { left_value = whole.0; out_after = whole.1 }
+    c.requires.line_in_bounds _ _ x.value c.put_record-last.ensures.value _ _ x.out_after c.put_record-last.ensures.out_after in record { left_value = whole.0; out_after = whole.1 }
