@@ -1,13 +1,12 @@
 -- What this crate proves of its calls, theorem by theorem: read this file first. `searching`, `seeking`, `feeding`, `firsting` and what is
 -- told of them are what the contracts say of the calls' answers.
-use Prim.Native.Nat.{ℕ, suc, ◌+◌, ◌≤◌, ◌<◌}
-use mathlib.Core.Path.{◌≡◌, refl, sym, ap, ap₂, ◌∙◌}
+use Prim.Native.Nat.{ℕ, ◌+◌, ◌≤◌, ◌<◌}
+use mathlib.Core.Path.{◌≡◌, refl, sym, ap, ◌∙◌}
 use mathlib.Core.Logic.{◌⊎◌, inl, inr, ⊎_elim, ◌↔◌, by_cases}
 use native.Mathlib.Decide.{ℕ_discrete}
-use mathlib.Core.Bool.{Bool, true, false, cond}
+use mathlib.Core.Bool.{true}
 use mathlib.Core.List.{List, [], ◌∷◌, ◌++◌, map}
-use native.Mathlib.Omega.{arith}
-use lib.ListN.{length, get_or, drop, take, get_or-append, get_or-map, length-map}
+use lib.ListN.{length, get_or, drop, take, get_or-append}
 use Rattle.text.specs.Text.{Segment, Text, total}
 use Rattle.text.specs.Occurrence.{EndsIn, CarriedOut}
 use Rattle.text.specs.Bits.{bit}

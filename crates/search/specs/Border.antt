@@ -1,5 +1,5 @@
 -- Borders: how far the first bases of a pattern end a string, and what a table of borders holds.
-use Rattle.std.specs.Prelude.{ℕ, ◌-◌, ◌≤◌, ◌<◌, ◌≡◌, true, List, [], ◌∷◌, ◌++◌, length, take, get_or}
+use Rattle.std.specs.Prelude.{ℕ, ◌-◌, ◌≤◌, ◌<◌, List, [], ◌∷◌, ◌++◌, length, take, get_or}
 use Rattle.text.specs.Refusal.{SoundPattern}
 use Rattle.text.specs.Occurrence.{Suffix}
 use Rattle.search.specs.Masks.{StateOf}

@@ -1,5 +1,5 @@
 -- A text that comes in pieces: lone segments fed, or stretches searched, one after another, the state of each handed on to the next.
-use Rattle.std.specs.Prelude.{ℕ, Bool, cond, List, [], ◌∷◌, ◌++◌, map}
+use Rattle.std.specs.Prelude.{ℕ, cond, List, [], ◌∷◌, ◌++◌}
 use Rattle.text.specs.Text.{Text}
 use Rattle.text.specs.State.{marks_from}
 use Rattle.text.specs.Refusal.{Outcome, ok, after}

@@ -2,10 +2,9 @@ use borrow.Author.Rules.{rules}
 use Prim.Native.Nat.{◌<◌}
 use native.Mathlib.Omega.{arith}
 use mathlib.Core.Path.{◌∙◌}
-use mathlib.Core.Logic.{⊎_elim}
 use Rattle.card.proofs.Follows.{Following, following-none, following-inside, following-taken, following-passed, following-all}
 use Rattle.card.proofs.follow.follow.Goals as goal
-use Rattle.card.proofs.follow.follow.Goals.{In-loop-rest}
+use Rattle.card.proofs.follow.follow.Goals.{In-loop-rest, then-rest-eq1, else-rest-eq1}
 
 -- a bit is left, so q is a row
 inside : (c : In-loop-rest) → c.loop-rest.q < 64
@@ -36,12 +35,11 @@ pub loop-rest-preserved : goal.loop-rest-preserved
 loop-rest-preserved c =
     let h = c.loop-rest.invariant in
     let l = inside (goal.at.loop-rest-preserved c).In-loop-rest in
-    ⊎_elim
-    (λ w. following-taken _ _ _ _ _ _ _ h _ _ l w.0.taken w.4 (w.5 ∙ w.3.ensures))
-    (λ w. following-passed _ _ _ _ _ _ _ h _ _ l w.0.left w.1 w.2)
-    c.if-rest-eq1.branch
+    elim c.if-rest-eq1.branch [
+      then-rest-eq1 w ↦ following-taken _ _ _ _ _ _ _ h _ _ l w.if-rest-eq1.true w.exit-is (w.first-is ∙ w.earlier-first.ensures)
+    | else-rest-eq1 w ↦ following-passed _ _ _ _ _ _ _ h _ _ l w.if-rest-eq1.false w.exit-is w.first-is
+    ]
 
 pub returns : goal.returns
 returns c =
-    let known = c.shared_slice_known-1.given in
-    following-all _ _ _ _ _ _ _ c.loop-rest.invariant c.requires (λ p. omega (arith, known p)) c.loop-rest-test.false
+    following-all _ _ _ _ _ _ _ c.loop-rest.invariant c.requires (λ p. omega (arith, c.type_inv.exits p)) c.loop-rest-test.false

@@ -3,4 +3,4 @@ use Rattle.card.proofs.Formed.{row-idle}
 use Rattle.card.proofs.test.is_idle.Goals as goal
 
 pub returns : goal.returns
-returns c = row-idle m n q c.args.exit c.args.first l
+returns c m n q l = row-idle m n q c.args.exit c.args.first l

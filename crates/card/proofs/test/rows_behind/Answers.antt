@@ -6,13 +6,13 @@ use Rattle.card.proofs.Formed.{Tested, tested-none, tested-more, tested-all}
 use Rattle.card.proofs.test.rows_behind.Goals as goal
 
 pub loop-q-init : goal.loop-q-init
-loop-q-init c = tested-none _ _ _ _ _ (omega arith)
+loop-q-init c n = tested-none _ _ _ _ _ (omega arith)
 
 pub loop-q-preserved : goal.loop-q-preserved
-loop-q-preserved c =
+loop-q-preserved c n =
     let h = c.loop-q.invariant n in
     let right = c.is_idle-right.ensures _ n c.loop-q.q h.past in
     tested-more _ _ _ _ c.requires.0 _ _ _ _ _ h (omega arith) c.loop-q-test.true right
 
 pub returns : goal.returns
-returns c = tested-all _ _ _ _ _ _ _ (c.loop-q.invariant n) c.loop-q-test.false
+returns c n = tested-all _ _ _ _ _ _ _ (c.loop-q.invariant n) c.loop-q-test.false

@@ -1,11 +1,8 @@
-use Prim.Native.Nat.{ℕ, ◌-◌, ◌<◌}
-use borrow.Author.Rules.{rules}
+use Prim.Native.Nat.{◌<◌}
 use native.Mathlib.Omega.{arith}
 use mathlib.Core.Path.{refl}
-use mathlib.Core.List.{List}
-use lib.ListN.{length, get_or}
-use Rattle.search.specs.Masks.{Ready}
-use Rattle.search.proofs.BitScans.{Turning, turning-none, turning-more, turning-all, scanning-wrong}
+use lib.ListN.{get_or}
+use Rattle.search.proofs.BitScans.{turning-none, turning-more, turning-all, scanning-wrong}
 use Rattle.search.proofs.bits.scan.Goals as goal
 use Rattle.search.proofs.bits.scan.Goals.{After-shared_slice_known-1}
 
@@ -15,7 +12,7 @@ byte : (c : After-shared_slice_known-1)
 byte c = omega (arith, c.shared_slice_known-1.given c.loop-i.i)
 
 pub loop-i-init : goal.loop-i-init
-loop-i-init c = turning-none P _ _ _ _ _ (omega arith) y
+loop-i-init c P y = turning-none P _ _ _ _ _ (omega arith) y
 
 pub overflow_cast-c : goal.overflow_cast-c
 overflow_cast-c c = omega (arith, byte (goal.at.overflow_cast-c c).After-shared_slice_known-1)
@@ -30,10 +27,10 @@ pub bounds-others-c : goal.bounds-others-c
 bounds-others-c c = byte (goal.at.bounds-others-c c).After-shared_slice_known-1
 
 pub loop-i-preserved : goal.loop-i-preserved
-loop-i-preserved c =
+loop-i-preserved c P y =
     turning-more P _ _ _ _ _ _ _ _ _ y (c.loop-i.invariant P y) c.loop-i-test.true _ refl (byte (goal.at.loop-i-preserved c).After-shared_slice_known-1) _ refl
 
 pub returns : goal.returns
-returns c =
+returns c P y =
     let d = c.loop-i.invariant P y in
     (turning-all P _ _ _ _ _ _ _ d c.loop-i-test.false, scanning-wrong P _ _ _ _ _ _ d.scanning c.loop-i-test.false)

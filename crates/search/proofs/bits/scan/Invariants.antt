@@ -1,13 +1,10 @@
 -- `search::bits::scan` meets its contract. The loop's invariant, `Turning`: the word has the bits of the state that the letters read so
 -- far lead to. The measure is the number of letters left.
-use Prim.Native.Nat.{ℕ, ◌-◌, ◌<◌}
-use borrow.Author.Rules.{rules}
-use native.Mathlib.Omega.{arith}
-use mathlib.Core.Path.{refl}
+use Prim.Native.Nat.{ℕ, ◌-◌}
 use mathlib.Core.List.{List}
-use lib.ListN.{length, get_or}
+use lib.ListN.{length}
 use Rattle.search.specs.Masks.{Ready}
-use Rattle.search.proofs.BitScans.{Turning, turning-none, turning-more, turning-all, scanning-wrong}
+use Rattle.search.proofs.BitScans.{Turning}
 use Rattle.search.proofs.bits.scan.Given as goal
 
 abbrev pub invariant-loop-i : goal.invariant-loop-i

@@ -1,7 +1,6 @@
 -- `search::both::enter_both` meets its contract: what `enter` asks of the strand as given, then the state of the opposite one.
-use borrow.Author.Rules.{rules}
 use borrow.Author.Tests.{not-true, not-false}
-use mathlib.Core.Path.{◌≡◌, sym, ap, ◌∙◌}
+use mathlib.Core.Path.{sym, ap, ◌∙◌}
 use Rattle.text.specs.Refusal.{told_verdict}
 use Rattle.search.proofs.Entries.{Entered, entered}
 use Rattle.search.proofs.Eithers.{both-refused, both-wrong, both-sound}

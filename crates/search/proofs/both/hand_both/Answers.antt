@@ -1,5 +1,4 @@
 -- `search::both::hand_both` meets its contract, from what `handed` says of the room for the marks.
-use borrow.Author.Rules.{rules}
 use Prim.Native.Nat.{ℕ}
 use mathlib.Core.Path.{ap}
 use Rattle.search.specs.Either.{SeenBoth, told_both}

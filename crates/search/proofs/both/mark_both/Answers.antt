@@ -1,6 +1,5 @@
 -- `search::both::mark_both` meets its contract: what `Walk::open` tells, what `run_both` tells of the segments, and what `hand_both` makes
 -- of their marks. Both buffers have room for the marks of the stretches that take them.
-use borrow.Author.Rules.{rules}
 use native.Mathlib.Omega.{arith}
 use Prim.Native.Nat.{ℕ}
 use mathlib.Core.List.{[]}

@@ -1,5 +1,4 @@
 -- `search::both::summed_both` meets its contract, case by case.
-use borrow.Author.Rules.{rules}
 use mathlib.Core.Path.{sym, ap}
 use Rattle.text.specs.Refusal.{ok, after}
 use Rattle.search.specs.Either.{told_both, sums_both}

@@ -1,7 +1,6 @@
 -- `search::entry::enter` meets its contract: each refusal is a law of `entering`, from the answer that led to it.
-use borrow.Author.Rules.{rules}
 use borrow.Author.Tests.{not-true, not-false}
-use mathlib.Core.Path.{◌≡◌, sym, ap, ◌∙◌}
+use mathlib.Core.Path.{sym, ap, ◌∙◌}
 use Rattle.text.specs.Refusal.{told_verdict, SoundPattern}
 use Rattle.text.proofs.Patterns.{pattern-sound}
 use Rattle.layout.proofs.Frames.{fits-met}

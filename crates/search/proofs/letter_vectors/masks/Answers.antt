@@ -1,5 +1,4 @@
 -- `search::letter_vectors::masks` meets its contract: what is turned in blank words of zeros is set.
-use borrow.Author.Rules.{rules}
 use Rattle.search.proofs.BitScans.{filled-masks}
 use Rattle.search.proofs.letter_vectors.masks.Goals as goal
 

@@ -1,12 +1,8 @@
 -- `search::marking::copy` meets its contract. The loop's invariant, `Copied`: the first i bytes are written. The measure is the number
 -- of bytes left.
-use Prim.Native.Nat.{ℕ, ◌+◌, ◌-◌, ◌≤◌}
-use native.Mathlib.Nat.{zero-add}
-use borrow.Author.Rules.{rules}
-use native.Mathlib.Omega.{arith}
-use mathlib.Core.Path.{subst}
-use lib.ListN.{length, get_or, set}
-use Rattle.layout.proofs.Overs.{Copied, copied_none, copied-room, copied_more, copied-end, emitted-length}
+use Prim.Native.Nat.{◌-◌, ◌≤◌}
+use lib.ListN.{length}
+use Rattle.layout.proofs.Overs.{Copied}
 use Rattle.search.proofs.marking.copy.Given as goal
 
 abbrev pub invariant-loop-i : goal.invariant-loop-i

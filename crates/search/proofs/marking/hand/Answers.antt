@@ -1,5 +1,4 @@
 -- `search::marking::hand` meets its contract, from what `handed` says of the room for the marks.
-use borrow.Author.Rules.{rules}
 use Prim.Native.Nat.{ℕ}
 use mathlib.Core.Path.{ap}
 use Rattle.search.specs.Answers.{Seen, told_sought}

@@ -1,5 +1,4 @@
 -- `search::marking::handed` meets its contract: what `copy` does where there is room.
-use borrow.Author.Rules.{rules}
 use native.Mathlib.Omega.{arith}
 use lib.ListN.{length-take}
 use Rattle.search.proofs.Markings.{handed-none, handed-all}

@@ -1,6 +1,5 @@
 -- `search::marking::mark` meets its contract: what `Walk::open` tells, what `run` tells of the segments, and what `hand` makes of their
 -- marks. Both buffers have room for the marks of the stretches that take them.
-use borrow.Author.Rules.{rules}
 use native.Mathlib.Omega.{arith}
 use Prim.Native.Nat.{ℕ}
 use mathlib.Core.Path.{refl}
@@ -31,14 +30,14 @@ run-sought-requires c =
 
 pub hand-requires : goal.hand-requires
 hand-requires c =
-    let e = c.run-sought.ensures.1 in
-    found-enough _ _ [] segments (seen-segments _ _) _ _ (e.1 refl) (e.0 refl) (marks-length _ _)
+    let e = c.run-sought.ensures in
+    found-enough _ _ [] segments (seen-segments _ _) _ _ (e.marks_of refl) (e.result_value_2 refl) (marks-length _ _)
 
 pub returns-then-stretch-le-SMALL_STRETCH : goal.returns-then-stretch-le-SMALL_STRETCH
 returns-then-stretch-le-SMALL_STRETCH c =
-    let e = c.run-sought.ensures.1 in
+    let e = c.run-sought.ensures in
     let whole = into-handed _ _ c.args.marks.now segments (seen-segments _ _) _ _
-    (e.1 refl) (e.0 refl) (opening (goal.at.returns-then-stretch-le-SMALL_STRETCH c).In-At).whole _ _ c.hand.ensures in record { result_value = whole.0; marks_after = whole.1 }
+    (e.marks_of refl) (e.result_value_2 refl) (opening (goal.at.returns-then-stretch-le-SMALL_STRETCH c).In-At).whole _ _ c.hand.ensures in record { result_value = whole.0; marks_after = whole.1 }
 
 pub run-sought-requires-2 : goal.run-sought-requires-2
 run-sought-requires-2 c =
@@ -46,11 +45,11 @@ run-sought-requires-2 c =
 
 pub hand-requires-2 : goal.hand-requires-2
 hand-requires-2 c =
-    let e = c.run-sought-2.ensures.1 in
-    found-enough _ _ [] segments (seen-segments _ _) _ _ (e.1 refl) (e.0 refl) (marks-length _ _)
+    let e = c.run-sought-2.ensures in
+    found-enough _ _ [] segments (seen-segments _ _) _ _ (e.marks_of refl) (e.result_value_2 refl) (marks-length _ _)
 
 pub returns : goal.returns
 returns c =
-    let e = c.run-sought-2.ensures.1 in
+    let e = c.run-sought-2.ensures in
     let whole = into-handed _ _ c.args.marks.now segments (seen-segments _ _) _ _
-    (e.1 refl) (e.0 refl) (opening (goal.at.returns c).In-At).whole _ _ c.hand-2.ensures in record { result_value = whole.0; marks_after = whole.1 }
+    (e.marks_of refl) (e.result_value_2 refl) (opening (goal.at.returns c).In-At).whole _ _ c.hand-2.ensures in record { result_value = whole.0; marks_after = whole.1 }

@@ -1,5 +1,4 @@
 -- `search::method::scan_borders` meets its contract: a step by borders, told as words.
-use borrow.Author.Rules.{rules}
 use native.Mathlib.Omega.{arith}
 use Rattle.search.proofs.Words.{turned-hit, turned-miss, letters-bad, letters-all, letters-good}
 use Rattle.search.proofs.method.scan_borders.Goals as goal

@@ -1,5 +1,4 @@
 -- `search::method::scan_by` meets its contract: each method has it, and the tools are those of the method that is taken.
-use borrow.Author.Rules.{rules}
 use Rattle.search.proofs.Methods.{ready-bits, ready-borders}
 use Rattle.search.proofs.method.scan_by.Goals as goal
 

@@ -1,5 +1,4 @@
 -- `search::run::keep` meets its contract, whether the run stops or not.
-use borrow.Author.Rules.{rules}
 use mathlib.Core.Path.{refl}
 use borrow.Author.Tests.{not-true, not-false}
 use Rattle.search.proofs.run.keep.Goals as goal

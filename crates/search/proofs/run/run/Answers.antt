@@ -1,11 +1,10 @@
-use Prim.Native.Nat.{◌-◌, ◌^◌, ◌<◌}
-use borrow.Author.Rules.{rules}
+use Prim.Native.Nat.{◌^◌, ◌<◌}
 use native.Mathlib.Omega.{arith}
-use mathlib.Core.Path.{◌≡◌, refl, sym, ap, ◌∙◌}
+use mathlib.Core.Path.{refl, sym, ap, ◌∙◌}
 use lib.ListN.{length}
 use Rattle.layout.proofs.Going.{going_less}
 use Rattle.search.specs.Step.{told_passed}
-use Rattle.search.proofs.Searches.{Searching, searching-none, searching-state, searching-room, searching-more, searching-stopped}
+use Rattle.search.proofs.Searches.{searching-none, searching-state, searching-room, searching-more, searching-stopped}
 use Rattle.search.proofs.Searches.{searching-walk, searching-length, byte-mark}
 use Rattle.search.proofs.Hits.{says-refused, says-left, says-sound, says-stopped}
 use Rattle.search.proofs.run.run.Goals as goal
@@ -37,7 +36,7 @@ returns-in-Refused c =
     let whole = says-refused c.loop-walked.invariant.0 c.requires.begun.1 (ahead (goal.at.returns-in-Refused c).In-loop-walked) _ wrong in record { result_value = whole.0; result_value_2 = whole.1.0; marks_of = whole.1.1 }
 
 pub keep-requires : goal.keep-requires
-keep-requires c =
+keep-requires c kept =
     let on = sym c.over.ensures ∙ ap told_passed c.in-To.is in
     let room = c.requires.walk_in_bounds kept in
     searching-room c.loop-walked.invariant.0 on (ahead (goal.at.keep-requires c).In-loop-walked) (omega (arith, room, c.loop-walked.invariant.1))
@@ -46,20 +45,20 @@ pub overflow_add-ends : goal.overflow_add-ends
 overflow_add-ends c =
     let on = sym c.over.ensures ∙ ap told_passed c.in-To.is in
     let w = searching-walk c.loop-walked.invariant.0 on (ahead (goal.at.overflow_add-ends c).In-loop-walked) _ (byte-mark c.in-To.hit)
-    (keep-requires (goal.at.overflow_add-ends c).After-keep-arg-1 c.keep.lifetimes) _ c.keep.ensures (narrow (goal.at.overflow_add-ends c).After-slice_known-1) c.past-walked.ensures in
+    (keep-requires (goal.at.overflow_add-ends c).After-keep-arg-1) _ c.keep.ensures (narrow (goal.at.overflow_add-ends c).After-slice_known-1) c.past-walked.ensures in
     omega (arith, w.few)
 
 pub shape_of-marks-then-stop-hit : goal.shape_of-marks-then-stop-hit
 shape_of-marks-then-stop-hit c =
     let on = sym c.over.ensures ∙ ap told_passed c.in-To.is in
     searching-length c.loop-walked.invariant.0 on (ahead (goal.at.shape_of-marks-then-stop-hit c).In-loop-walked) _ (byte-mark c.in-To.hit)
-    (keep-requires (goal.at.shape_of-marks-then-stop-hit c).After-keep-arg-1 c.keep.lifetimes) _ c.keep.ensures ∙ c.loop-walked.invariant.1
+    (keep-requires (goal.at.shape_of-marks-then-stop-hit c).After-keep-arg-1) _ c.keep.ensures ∙ c.loop-walked.invariant.1
 
 pub returns-then-stop-hit : goal.returns-then-stop-hit
 returns-then-stop-hit c =
     let on = sym c.over.ensures ∙ ap told_passed c.in-To.is in
     let is = byte-mark c.in-To.hit in
-    let kept = keep-requires (goal.at.returns-then-stop-hit c).After-keep-arg-1 c.keep.lifetimes in
+    let kept = keep-requires (goal.at.returns-then-stop-hit c).After-keep-arg-1 in
     let w = searching-walk c.loop-walked.invariant.0 on (ahead (goal.at.returns-then-stop-hit c).In-loop-walked) _ is kept _ c.keep.ensures (narrow (goal.at.returns-then-stop-hit c).After-slice_known-1)
     c.past-walked.ensures in
     let z = searching-stopped c.loop-walked.invariant.0 on (ahead (goal.at.returns-then-stop-hit c).In-loop-walked) _ is kept _ c.keep.ensures (narrow (goal.at.returns-then-stop-hit c).After-slice_known-1)
@@ -74,7 +73,7 @@ pub loop-walked-preserved : goal.loop-walked-preserved
 loop-walked-preserved c =
     let on = sym c.over.ensures ∙ ap told_passed c.in-To.is in
     let is = byte-mark c.in-To.hit in
-    let kept = keep-requires (goal.at.loop-walked-preserved c).After-keep-arg-1 c.keep.lifetimes in (
+    let kept = keep-requires (goal.at.loop-walked-preserved c).After-keep-arg-1 in (
       searching-more c.loop-walked.invariant.0 on (ahead (goal.at.loop-walked-preserved c).In-loop-walked) _ is kept _ c.keep.ensures (narrow (goal.at.loop-walked-preserved c).After-slice_known-1)
           c.past-walked.ensures c.if-stop-hit.false,
       searching-length c.loop-walked.invariant.0 on (ahead (goal.at.loop-walked-preserved c).In-loop-walked) _ is kept _ c.keep.ensures ∙ c.loop-walked.invariant.1,

@@ -1,6 +1,5 @@
 -- `search::by_borders` meets its contract: what `enter` asks of a search from the fresh state, then `mark` with the border table of the
 -- pattern as the strand reads it.
-use borrow.Author.Rules.{rules}
 use native.Mathlib.Omega.{arith}
 use mathlib.Core.Path.{refl, sym, ap, ◌∙◌}
 use Rattle.text.specs.Refusal.{told_verdict}
@@ -44,4 +43,4 @@ returns-in-Sound c =
     let y = entry (goal.at.returns-in-Sound c).In-Sound in
     let read = read_is c.args.strand _ _ c.read_on-bytes.ensures y.sound in
     let whole = fresh-marked c.args.pattern.now _ c.args.stretch.now c.args.marks.now _ _ _
-    (seek-sound c.args.pattern.now _ _ c.args.stretch.now c.args.marks.now y _ read _ _ c.mark-sought.ensures) c.summed.ensures in record { result_value = whole.0; marks_after = whole.1 }
+    (seek-sound c.args.pattern.now _ _ c.args.stretch.now c.args.marks.now y _ read _ _ (c.mark-sought.ensures.result_value, c.mark-sought.ensures.marks_after)) c.summed.ensures in record { result_value = whole.0; marks_after = whole.1 }

@@ -1,5 +1,4 @@
 -- `search::searching::summed` meets its contract, case by case.
-use borrow.Author.Rules.{rules}
 use mathlib.Core.Path.{sym, ap}
 use Rattle.text.specs.Refusal.{ok, after}
 use Rattle.search.specs.Answers.{told_sought, sums}

@@ -1,5 +1,4 @@
 -- `search::vectors::complements` meets its contract: what is turned in blank words of ones is clear.
-use borrow.Author.Rules.{rules}
 use Rattle.search.proofs.BitScans.{filled-others, bases-most}
 use Rattle.search.proofs.vectors.complements.Goals as goal
 

@@ -1,15 +1,10 @@
 -- `search::vectors::filled` meets its contract. The loop's invariant, `Filling`: the first k bases are entered. The measure is the number
 -- of bases left. After it the five entries of lower case are copied.
-use Prim.Native.Nat.{◌-◌, ◌<◌}
-use borrow.Author.Rules.{rules}
-use native.Mathlib.Omega.{arith}
-use mathlib.Core.Path.{◌≡◌, sym, ap, ◌∙◌}
-use mathlib.Core.Logic.{⊎_elim}
-use lib.ListN.{length, get_or}
+use Prim.Native.Nat.{◌-◌}
+use mathlib.Core.Path.{◌≡◌}
+use lib.ListN.{length}
 use Rattle.search.specs.Masks.{bases}
-use Rattle.search.proofs.Copies.{copied_all}
-use Rattle.search.proofs.BitScans.{Filling, filling-none, filling-more, filling-all, bases-long, bases-all, bases-near, bases-inside}
-use Rattle.search.proofs.BitScans.{bases-at}
+use Rattle.search.proofs.BitScans.{Filling}
 use Rattle.search.proofs.vectors.filled.Given as goal
 
 abbrev pub invariant-loop-k : goal.invariant-loop-k

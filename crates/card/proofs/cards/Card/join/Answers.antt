@@ -14,14 +14,14 @@ use Rattle.card.proofs.cards.Card.join.Goals.{Else-not-same_pattern, Else-not-we
 
 -- the left card was found well formed, then the right one, then both of one pattern
 left : (c : Else-not-well_formed) → well_formed (card_in c.args.self) ≡ true
-left c = passed c.well-formed.ensures c.if-not-well_formed.false
+left c = passed c.well_formed-2.ensures c.if-not-well_formed.false-raw
 
 right : (c : Else-not-well_formed-2) → well_formed (card_in c.args.right) ≡ true
-right c = passed c.well_formed-2.ensures c.if-not-well_formed-2.false
+right c = passed c.well_formed-3.ensures c.if-not-well_formed-2.false-raw
 
 alike : (c : Else-not-same_pattern)
     → same_pattern (card_in c.args.self) (card_in c.args.right) ≡ true
-alike c = passed c.same_pattern.ensures c.if-not-same_pattern.false
+alike c = passed c.same_pattern.ensures c.if-not-same_pattern.false-raw
 
 -- the cards can be joined
 fits : (c : Else-self-right)
@@ -31,16 +31,16 @@ fits c =
 
 pub returns-then-not-well_formed : goal.returns-then-not-well_formed
 returns-then-not-well_formed c =
-    c.refused.ensures ∙ ap made (sym (join-left-malformed _ _ (failed c.well-formed.ensures c.if-not-well_formed.true)))
+    c.refused.ensures ∙ ap made (sym (join-left-malformed _ _ (failed c.well_formed-2.ensures c.if-not-well_formed.true-raw)))
 
 pub returns-then-not-well_formed-2 : goal.returns-then-not-well_formed-2
 returns-then-not-well_formed-2 c =
-    let wrong = failed c.well_formed-2.ensures c.if-not-well_formed-2.true in
+    let wrong = failed c.well_formed-3.ensures c.if-not-well_formed-2.true-raw in
     c.refused-then-not-well_formed-2.ensures ∙ ap made (sym (join-right-malformed _ _ (left (goal.at.returns-then-not-well_formed-2 c).Else-not-well_formed) wrong))
 
 pub returns-then-not-same_pattern : goal.returns-then-not-same_pattern
 returns-then-not-same_pattern c =
-    let wrong = failed c.same_pattern.ensures c.if-not-same_pattern.true in
+    let wrong = failed c.same_pattern.ensures c.if-not-same_pattern.true-raw in
     c.refused-then-not-same_pattern.ensures ∙ ap made (sym (join-differ _ _ (left (goal.at.returns-then-not-same_pattern c).Else-not-well_formed) (right (goal.at.returns-then-not-same_pattern c).Else-not-well_formed-2) wrong))
 
 pub overflow_sub-self : goal.overflow_sub-self

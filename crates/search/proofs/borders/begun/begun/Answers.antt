@@ -1,9 +1,6 @@
 use native.Mathlib.Omega.{arith}
-use borrow.Author.Rules.{rules}
-use Rattle.text.specs.Letter.{meant}
-use Rattle.search.proofs.BorderChains.{Chain, chain-none, chain-less, chain_more, chain-all}
+use Rattle.search.proofs.BorderChains.{chain-none, chain-less, chain_more, chain-all}
 use Rattle.search.proofs.borders.begun.begun.Goals as goal
-use Rattle.search.proofs.borders.begun.begun.Goals.{After-k-1}
 
 pub overflow_shl-bits : goal.overflow_shl-bits
 overflow_shl-bits c = omega arith
@@ -17,12 +14,12 @@ offset_bounds-table-k c = omega arith
 pub bounds-table-k : goal.bounds-table-k
 bounds-table-k c = omega arith
 
-pub overflow_shl-bits-in-loop-k : goal.overflow_shl-bits-in-loop-k
-overflow_shl-bits-in-loop-k c = omega (arith, loop-k-smaller (goal.at.overflow_shl-bits-in-loop-k c).After-k-1)
-
 pub loop-k-smaller : goal.loop-k-smaller
 loop-k-smaller c =
     omega (arith, chain-less c.requires.borders c.loop-k.invariant c.loop-k-test.true)
+
+pub overflow_shl-bits-in-loop-k : goal.overflow_shl-bits-in-loop-k
+overflow_shl-bits-in-loop-k c = omega (arith, chain-less c.requires.borders c.loop-k.invariant c.loop-k-test.true)
 
 pub loop-k-preserved : goal.loop-k-preserved
 loop-k-preserved c =

@@ -1,9 +1,7 @@
 -- `search::borders::begun::begun` meets its contract. The loop's invariant, `Chain`: the bits are the lengths from k up at which the
 -- pattern's first bases end the variant. Each turn goes to the border of k, which is shorter, so the measure is k.
-use native.Mathlib.Omega.{arith}
-use borrow.Author.Rules.{rules}
 use Rattle.text.specs.Letter.{meant}
-use Rattle.search.proofs.BorderChains.{Chain, chain-none, chain-less, chain_more, chain-all}
+use Rattle.search.proofs.BorderChains.{Chain}
 use Rattle.search.proofs.borders.begun.begun.Given as goal
 
 abbrev pub invariant-loop-k : goal.invariant-loop-k

@@ -1,8 +1,6 @@
 use native.Mathlib.Omega.{arith}
-use borrow.Author.Rules.{rules}
 use lib.ListN.{length-take}
-use Rattle.text.specs.Letter.{meant}
-use Rattle.search.proofs.BorderEnds.{Ending, ending-none, ending-some, ending-more, ending-all}
+use Rattle.search.proofs.BorderEnds.{ending-none, ending-some, ending-more, ending-all}
 use Rattle.search.proofs.borders.begun.longest_end.Goals as goal
 use Rattle.search.proofs.borders.begun.longest_end.Goals.{In-loop-k}
 

@@ -1,10 +1,7 @@
 -- `search::borders::begun::longest_end` meets its contract. The loop's invariant, `Ending`: no length above k ends the variant. No bases
 -- always do, so k is not 0 where the next one down is asked; it is the measure.
-use native.Mathlib.Omega.{arith}
-use borrow.Author.Rules.{rules}
-use lib.ListN.{length-take}
 use Rattle.text.specs.Letter.{meant}
-use Rattle.search.proofs.BorderEnds.{Ending, ending-none, ending-some, ending-more, ending-all}
+use Rattle.search.proofs.BorderEnds.{Ending}
 use Rattle.search.proofs.borders.begun.longest_end.Given as goal
 
 abbrev pub invariant-loop-k : goal.invariant-loop-k

@@ -1,6 +1,5 @@
 -- `search::borders::begun::looked_through` meets its contract: a variant shorter than the pattern does not have it, and its end is all that
 -- is told of it.
-use borrow.Author.Rules.{rules}
 use Rattle.search.proofs.BorderEnds.{ending-scans}
 use Rattle.search.proofs.borders.begun.looked_through.Goals as goal
 

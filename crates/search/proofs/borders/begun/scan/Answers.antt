@@ -1,11 +1,8 @@
-use Prim.Native.Nat.{◌-◌}
 use native.Mathlib.Omega.{arith}
-use mathlib.Core.Logic.{⊎_elim}
-use lib.ListN.{length}
-use Rattle.text.specs.Letter.{meant}
 use Rattle.search.proofs.BorderLetters.{spelt-inside, spelt-next, spelt-read}
-use Rattle.search.proofs.BorderScans.{Scanning, scanning-none, scanning-matched, scanning-whole, scanning-part, scanning-all}
+use Rattle.search.proofs.BorderScans.{scanning-none, scanning-matched, scanning-whole, scanning-part, scanning-all}
 use Rattle.search.proofs.borders.begun.scan.Goals as goal
+use Rattle.search.proofs.borders.begun.scan.Goals.{then-longest-m, else-longest-m}
 
 pub loop-i-init : goal.loop-i-init
 loop-i-init c = scanning-none c.requires.sound_pattern
@@ -31,16 +28,18 @@ loop-i-smaller c = omega arith
 
 pub loop-i-preserved : goal.loop-i-preserved
 loop-i-preserved c =
-    let (sized, (borders, good)) = c.requires in
+    let sized = c.requires.sound_pattern in
+    let borders = c.requires.borders in
+    let good = c.requires.variant_value in
     let inv = c.loop-i.invariant in
     let read = c.loop-i-test.true in
     let v = c.args.variant.now in
     let inside = spelt-inside v _ read in
     let next = spelt-next v _ read good _ c.loop-i.longest _ c.fallback-longest.ensures in
-    ⊎_elim
-    (λ w. scanning-whole sized borders inv inside next w.0.taken w.2 w.3)
-    (λ w. scanning-part sized borders inv inside next w.0.left w.1 w.2)
-    c.if-longest-m.branch
+    elim c.if-longest-m.branch [
+      | then-longest-m w ↦ scanning-whole sized borders inv inside next w.if-longest-m.true w.longest-is w.whole-is
+      | else-longest-m w ↦ scanning-part sized borders inv inside next w.if-longest-m.false w.longest-is w.whole-is
+    ]
 
 pub returns : goal.returns
 returns c = scanning-all c.loop-i.invariant (spelt-read c.args.variant.now _ c.loop-i-test.false)

@@ -1,12 +1,9 @@
 -- `search::borders::begun::scan` meets its contract. The loop's invariant, `Scanning`: what a scan tells is true of the first i
 -- letters; a fallback takes in the next one. The measure is the number of letters left.
 use Prim.Native.Nat.{◌-◌}
-use native.Mathlib.Omega.{arith}
-use mathlib.Core.Logic.{⊎_elim}
 use lib.ListN.{length}
 use Rattle.text.specs.Letter.{meant}
-use Rattle.search.proofs.BorderLetters.{spelt-inside, spelt-next, spelt-read}
-use Rattle.search.proofs.BorderScans.{Scanning, scanning-none, scanning-matched, scanning-whole, scanning-part, scanning-all}
+use Rattle.search.proofs.BorderScans.{Scanning}
 use Rattle.search.proofs.borders.begun.scan.Given as goal
 
 abbrev pub invariant-loop-i : goal.invariant-loop-i

@@ -1,8 +1,7 @@
 use native.Mathlib.Omega.{arith}
-use mathlib.Core.Logic.{⊎_elim}
-use Rattle.text.specs.Letter.{meant}
-use Rattle.search.proofs.BorderWalks.{Walk, walk_none, walk-near, walk-carried, walk-passed, walk-all}
+use Rattle.search.proofs.BorderWalks.{walk_none, walk-near, walk-carried, walk-passed, walk-all}
 use Rattle.search.proofs.borders.carried.carried.Goals as goal
+use Rattle.search.proofs.borders.carried.carried.Goals.{then-rest-eq1, else-rest-eq1}
 
 pub loop-rest-init : goal.loop-rest-init
 loop-rest-init c = walk_none
@@ -21,10 +20,10 @@ loop-rest-smaller c = omega arith
 pub loop-rest-preserved : goal.loop-rest-preserved
 loop-rest-preserved c =
     let walk = c.loop-rest.invariant in
-    ⊎_elim
-    (λ w. walk-carried walk w.0.taken w.1.ensures w.4 w.5)
-    (λ w. walk-passed walk w.0.left w.1 w.2)
-    c.if-rest-eq1.branch
+    elim c.if-rest-eq1.branch [
+      | then-rest-eq1 w ↦ walk-carried walk w.if-rest-eq1.true w.carried_one-one.ensures w.bits-is w.ends-is
+      | else-rest-eq1 w ↦ walk-passed walk w.if-rest-eq1.false w.bits-is w.ends-is
+    ]
 
 pub returns : goal.returns
 returns c =

@@ -1,9 +1,7 @@
 -- `search::borders::carried::carried` meets its contract. The loop's invariant, `Walk`: the carried lengths below q are gone through,
 -- and `rest` is the state from bit q up. Each turn halves it, so it is the measure.
-use native.Mathlib.Omega.{arith}
-use mathlib.Core.Logic.{⊎_elim}
 use Rattle.text.specs.Letter.{meant}
-use Rattle.search.proofs.BorderWalks.{Walk, walk_none, walk-near, walk-carried, walk-passed, walk-all}
+use Rattle.search.proofs.BorderWalks.{Walk}
 use Rattle.search.proofs.borders.carried.carried.Given as goal
 
 abbrev pub invariant-loop-rest : goal.invariant-loop-rest

@@ -1,6 +1,5 @@
 -- `search::borders::carried::carried_one` meets its contract. Each answer is a law of one carried length, from the tests that led to
 -- it and from what `alike_prefix` ensures.
-use borrow.Author.Rules.{rules}
 use Rattle.search.proofs.BorderCarried.{carries-end, carries-on, carries-not}
 use Rattle.search.proofs.borders.carried.carried_one.Goals as goal
 

@@ -1,8 +1,5 @@
-use Prim.Native.Nat.{◌-◌}
 use native.Mathlib.Omega.{arith}
-use borrow.Author.Rules.{rules}
-use lib.ListN.{length}
-use Rattle.search.proofs.BorderTables.{Building, building-none, building-matched, building-more, building-all}
+use Rattle.search.proofs.BorderTables.{building-none, building-matched, building-more, building-all}
 use Rattle.search.proofs.borders.table.border_table.Goals as goal
 
 pub loop-i-init : goal.loop-i-init

@@ -1,10 +1,8 @@
 -- `search::borders::table::border_table` meets its contract. The loop's invariant, `Building`: the entries up to i stand, and k is the
 -- last of them, from which a fallback finds the next. The measure is the number of entries left.
 use Prim.Native.Nat.{◌-◌}
-use native.Mathlib.Omega.{arith}
-use borrow.Author.Rules.{rules}
 use lib.ListN.{length}
-use Rattle.search.proofs.BorderTables.{Building, building-none, building-matched, building-more, building-all}
+use Rattle.search.proofs.BorderTables.{Building}
 use Rattle.search.proofs.borders.table.border_table.Given as goal
 
 abbrev pub invariant-loop-i : goal.invariant-loop-i

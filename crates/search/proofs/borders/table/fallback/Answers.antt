@@ -1,5 +1,5 @@
 use native.Mathlib.Omega.{arith}
-use Rattle.search.proofs.BorderFalls.{Falls, falls-none, falls-less, falls-more, falls-found, falls-end}
+use Rattle.search.proofs.BorderFalls.{falls-none, falls-less, falls-more, falls-found, falls-end}
 use Rattle.search.proofs.borders.table.fallback.Goals as goal
 
 pub loop-q-init : goal.loop-q-init

@@ -1,7 +1,6 @@
 -- `search::borders::table::fallback` meets its contract. The loop's invariant, `Falls`: whatever ends after q ends after k. Each
 -- turn goes to the border of q, which is shorter, so the measure is q.
-use native.Mathlib.Omega.{arith}
-use Rattle.search.proofs.BorderFalls.{Falls, falls-none, falls-less, falls-more, falls-found, falls-end}
+use Rattle.search.proofs.BorderFalls.{Falls}
 use Rattle.search.proofs.borders.table.fallback.Given as goal
 
 abbrev pub invariant-loop-q : goal.invariant-loop-q

@@ -1,13 +1,12 @@
-use Prim.Native.Nat.{◌-◌, ◌^◌, ◌<◌}
-use borrow.Author.Rules.{rules}
+use Prim.Native.Nat.{◌^◌, ◌<◌}
 use native.Mathlib.Omega.{arith}
 use mathlib.Core.Bool.{◌||◌}
-use mathlib.Core.Path.{◌≡◌, refl, ◌∙◌}
+use mathlib.Core.Path.{refl, ◌∙◌}
 use lib.ListN.{length, length-set}
 use Rattle.layout.proofs.Going.{going_less}
 use Rattle.search.proofs.Searches.{byte-mark}
 use Rattle.search.proofs.Eithers.{passed-not, passed-own, passed-turned}
-use Rattle.search.proofs.Eithers.{Uniting, uniting-none, uniting-own, uniting-turned, uniting-room, uniting-more, uniting-refused}
+use Rattle.search.proofs.Eithers.{uniting-none, uniting-own, uniting-turned, uniting-room, uniting-more, uniting-refused}
 use Rattle.search.proofs.Eithers.{uniting-left, uniting-sound}
 use Rattle.search.proofs.both.run.run_both.Goals as goal
 use Rattle.search.proofs.both.run.run_both.Goals.{After-past-walked, After-slice_known-1, In-To, In-loop-walked}
@@ -43,22 +42,21 @@ bounds-marks-k c =
     let room = c.requires.begun.1 in
     uniting-room c.loop-walked.invariant.0 own turned (ahead (goal.at.bounds-marks-k c).In-loop-walked) (omega (arith, room, c.loop-walked.invariant.1))
 
-pub overflow_add-ends : goal.overflow_add-ends
-overflow_add-ends c = let m = (loop-walked-preserved (goal.at.overflow_add-ends c).After-past-walked).0.walk in omega (arith, m.few)
-
 pub loop-walked-smaller : goal.loop-walked-smaller
 loop-walked-smaller c =
     going_less c.loop-walked.invariant.0.walk.go (ahead (goal.at.loop-walked-smaller c).In-loop-walked) (narrow (goal.at.loop-walked-smaller c).After-slice_known-1) _ _ c.past-walked.ensures
 
 pub loop-walked-preserved : goal.loop-walked-preserved
 loop-walked-preserved c =
-    let r = c.next-1.given in
-    let own = passed-own c.over.ensures.result_value c.over.ensures.result_value_2 r.1 in
-    let turned = passed-turned c.over.ensures.result_value c.over.ensures.result_value_2 r.1 in
-    let mark = byte-mark (r.0.1.1.1.0 || r.0.1.1.1.1.0) in (
+    let own = passed-own c.over.ensures.result_value c.over.ensures.result_value_2 c.in-To.is in
+    let turned = passed-turned c.over.ensures.result_value c.over.ensures.result_value_2 c.in-To.is in
+    let mark = byte-mark (c.in-To.given || c.in-To.opposite) in (
       uniting-more c.loop-walked.invariant.0 own turned (ahead (goal.at.loop-walked-preserved c).In-loop-walked) _ mark (bounds-marks-k (goal.at.loop-walked-preserved c).In-To) (narrow (goal.at.loop-walked-preserved c).After-slice_known-1) c.past-walked.ensures,
       length-set c.loop-walked.marks c.loop-walked.walked.passed _ ∙ c.loop-walked.invariant.1,
     )
+
+pub overflow_add-ends : goal.overflow_add-ends
+overflow_add-ends c = let m = (loop-walked-preserved (goal.at.overflow_add-ends c).After-past-walked).0.walk in omega (arith, m.few)
 
 pub shape_of-marks-in-Refused-end : goal.shape_of-marks-in-Refused-end
 shape_of-marks-in-Refused-end c = c.loop-walked.invariant.1

@@ -1,7 +1,5 @@
-use Prim.Native.Nat.{◌-◌}
-use borrow.Author.Rules.{rules}
 use mathlib.Core.Path.{refl}
-use Rattle.search.proofs.Pairs.{Laid, laid_none, laid_more, laid-all}
+use Rattle.search.proofs.Pairs.{laid_none, laid_more, laid-all}
 use Rattle.search.proofs.both.words.masks_both.Goals as goal
 
 pub loop-c-init : goal.loop-c-init

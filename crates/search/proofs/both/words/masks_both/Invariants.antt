@@ -1,9 +1,7 @@
 -- `search::both::words::masks_both` meets its contract. The loop's invariant, `Laid`: the vectors of the first c bytes stand side by side.
 -- The measure is the number of bytes left.
 use Prim.Native.Nat.{◌-◌}
-use borrow.Author.Rules.{rules}
-use mathlib.Core.Path.{refl}
-use Rattle.search.proofs.Pairs.{Laid, laid_none, laid_more, laid-all}
+use Rattle.search.proofs.Pairs.{Laid}
 use Rattle.search.proofs.both.words.masks_both.Given as goal
 
 abbrev pub invariant-loop-c : goal.invariant-loop-c

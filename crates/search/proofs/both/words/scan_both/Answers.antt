@@ -1,12 +1,8 @@
-use Prim.Native.Nat.{ℕ, ◌-◌, ◌<◌, ◌≤◌}
-use borrow.Author.Rules.{rules}
+use Prim.Native.Nat.{◌<◌}
 use native.Mathlib.Omega.{arith}
-use mathlib.Core.Path.{◌≡◌, refl}
-use mathlib.Core.List.{List}
-use lib.ListN.{length, get_or}
-use Rattle.search.specs.Masks.{others, Ready}
-use Rattle.search.specs.Either.{evens, odds}
-use Rattle.search.proofs.BitScans.{Turning, turning-start, turning-more, turning-all, scanning-wrong}
+use mathlib.Core.Path.{refl}
+use lib.ListN.{get_or}
+use Rattle.search.proofs.BitScans.{turning-start, turning-more, turning-all, scanning-wrong}
 use Rattle.search.proofs.Pairs.{evens_at, odds-at}
 use Rattle.search.proofs.both.words.scan_both.Goals as goal
 use Rattle.search.proofs.both.words.scan_both.Goals.{After-shared_slice_known-1}

@@ -1,15 +1,12 @@
 -- `search::both::words::scan_both` meets its contract. The loop's invariant, `Turning` on each strand: its word has the bits of the state
 -- that the letters read so far lead to. The measure is the number of letters left.
-use Prim.Native.Nat.{ℕ, ◌-◌, ◌<◌, ◌≤◌}
-use borrow.Author.Rules.{rules}
-use native.Mathlib.Omega.{arith}
-use mathlib.Core.Path.{◌≡◌, refl}
+use Prim.Native.Nat.{ℕ, ◌-◌}
+use mathlib.Core.Path.{◌≡◌}
 use mathlib.Core.List.{List}
-use lib.ListN.{length, get_or}
+use lib.ListN.{length}
 use Rattle.search.specs.Masks.{others, Ready}
 use Rattle.search.specs.Either.{evens, odds}
-use Rattle.search.proofs.BitScans.{Turning, turning-start, turning-more, turning-all, scanning-wrong}
-use Rattle.search.proofs.Pairs.{evens_at, odds-at}
+use Rattle.search.proofs.BitScans.{Turning}
 use Rattle.search.proofs.both.words.scan_both.Given as goal
 
 abbrev pub invariant-loop-i : goal.invariant-loop-i

@@ -1,6 +1,5 @@
 -- `search::State::feed` meets its contract: what `enter` asks first, then what `run` tells of the segment, of the pattern as the strand
 -- reads it.
-use borrow.Author.Rules.{rules}
 use native.Mathlib.Omega.{arith}
 use mathlib.Core.Path.{refl, sym, ap, ◌∙◌}
 use Rattle.text.specs.Refusal.{told_verdict}

@@ -1,9 +1,8 @@
 -- `search::State::first` meets its contract: what `enter` asks first, then what the run that stops says of the pattern as the strand reads
 -- it.
-use borrow.Author.Rules.{rules}
 use native.Mathlib.Omega.{arith}
 use mathlib.Core.Bool.{false≢true}
-use mathlib.Core.Path.{◌≡◌, refl, sym, ap, ◌∙◌}
+use mathlib.Core.Path.{refl, sym, ap, ◌∙◌}
 use Rattle.text.specs.Refusal.{told_verdict}
 use Rattle.layout.proofs.Going.{Opening, open_is, open-not}
 use Rattle.search.specs.First.{told_hit}

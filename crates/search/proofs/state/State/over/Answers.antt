@@ -1,17 +1,17 @@
-use borrow.Author.Rules.{rules}
 use Prim.Native.Nat.{◌^◌, ◌<◌}
 use native.Mathlib.Omega.{arith}
 use mathlib.Core.Path.{◌≡◌, refl, sym, ap, ◌∙◌}
-use mathlib.Core.Logic.{⊎_elim}
 use lib.ListN.{length}
+use mathlib.Core.Bool.{false}
+use Rattle.layout.specs.Prints.{repeats_at}
 use Rattle.layout.specs.Pieces.{told_part}
 use Rattle.layout.proofs.Heads.{Whole, head-is}
 use Rattle.layout.proofs.Walking.{walk-not, walk_none, walk-cut, walk-misspelt, walk-again}
 use Rattle.layout.proofs.Walking.{walk-new, walk-unsuspected, walk-past, walk-less}
 use Rattle.search.proofs.Passes.{segment-passed-not, segment-passed}
-use Rattle.search.proofs.Words.{Sweeping, swept, sweeping-none, sweeping-more, sweeping-taken}
+use Rattle.search.proofs.Words.{swept, sweeping-none, sweeping-more, sweeping-taken}
 use Rattle.search.proofs.state.State.over.Goals as goal
-use Rattle.search.proofs.state.State.over.Goals.{After-enter, In-At-head}
+use Rattle.search.proofs.state.State.over.Goals.{After-enter, In-At-head, then-suspects+in_default, else-suspects}
 
 -- the stretch is no longer than a number can say
 narrow : (c : After-enter) → length c.args.stretch.now < 2 ^ 64
@@ -64,8 +64,10 @@ loop-cursor-preserved c =
     let w = c.loop-cursor.invariant.walk in
     let spelt = c.scan_by-scanned.ensures.0 in
     let fits = narrow (goal.at.loop-cursor-preserved c).After-enter in
-    let new = ⊎_elim (λ y. walk-new w c.loop-cursor-test.true (here (goal.at.loop-cursor-preserved c).In-At-head) spelt y.1.ensures y.3.given.1)
-    (λ y. walk-unsuspected w c.loop-cursor-test.true (here (goal.at.loop-cursor-preserved c).In-At-head) spelt (sym c.suspects.ensures ∙ y.left)) c.if-suspects.branch in
+    let new = elim c.if-suspects.branch as (λ _. repeats_at c.args.stretch.now c.loop-cursor.cursor.first c.loop-cursor.cursor.at ≡ false) [
+      | then-suspects+in_default y ↦ walk-new w c.loop-cursor-test.true (here (goal.at.loop-cursor-preserved c).In-At-head) spelt y.compared.ensures y.in_default.is
+      | else-suspects y ↦ walk-unsuspected w c.loop-cursor-test.true (here (goal.at.loop-cursor-preserved c).In-At-head) spelt (sym c.suspects.ensures ∙ y.if-suspects.false)
+    ] in
     let on = walk-past w c.loop-cursor-test.true (here (goal.at.loop-cursor-preserved c).In-At-head) spelt fits c.if-scanned.false new refl c.past-cursor.ensures in
     sweeping-more c.loop-cursor.invariant on (swept _ _ (here (goal.at.loop-cursor-preserved c).In-At-head) c.scan_by-scanned.ensures c.if-scanned.false)
 

@@ -1,5 +1,4 @@
 -- `search::State::through` meets its contract: what `enter` asks first, then what `mark` answers of the pattern as the strand reads it.
-use borrow.Author.Rules.{rules}
 use native.Mathlib.Omega.{arith}
 use mathlib.Core.Path.{sym, ap, ◌∙◌}
 use Rattle.text.specs.Refusal.{told_verdict}
@@ -39,4 +38,4 @@ pub returns-in-Sound : goal.returns-in-Sound
 returns-in-Sound c =
     let y = entry (goal.at.returns-in-Sound c).In-Sound in
     let read = read_is _ _ _ c.read_on-bytes.ensures y.sound in
-    let whole = seek-sound _ _ _ _ c.args.marks.now y _ read _ _ c.mark.ensures in record { result_value = whole.0; marks_after = whole.1 }
+    let whole = seek-sound _ _ _ _ c.args.marks.now y _ read _ _ (c.mark.ensures.result_value, c.mark.ensures.marks_after) in record { result_value = whole.0; marks_after = whole.1 }

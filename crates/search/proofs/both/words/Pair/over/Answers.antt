@@ -1,10 +1,9 @@
-use borrow.Author.Rules.{rules}
 use Prim.Native.Nat.{ℕ, ◌-◌, ◌*◌, ◌%◌, ◌^◌, ◌<◌}
 use native.Mathlib.Omega.{arith}
 use mathlib.Core.Path.{◌≡◌, refl, sym, ap, ◌∙◌}
-use mathlib.Core.Logic.{⊎_elim}
 use lib.ListN.{length}
-use Rattle.text.specs.Strand.{opposite}
+use mathlib.Core.Bool.{false}
+use Rattle.layout.specs.Prints.{repeats_at}
 use Rattle.text.proofs.Strands.{opposite-length}
 use Rattle.layout.specs.Pieces.{told_part}
 use Rattle.layout.proofs.Heads.{Whole, head-is}
@@ -12,9 +11,9 @@ use Rattle.layout.proofs.Walking.{walk-not, walk_none, walk-cut, walk-misspelt, 
 use Rattle.layout.proofs.Walking.{walk-new, walk-unsuspected, walk-past, walk-less}
 use Rattle.search.proofs.Pairs.{ready, sweeping-on}
 use Rattle.search.proofs.Passes.{segment-passed-not, segment-passed}
-use Rattle.search.proofs.Words.{Sweeping, swept-by, sweeping-none, sweeping-taken}
+use Rattle.search.proofs.Words.{swept-by, sweeping-none, sweeping-taken}
 use Rattle.search.proofs.both.words.Pair.over.Goals as goal
-use Rattle.search.proofs.both.words.Pair.over.Goals.{After-enter, In-At-head}
+use Rattle.search.proofs.both.words.Pair.over.Goals.{After-enter, In-At-head, then-suspects+in_default, else-suspects}
 
 -- the stretch is no longer than a number can say
 narrow : (c : After-enter) → length c.args.stretch.now < 2 ^ 64
@@ -74,8 +73,10 @@ loop-cursor-preserved c =
     let x = c.scan_both-scanned.ensures.scanned_by _ (ready _ _ _ _ c.requires.vectors) in
     let y = c.scan_both-scanned.ensures.scanned_by_2 _ (ready _ _ _ _ c.requires.vectors_2) in
     let fits = narrow (goal.at.loop-cursor-preserved c).After-enter in
-    let new = ⊎_elim (λ n. walk-new q.0.walk c.loop-cursor-test.true (here (goal.at.loop-cursor-preserved c).In-At-head) x.1 n.1.ensures n.3.given.1)
-    (λ n. walk-unsuspected q.0.walk c.loop-cursor-test.true (here (goal.at.loop-cursor-preserved c).In-At-head) x.1 (sym c.suspects.ensures ∙ n.left)) c.if-suspects.branch in (
+    let new = elim c.if-suspects.branch as (λ _. repeats_at c.args.stretch.now c.loop-cursor.cursor.first c.loop-cursor.cursor.at ≡ false) [
+      | then-suspects+in_default n ↦ walk-new q.0.walk c.loop-cursor-test.true (here (goal.at.loop-cursor-preserved c).In-At-head) x.1 n.compared.ensures n.in_default.is
+      | else-suspects n ↦ walk-unsuspected q.0.walk c.loop-cursor-test.true (here (goal.at.loop-cursor-preserved c).In-At-head) x.1 (sym c.suspects.ensures ∙ n.if-suspects.false)
+    ] in (
       sweeping-on q.0 (walk-past q.0.walk c.loop-cursor-test.true (here (goal.at.loop-cursor-preserved c).In-At-head) x.1 fits c.if-scanned.false new refl c.past-cursor.ensures)
           (swept-by _ _ (here (goal.at.loop-cursor-preserved c).In-At-head) x.0) c.and-words.ensures.0,
       sweeping-on q.1 (walk-past q.1.walk c.loop-cursor-test.true (here (goal.at.loop-cursor-preserved c).In-At-head) y.1 fits c.if-scanned.false new refl c.past-cursor.ensures)

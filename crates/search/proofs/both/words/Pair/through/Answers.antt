@@ -1,6 +1,5 @@
 -- `search::Pair::through` meets its contract: what `enter_both` asks first, then `mark_both` with the letter vectors of the pattern as
 -- given and as the opposite strand reads it.
-use borrow.Author.Rules.{rules}
 use native.Mathlib.Omega.{arith}
 use mathlib.Core.Path.{sym, ap, ◌∙◌}
 use Rattle.text.specs.Refusal.{told_verdict}
@@ -49,4 +48,4 @@ returns-in-Refused c =
 
 pub returns-in-Sound : goal.returns-in-Sound
 returns-in-Sound c =
-    let whole = both-seek-sound _ _ _ _ c.args.marks.now (entry (goal.at.returns-in-Sound c).In-Sound) _ _ c.mark_both.ensures in record { result_value = whole.0; marks_after = whole.1 }
+    let whole = both-seek-sound _ _ _ _ c.args.marks.now (entry (goal.at.returns-in-Sound c).In-Sound) _ _ (c.mark_both.ensures.result_value, c.mark_both.ensures.marks_after) in record { result_value = whole.0; marks_after = whole.1 }
