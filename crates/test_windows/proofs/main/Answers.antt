@@ -16,4 +16,4 @@ pub slice_bounds-read_full-end : goal.slice_bounds-read_full-end
 slice_bounds-read_full-end c = made 1000000
 
 pub slice_bounds-part-end : goal.slice_bounds-part-end
-slice_bounds-part-end c = kept 1000000 c.read_full-n.new.out c.read_full-n.auto.out
+slice_bounds-part-end c = kept 1000000 c.read_full-n.new.buf c.read_full-n.auto.buf

@@ -22,7 +22,7 @@ shape_of-lines-then-held-ne-GOES c = c.loop-turns.invariant.3
 pub loop-turns-preserved : goal.loop-turns-preserved
 loop-turns-preserved c =
     let i = c.loop-turns.invariant in
-    let k = c.turn-held.auto.1.1.1 in
+    let k = c.turn-held.auto.letters in
     (k.0 ∙ i.0, k.1.0 ∙ i.1, k.1.1.0 ∙ i.2, k.1.1.1.0 ∙ i.3)
 
 pub shape_of-letters : goal.shape_of-letters

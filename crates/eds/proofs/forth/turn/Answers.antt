@@ -5,4 +5,4 @@ use Rattle.eds.proofs.forth.turn.Goals as goal
 
 pub shape_of-letters-in-Full : goal.shape_of-letters-in-Full
 shape_of-letters-in-Full c =
-    c.flush.auto.1.1.0 ∙ c.read_on.auto.1.1.1.0
+    c.flush.auto.letters ∙ c.read_on.auto.letters

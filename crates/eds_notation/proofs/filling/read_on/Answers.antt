@@ -11,15 +11,15 @@ loop-at-init c = reach-none _ _ _ _
 
 pub shape_of-letters-in-Full : goal.shape_of-letters-in-Full
 shape_of-letters-in-Full c =
-    c.put.auto.1.1.1.0 ∙ c.loop-at.invariant.same-letters
+    c.put.auto.letters ∙ c.loop-at.invariant.same-letters
 
 pub shape_of-lengths-in-Full : goal.shape_of-lengths-in-Full
 shape_of-lengths-in-Full c =
-    c.put.auto.1.1.1.1.0 ∙ c.loop-at.invariant.same-lengths
+    c.put.auto.lengths ∙ c.loop-at.invariant.same-lengths
 
 pub shape_of-counts-in-Full : goal.shape_of-counts-in-Full
 shape_of-counts-in-Full c =
-    c.put.auto.1.1.1.1.1.0 ∙ c.loop-at.invariant.same-counts
+    c.put.auto.counts ∙ c.loop-at.invariant.same-counts
 
 pub returns-in-Full : goal.returns-in-Full
 returns-in-Full c =
@@ -28,15 +28,15 @@ returns-in-Full c =
 
 pub shape_of-letters-in-Wrong : goal.shape_of-letters-in-Wrong
 shape_of-letters-in-Wrong c =
-    c.put.auto.1.1.1.0 ∙ c.loop-at.invariant.same-letters
+    c.put.auto.letters ∙ c.loop-at.invariant.same-letters
 
 pub shape_of-lengths-in-Wrong : goal.shape_of-lengths-in-Wrong
 shape_of-lengths-in-Wrong c =
-    c.put.auto.1.1.1.1.0 ∙ c.loop-at.invariant.same-lengths
+    c.put.auto.lengths ∙ c.loop-at.invariant.same-lengths
 
 pub shape_of-counts-in-Wrong : goal.shape_of-counts-in-Wrong
 shape_of-counts-in-Wrong c =
-    c.put.auto.1.1.1.1.1.0 ∙ c.loop-at.invariant.same-counts
+    c.put.auto.counts ∙ c.loop-at.invariant.same-counts
 
 pub returns-in-Wrong : goal.returns-in-Wrong
 returns-in-Wrong c =
@@ -47,7 +47,7 @@ pub loop-at-preserved : goal.loop-at-preserved
 loop-at-preserved c =
     reach-more c.loop-at.invariant c.loop-at-test.true _ c.act-act.ensures _ _ c.put.ensures.value c.put.ensures.counts_after _
     c.in-Done.is
-    c.put.auto.1.1.1.0 c.put.auto.1.1.1.1.0 c.put.auto.1.1.1.1.1.0
+    c.put.auto.letters c.put.auto.lengths c.put.auto.counts
 
 pub shape_of-letters : goal.shape_of-letters
 shape_of-letters c = c.loop-at.invariant.same-letters

@@ -1,10 +1,10 @@
 use Prim.Native.Nat.{◌-◌}
-use mathlib.Core.Logic.{⊎_elim}
 use lib.ListN.{length}
 use borrow.Author.Rules.{rules}
 use Rattle.lines.proofs.Putting.{put-length}
 use Rattle.lines.proofs.Marked.{Ending, ending-none, ending-marked, ending-unmarked, ending-end}
 use Rattle.lines.proofs.answer.put_ends.Goals as goal
+use Rattle.lines.proofs.answer.put_ends.Goals.{then-marks-k-eq1, else-marks-k-eq1}
 
 pub loop-k-init : goal.loop-k-init
 loop-k-init c = ending-none _ _ _
@@ -13,10 +13,10 @@ pub loop-k-preserved : goal.loop-k-preserved
 loop-k-preserved c =
     let i = c.loop-k.invariant in
     let l = c.loop-k-test.true in
-    ⊎_elim
-    (λ w. rw (w.6, w.7) (ending-marked i l w.0.taken w.3.ensures))
-    (λ w. rw (w.1, w.2) (ending-unmarked i l w.0.left))
-    c.if-marks-k-eq1.branch
+    elim c.if-marks-k-eq1.branch [
+      | then-marks-k-eq1 w ↦ rw (w.out-is, w.next-is) (ending-marked i l w.if-marks-k-eq1.true w.put_line-next.ensures)
+      | else-marks-k-eq1 w ↦ rw (w.out-is, w.next-is) (ending-unmarked i l w.if-marks-k-eq1.false)
+    ]
 
 pub shape_of-out : goal.shape_of-out
 shape_of-out c = put-length c.loop-k.invariant.put

@@ -24,7 +24,7 @@ pub slice_bounds-same-end : goal.slice_bounds-same-end
 slice_bounds-same-end c =
     let f = c.ranges in
     sym
-    (length-take-le c.put_counts-size.result c.put_counts-size.new.1.1.1.0
+    (length-take-le c.put_counts-size.result c.put_counts-size.new.out
     (counts-size c.args.manifest.now _ _ _ c.put_bytes-from.ensures c.put_counts-size.ensures refl f.stretches.fits
     f.segments.fits f.bytes.fits))
 

@@ -22,7 +22,7 @@ shape_of-text-then-walk-ne-GOES c = c.loop-turns.invariant.4
 pub loop-turns-preserved : goal.loop-turns-preserved
 loop-turns-preserved c =
     let i = c.loop-turns.invariant in
-    let k = c.turn-walk.auto.1.1 in
+    let k = c.turn-walk.auto.piece in
     (k.0 ∙ i.0, k.1.0 ∙ i.1, k.1.1.0 ∙ i.2, k.1.1.1.0 ∙ i.3, k.1.1.1.1.0 ∙ i.4)
 
 pub shape_of-piece : goal.shape_of-piece

@@ -17,7 +17,7 @@ returns-then-byte-eq10 c =
 pub loop-at-preserved : goal.loop-at-preserved
 loop-at-preserved c =
     reads_more c.loop-at.invariant c.loop-at-test.true c.if-byte-eq10.false _ _ c.over-now.ensures.value c.over-now.ensures.short_after
-    c.over-now.auto.1.1.1.0
+    c.over-now.auto.short
 
 pub shape_of-short : goal.shape_of-short
 shape_of-short c = c.loop-at.invariant.size
