@@ -1,6 +1,5 @@
 pub mod Told
 pub mod Theorems
-pub mod Returned
 pub mod Records
 pub mod Rounds
 pub mod Steps

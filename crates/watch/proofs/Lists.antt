@@ -1,14 +1,14 @@
 -- What is told of a list, record by record.
 use Prim.Native.Nat.{ℕ, zero, suc, ◌≤◌, ◌<◌}
-use mathlib.Core.Path.{◌≡◌, refl, sym, ap, subst, ◌∙◌}
+use mathlib.Core.Path.{◌≡◌, refl, sym, subst}
 use mathlib.Core.Logic.{◌↔◌, by_cases}
-use mathlib.Core.Bool.{Bool, true, false, cond, false≢true, true≢false}
-use mathlib.Core.List.{List, [], ◌∷◌, map}
+use mathlib.Core.Bool.{Bool, true, false, cond, false≢true}
+use mathlib.Core.List.{List, [], ◌∷◌}
 use native.Mathlib.Omega.{arith}
 use native.Mathlib.Decide.{dec_lt}
-use borrow.Author.Tests.{leb-true, ltb-true, ltb-false, lt-ltb}
-use lib.Dec.{leb, ltb}
-use lib.ListN.{length, get_or, get_or-map, length-map}
+use borrow.Author.Tests.{leb-true, ltb-true, lt-ltb}
+use lib.Dec.{leb}
+use lib.ListN.{length, get_or, length-map}
 use Rattle.text.specs.Text.{Text}
 use Rattle.text.specs.State.{marks, fresh}
 use Rattle.text.specs.Card.{none, first_end}
@@ -18,7 +18,7 @@ use Rattle.text.proofs.Marks.{marks-length}
 use Rattle.text.proofs.Ends.{first_end-le, first_end-least, first_end-within, first_end-mark}
 use Rattle.layout.specs.Reading.{stretch_of}
 use Rattle.layout.proofs.Stretches.{stretch-most}
-use Rattle.watch.specs.Watching.{most_watched, bases_of, sound, all_sound, first_wrong, listing, first_of, ends_in, seen, clear}
+use Rattle.watch.specs.Watching.{most_watched, bases_of, all_sound, first_wrong, listing, first_of, ends_in, seen, clear}
 use Rattle.watch.specs.Watching.{first_seen, marks_of}
 use Rattle.watch.specs.Rounds.{blank}
 use Rattle.watch.specs.declared.watched.Watched.{Watched}

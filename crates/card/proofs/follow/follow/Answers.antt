@@ -1,8 +1,7 @@
-use borrow.Author.Rules.{rules}
 use Prim.Native.Nat.{◌<◌}
 use native.Mathlib.Omega.{arith}
 use mathlib.Core.Path.{◌∙◌}
-use Rattle.card.proofs.Follows.{Following, following-none, following-inside, following-taken, following-passed, following-all}
+use Rattle.card.proofs.Follows.{following-none, following-inside, following-taken, following-passed, following-all}
 use Rattle.card.proofs.follow.follow.Goals as goal
 use Rattle.card.proofs.follow.follow.Goals.{In-loop-rest, then-rest-eq1, else-rest-eq1}
 

@@ -1,11 +1,6 @@
 -- `card::follow::follow` meets its contract. The loop's invariant, `Following`: the bits below q are followed. The measure is what is
 -- left of the state.
-use borrow.Author.Rules.{rules}
-use Prim.Native.Nat.{◌<◌}
-use native.Mathlib.Omega.{arith}
-use mathlib.Core.Path.{◌∙◌}
-use mathlib.Core.Logic.{⊎_elim}
-use Rattle.card.proofs.Follows.{Following, following-none, following-inside, following-taken, following-passed, following-all}
+use Rattle.card.proofs.Follows.{Following}
 use Rattle.card.proofs.follow.follow.Given as goal
 
 abbrev pub invariant-loop-rest : goal.invariant-loop-rest

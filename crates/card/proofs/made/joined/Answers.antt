@@ -1,8 +1,6 @@
-use Prim.Native.Nat.{◌-◌}
 use borrow.Author.Rules.{rules}
-use Rattle.text.specs.Card.{through}
-use Rattle.card.specs.Held.{rows_in, Full}
-use Rattle.card.proofs.Joins.{Changing, changing-none, changing-more, row-through, joined-fits, joined-held}
+use Rattle.card.specs.Held.{Full}
+use Rattle.card.proofs.Joins.{changing-none, changing-more, row-through, joined-fits, joined-held}
 use Rattle.card.proofs.made.joined.Goals as goal
 use Rattle.card.proofs.made.joined.Goals.{Start}
 

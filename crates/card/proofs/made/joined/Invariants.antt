@@ -1,10 +1,9 @@
 -- `card::made::joined` meets its contract. The loop's invariant, `Changing`: the rows below q have gone on through the right card's rows.
 -- The measure is the number of rows left.
 use Prim.Native.Nat.{◌-◌}
-use borrow.Author.Rules.{rules}
 use Rattle.text.specs.Card.{through}
-use Rattle.card.specs.Held.{rows_in, Full}
-use Rattle.card.proofs.Joins.{Changing, changing-none, changing-more, row-through, joined-fits, joined-held}
+use Rattle.card.specs.Held.{rows_in}
+use Rattle.card.proofs.Joins.{Changing}
 use Rattle.card.proofs.made.joined.Given as goal
 
 abbrev pub invariant-loop-q : goal.invariant-loop-q

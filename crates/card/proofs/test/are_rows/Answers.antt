@@ -1,5 +1,4 @@
 -- `card::test::are_rows` meets its contract: the rows below m and those from m up are all of them.
-use borrow.Author.Rules.{rules}
 use Rattle.card.proofs.Formed.{tested-both}
 use Rattle.card.proofs.test.are_rows.Goals as goal
 

@@ -6,7 +6,6 @@ use Rattle.text.specs.declared.strand.Strand.TheVariants.{Given}
 use Rattle.text.proofs.Patterns.{pattern-sound}
 use Rattle.text.proofs.Strands.{read-padded}
 use Rattle.card.proofs.Formed.{head-long, padded-wrong, padded-right}
-use borrow.Author.Rules.{rules}
 use Rattle.card.proofs.test.is_padded.Goals as goal
 
 pub slice_bounds-bases-end : goal.slice_bounds-bases-end

@@ -1,8 +1,5 @@
-use Prim.Native.Nat.{ℕ, ◌-◌}
 use native.Mathlib.Omega.{arith}
-use borrow.Author.Rules.{rules}
-use Rattle.card.specs.Held.{rows_in}
-use Rattle.card.proofs.Formed.{Tested, tested-none, tested-more, tested-all}
+use Rattle.card.proofs.Formed.{tested-none, tested-more, tested-all}
 use Rattle.card.proofs.test.rows_behind.Goals as goal
 
 pub loop-q-init : goal.loop-q-init

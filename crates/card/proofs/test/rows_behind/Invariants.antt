@@ -1,10 +1,8 @@
 -- `card::test::rows_behind` meets its contract. The loop's invariant, `Tested`: whatever the number of segments, `sound` is the test of
 -- the rows from m up to q. The measure is the number of rows left.
 use Prim.Native.Nat.{ℕ, ◌-◌}
-use native.Mathlib.Omega.{arith}
-use borrow.Author.Rules.{rules}
 use Rattle.card.specs.Held.{rows_in}
-use Rattle.card.proofs.Formed.{Tested, tested-none, tested-more, tested-all}
+use Rattle.card.proofs.Formed.{Tested}
 use Rattle.card.proofs.test.rows_behind.Given as goal
 
 abbrev pub invariant-loop-q : goal.invariant-loop-q

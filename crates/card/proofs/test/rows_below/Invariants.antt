@@ -1,10 +1,8 @@
 -- `card::test::rows_below` meets its contract. The loop's invariant, `Tested`: `sound` is the test of the rows below q. The measure is
 -- the number of rows left.
 use Prim.Native.Nat.{◌-◌}
-use native.Mathlib.Omega.{arith}
-use borrow.Author.Rules.{rules}
 use Rattle.card.specs.Held.{rows_in}
-use Rattle.card.proofs.Formed.{Tested, tested-none, tested-more, tested-all}
+use Rattle.card.proofs.Formed.{Tested}
 use Rattle.card.proofs.test.rows_below.Given as goal
 
 abbrev pub invariant-loop-q : goal.invariant-loop-q

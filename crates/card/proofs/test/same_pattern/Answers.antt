@@ -2,7 +2,6 @@
 use mathlib.Core.Path.{◌∙◌}
 use Rattle.card.specs.Cards.{card_in}
 use Rattle.card.proofs.Answered.{sizes-differ, sizes-same}
-use borrow.Author.Rules.{rules}
 use Rattle.card.proofs.test.same_pattern.Goals as goal
 
 pub returns-then-left-right : goal.returns-then-left-right

@@ -11,7 +11,7 @@ returns-then-out-end c = end-far _ _ _ c.put_counts-end.ensures c.if-out-end.tru
 pub slice_bounds-digest-end-2 : goal.slice_bounds-digest-end-2
 slice_bounds-digest-end-2 c =
     let o = c.put_counts-end in
-    sym (length-take-le o.result o.new.1.1.1.0 c.if-out-end.false)
+    sym (length-take-le o.result o.new.out c.if-out-end.false)
 
 pub returns : goal.returns
 returns c =

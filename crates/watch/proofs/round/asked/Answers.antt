@@ -1,9 +1,5 @@
 use mathlib.Core.Path.{sym, ◌∙◌}
 use Rattle.watch.proofs.Steps.{asked-sound, asked-wrong}
-use borrow.Author.Rules.{rules}
-use Rattle.watch.proofs.round.asked.Reads as reads
-use Rattle.watch.proofs.round.asked.Lts as lts
-use Rattle.watch.proofs.watched.is_sound.Reads as is-sound-reads
 use Rattle.watch.proofs.round.asked.Goals as goal
 
 -- src/round.rt:66:9

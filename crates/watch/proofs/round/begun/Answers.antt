@@ -1,6 +1,4 @@
 use Rattle.watch.proofs.Steps.{begun-long, begun-short}
-use Rattle.watch.proofs.round.begun.Reads as reads
-use Rattle.watch.proofs.round.begun.Lts as lts
 use Rattle.watch.proofs.round.begun.Goals as goal
 
 -- src/round.rt:53:9

@@ -1,8 +1,4 @@
 use Rattle.watch.proofs.Steps.{bits_fit, marked-here, marked-not}
-use borrow.Author.Rules.{rules}
-use Rattle.watch.proofs.round.marked.Reads as reads
-use Rattle.watch.proofs.round.marked.Lts as lts
-use Rattle.watch.proofs.sight.sight.Reads as sight-reads
 use Rattle.watch.proofs.round.marked.Goals as goal
 
 -- src/round.rt:96:31

@@ -1,8 +1,4 @@
 use Rattle.watch.proofs.Steps.{opened-not, opened-all, opened-first}
-use borrow.Author.Rules.{rules}
-use Rattle.watch.proofs.round.opened.Reads as reads
-use Rattle.watch.proofs.round.opened.Lts as lts
-use Rattle.stretch.proofs.check.Reads as check-reads
 use Rattle.watch.proofs.round.opened.Goals as goal
 
 -- src/round.rt:120:9

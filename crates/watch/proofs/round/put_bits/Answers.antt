@@ -1,8 +1,4 @@
-use borrow.Author.Rules.{rules}
-use Prim.Native.Nat.{◌-◌}
-use Rattle.watch.proofs.Steps.{Writing, writing-none, writing-room, writing_more, writing-length, writing-end}
-use Rattle.watch.proofs.round.put_bits.Reads as reads
-use Rattle.watch.proofs.round.put_bits.Lts as lts
+use Rattle.watch.proofs.Steps.{writing-none, writing-room, writing_more, writing-length, writing-end}
 use Rattle.watch.proofs.round.put_bits.Goals as goal
 
 -- src/round.rt:161:5

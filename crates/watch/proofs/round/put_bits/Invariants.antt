@@ -1,8 +1,5 @@
-use borrow.Author.Rules.{rules}
 use Prim.Native.Nat.{◌-◌}
-use Rattle.watch.proofs.Steps.{Writing, writing-none, writing-room, writing_more, writing-length, writing-end}
-use Rattle.watch.proofs.round.put_bits.Reads as reads
-use Rattle.watch.proofs.round.put_bits.Lts as lts
+use Rattle.watch.proofs.Steps.{Writing}
 use Rattle.watch.proofs.round.put_bits.Given as goal
 
 abbrev pub invariant-loop-i : goal.invariant-loop-i

@@ -1,8 +1,4 @@
 use Rattle.watch.proofs.Steps.{found_here, found-not}
-use borrow.Author.Rules.{rules}
-use Rattle.watch.proofs.round.sought.Reads as reads
-use Rattle.watch.proofs.round.sought.Lts as lts
-use Rattle.watch.proofs.sight.sight.Reads as sight-reads
 use Rattle.watch.proofs.round.sought.Goals as goal
 
 -- src/round.rt:81:9

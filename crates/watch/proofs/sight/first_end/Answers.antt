@@ -1,9 +1,6 @@
-use Prim.Native.Nat.{◌-◌}
-use borrow.Author.Rules.{rules}
 use native.Mathlib.Omega.{arith}
 use Rattle.layout.proofs.Going.{open_is, passed_on}
-use Rattle.watch.specs.Rounds.{text_of}
-use Rattle.watch.proofs.Sights.{open-there, Unended, unended-none, unended-readable, unended-ends, unended-more, unended-all}
+use Rattle.watch.proofs.Sights.{open-there, unended-none, unended-readable, unended-ends, unended-more, unended-all}
 use Rattle.watch.proofs.sight.first_end.Goals as goal
 
 pub returns-in_default : goal.returns-in_default

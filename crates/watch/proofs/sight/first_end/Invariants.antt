@@ -1,11 +1,8 @@
 -- `watch::sight::first_end` meets its contract. The loop's invariant, `Unended`: nothing ends in the segments that the walk has passed, and the
 -- state is theirs. The measure is the number of segments left.
 use Prim.Native.Nat.{◌-◌}
-use borrow.Author.Rules.{rules}
-use native.Mathlib.Omega.{arith}
-use Rattle.layout.proofs.Going.{open_is, passed_on}
 use Rattle.watch.specs.Rounds.{text_of}
-use Rattle.watch.proofs.Sights.{open-there, Unended, unended-none, unended-readable, unended-ends, unended-more, unended-all}
+use Rattle.watch.proofs.Sights.{Unended}
 use Rattle.watch.proofs.sight.first_end.Given as goal
 
 abbrev pub invariant-loop-walk : goal.invariant-loop-walk

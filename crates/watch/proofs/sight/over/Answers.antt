@@ -1,4 +1,3 @@
-use borrow.Author.Rules.{rules}
 use Prim.Native.Nat.{◌^◌, ◌<◌}
 use native.Mathlib.Omega.{arith}
 use mathlib.Core.Path.{◌≡◌, refl, sym, ap, ◌∙◌}
@@ -6,7 +5,7 @@ use lib.ListN.{length}
 use Rattle.layout.specs.Pieces.{told_part}
 use Rattle.layout.proofs.Heads.{Whole, head-is}
 use Rattle.layout.proofs.Walking.{walk_none, sound-enter, sound-head, sound-past, walk-less}
-use Rattle.search.proofs.Words.{Sweeping, swept-by, sweeping-none, sweeping-more}
+use Rattle.search.proofs.Words.{swept-by, sweeping-none, sweeping-more}
 use Rattle.watch.proofs.Sights.{sweep-all}
 use Rattle.watch.proofs.sight.over.Goals as goal
 use Rattle.watch.proofs.sight.over.Goals.{After-enter, In-At-head}

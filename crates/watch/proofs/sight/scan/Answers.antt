@@ -1,11 +1,8 @@
-use Prim.Native.Nat.{ℕ, ◌-◌, ◌<◌}
-use borrow.Author.Rules.{rules}
+use Prim.Native.Nat.{◌<◌}
 use native.Mathlib.Omega.{arith}
 use mathlib.Core.Path.{refl}
-use mathlib.Core.List.{List}
-use lib.ListN.{length, get_or}
-use Rattle.watch.specs.Sight.{Armed}
-use Rattle.watch.proofs.Sights.{Scanning, scanning-none, scanning-more, scanning-all}
+use lib.ListN.{get_or}
+use Rattle.watch.proofs.Sights.{scanning-none, scanning-more, scanning-all}
 use Rattle.watch.proofs.sight.scan.Goals as goal
 use Rattle.watch.proofs.sight.scan.Goals.{After-shared_slice_known-1}
 
@@ -15,7 +12,7 @@ byte : (c : After-shared_slice_known-1)
 byte c = omega (arith, c.shared_slice_known-1.given c.loop-i.i)
 
 pub loop-i-init : goal.loop-i-init
-loop-i-init c = scanning-none P _ _ _ _ (omega arith) y
+loop-i-init c P y = scanning-none P _ _ _ _ (omega arith) y
 
 pub overflow_cast-c : goal.overflow_cast-c
 overflow_cast-c c = omega (arith, byte (goal.at.overflow_cast-c c).After-shared_slice_known-1)
@@ -27,8 +24,8 @@ pub bounds-vectors-c : goal.bounds-vectors-c
 bounds-vectors-c c = byte (goal.at.bounds-vectors-c c).After-shared_slice_known-1
 
 pub loop-i-preserved : goal.loop-i-preserved
-loop-i-preserved c =
+loop-i-preserved c P y =
     scanning-more P _ _ _ _ _ _ _ y (c.loop-i.invariant P y) c.loop-i-test.true _ refl (byte (goal.at.loop-i-preserved c).After-shared_slice_known-1) _ refl
 
 pub returns : goal.returns
-returns c = scanning-all P _ _ _ _ _ _ (c.loop-i.invariant P y) c.loop-i-test.false
+returns c P y = scanning-all P _ _ _ _ _ _ (c.loop-i.invariant P y) c.loop-i-test.false

@@ -1,13 +1,10 @@
 -- `watch::sight::scan` meets its contract. The loop's invariant, `Scanning`: the word has the bits of the state that the letters read so
 -- far lead to. The measure is the number of letters left.
-use Prim.Native.Nat.{ℕ, ◌-◌, ◌<◌}
-use borrow.Author.Rules.{rules}
-use native.Mathlib.Omega.{arith}
-use mathlib.Core.Path.{refl}
+use Prim.Native.Nat.{ℕ, ◌-◌}
 use mathlib.Core.List.{List}
-use lib.ListN.{length, get_or}
+use lib.ListN.{length}
 use Rattle.watch.specs.Sight.{Armed}
-use Rattle.watch.proofs.Sights.{Scanning, scanning-none, scanning-more, scanning-all}
+use Rattle.watch.proofs.Sights.{Scanning}
 use Rattle.watch.proofs.sight.scan.Given as goal
 
 abbrev pub invariant-loop-i : goal.invariant-loop-i

@@ -4,9 +4,6 @@ use lib.ListN.{length}
 use Rattle.text.specs.Refusal.{told_verdict}
 use Rattle.watch.proofs.Records.{bases-length, wrong-long, sound-pattern, wrong-pattern}
 use borrow.Author.Rules.{rules}
-use Rattle.watch.proofs.watched.is_sound.Reads as reads
-use Rattle.watch.proofs.watched.is_sound.Lts as lts
-use Rattle.text.proofs.pattern.check.Reads as check-reads
 use Rattle.watch.proofs.watched.is_sound.Goals as goal
 use Rattle.watch.proofs.watched.is_sound.Goals.{Start}
 

@@ -5,7 +5,6 @@ use Rattle.text.specs.Card.{well_formed}
 use Rattle.card.specs.Cards.{card_in}
 use Rattle.card.proofs.Tests.{passed, failed}
 use Rattle.card.proofs.Answered.{ask-malformed, ask-wrong, ask-follow}
-use borrow.Author.Rules.{rules}
 use Rattle.card.proofs.cards.Card.ask.Goals as goal
 use Rattle.card.proofs.cards.Card.ask.Goals.{Else-not-well_formed}
 

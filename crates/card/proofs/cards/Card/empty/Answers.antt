@@ -1,5 +1,4 @@
 -- `card::Card::empty` meets its contract, by what `check`, `read_on` and `lone` ensure.
-use borrow.Author.Rules.{rules}
 use native.Mathlib.Omega.{arith}
 use mathlib.Core.Path.{sym, ap, ◌∙◌}
 use Rattle.text.specs.Refusal.{told_verdict, SoundPattern}

@@ -8,7 +8,6 @@ use Rattle.card.specs.Cards.{card_in}
 use Rattle.card.specs.Answers.{accepted, made}
 use Rattle.card.proofs.Tests.{passed, failed}
 use Rattle.card.proofs.Answered.{join-left-malformed, join-right-malformed, join-differ, join-long, join-fits}
-use borrow.Author.Rules.{rules}
 use Rattle.card.proofs.cards.Card.join.Goals as goal
 use Rattle.card.proofs.cards.Card.join.Goals.{Else-not-same_pattern, Else-not-well_formed, Else-not-well_formed-2, Else-self-right}
 

@@ -1,5 +1,4 @@
 -- `card::Card::of` meets its contract, by what `check`, `is_short`, `read_on` and `over` ensure.
-use borrow.Author.Rules.{rules}
 use native.Mathlib.Omega.{arith}
 use mathlib.Core.Path.{sym, ap, ◌∙◌}
 use Rattle.text.specs.Refusal.{told_verdict, SoundPattern}

@@ -1,9 +1,8 @@
-use Prim.Native.Nat.{◌-◌, ◌<◌}
-use borrow.Author.Rules.{rules}
+use Prim.Native.Nat.{◌<◌}
 use native.Mathlib.Omega.{arith}
 use mathlib.Core.Path.{refl}
-use lib.ListN.{length, get_or}
-use Rattle.card.proofs.Carries.{Carrying, carrying-none, carrying-more, carrying-near, carrying-end, carrying-dead}
+use lib.ListN.{get_or}
+use Rattle.card.proofs.Carries.{carrying-none, carrying-more, carrying-near, carrying-end, carrying-dead}
 use Rattle.card.proofs.rows.carry.carry.Goals as goal
 use Rattle.card.proofs.rows.carry.carry.Goals.{After-shared_slice_known-in-loop-i-1}
 

@@ -1,11 +1,8 @@
 -- `card::rows::carry::carry` meets its contract. The loop's invariant, `Carrying`: what the letters read so far make of every state within
 -- the union. The measure is the number of letters left.
-use Prim.Native.Nat.{◌-◌, ◌<◌}
-use borrow.Author.Rules.{rules}
-use native.Mathlib.Omega.{arith}
-use mathlib.Core.Path.{refl}
-use lib.ListN.{length, get_or}
-use Rattle.card.proofs.Carries.{Carrying, carrying-none, carrying-more, carrying-near, carrying-end, carrying-dead}
+use Prim.Native.Nat.{◌-◌}
+use lib.ListN.{length}
+use Rattle.card.proofs.Carries.{Carrying}
 use Rattle.card.proofs.rows.carry.carry.Given as goal
 
 abbrev pub invariant-loop-i : goal.invariant-loop-i

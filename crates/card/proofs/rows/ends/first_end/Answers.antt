@@ -1,7 +1,4 @@
-use Prim.Native.Nat.{◌-◌}
-use borrow.Author.Rules.{rules}
-use lib.ListN.{length}
-use Rattle.card.proofs.FirstEnds.{Looking, looking-none, looking-found, looking-more, looking-end}
+use Rattle.card.proofs.FirstEnds.{looking-none, looking-found, looking-more, looking-end}
 use Rattle.card.proofs.rows.ends.first_end.Goals as goal
 
 pub loop-k-init : goal.loop-k-init

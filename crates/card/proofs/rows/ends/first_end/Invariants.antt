@@ -1,9 +1,8 @@
 -- `card::rows::ends::first_end` meets its contract. The loop's invariant, `Looking`: none of the first k marks is 1. The measure is the number
 -- of marks left.
 use Prim.Native.Nat.{◌-◌}
-use borrow.Author.Rules.{rules}
 use lib.ListN.{length}
-use Rattle.card.proofs.FirstEnds.{Looking, looking-none, looking-found, looking-more, looking-end}
+use Rattle.card.proofs.FirstEnds.{Looking}
 use Rattle.card.proofs.rows.ends.first_end.Given as goal
 
 abbrev pub invariant-loop-k : goal.invariant-loop-k

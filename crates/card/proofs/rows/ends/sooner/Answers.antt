@@ -1,5 +1,4 @@
 -- `card::rows::ends::sooner` meets its contract, by what `earlier` ensures; no first end is beyond "none".
-use borrow.Author.Rules.{rules}
 use native.Mathlib.Omega.{arith}
 use Rattle.card.proofs.rows.ends.sooner.Goals as goal
 

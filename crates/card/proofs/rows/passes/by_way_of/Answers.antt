@@ -1,5 +1,4 @@
 -- `card::rows::passes::by_way_of` meets its contract: what the search from the fresh state tells of the stretch, and the rows that `told` makes.
-use borrow.Author.Rules.{rules}
 use native.Mathlib.Omega.{arith}
 use mathlib.Core.Path.{sym, ap, ◌∙◌}
 use lib.ListN.{length-take}

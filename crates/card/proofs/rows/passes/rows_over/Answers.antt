@@ -1,15 +1,12 @@
-use Prim.Native.Nat.{◌-◌}
-use borrow.Author.Rules.{rules}
 use native.Mathlib.Omega.{arith}
 use mathlib.Core.Path.{◌≡◌, sym, subst, ◌∙◌}
 use lib.ListN.{length}
 use lib.Pow.{pow_mono}
 use Rattle.text.proofs.States.{low_ones}
 use Rattle.layout.proofs.Going.{open_is, passed_on}
-use Rattle.card.specs.Held.{rows_in, Full}
 use Rattle.card.specs.RowStep.{Covers}
 use Rattle.card.proofs.RowsHeld.{exits-in, even}
-use Rattle.card.proofs.RowWalks.{sound-opens, Rowing, rowing-none, rowing-readable, rowing_more, rowing-all, rowing-dead}
+use Rattle.card.proofs.RowWalks.{sound-opens, rowing-none, rowing-readable, rowing_more, rowing-all, rowing-dead}
 use Rattle.card.proofs.rows.passes.rows_over.Goals as goal
 use Rattle.card.proofs.rows.passes.rows_over.Goals.{At-loop-walk}
 

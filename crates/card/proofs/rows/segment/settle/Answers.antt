@@ -1,8 +1,5 @@
-use Prim.Native.Nat.{◌-◌}
-use borrow.Author.Rules.{rules}
 use native.Mathlib.Omega.{arith}
-use Rattle.card.specs.Held.{rows_in}
-use Rattle.card.proofs.RowSteps.{Settling, settling-none, settling-more, settling-end}
+use Rattle.card.proofs.RowSteps.{settling-none, settling-more, settling-end}
 use Rattle.card.proofs.rows.segment.settle.Goals as goal
 
 pub loop-q-init : goal.loop-q-init

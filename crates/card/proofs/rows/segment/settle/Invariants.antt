@@ -1,10 +1,8 @@
 -- `card::rows::segment::settle` meets its contract. The loop's invariant, `Settling`: the rows before q are settled. The measure is the
 -- number of rows left.
 use Prim.Native.Nat.{◌-◌}
-use borrow.Author.Rules.{rules}
-use native.Mathlib.Omega.{arith}
 use Rattle.card.specs.Held.{rows_in}
-use Rattle.card.proofs.RowSteps.{Settling, settling-none, settling-more, settling-end}
+use Rattle.card.proofs.RowSteps.{Settling}
 use Rattle.card.proofs.rows.segment.settle.Given as goal
 
 abbrev pub invariant-loop-q : goal.invariant-loop-q

@@ -1,7 +1,5 @@
-use Prim.Native.Nat.{◌-◌}
-use borrow.Author.Rules.{rules}
 use native.Mathlib.Omega.{arith}
-use Rattle.card.proofs.RowSteps.{Spreading, spreading-none, spreading-more, spreading-end}
+use Rattle.card.proofs.RowSteps.{spreading-none, spreading-more, spreading-end}
 use Rattle.card.proofs.rows.segment.spread.Goals as goal
 
 pub loop-q-init : goal.loop-q-init

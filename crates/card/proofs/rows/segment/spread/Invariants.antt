@@ -1,9 +1,7 @@
 -- `card::rows::segment::spread` meets its contract. The loop's invariant, `Spreading`: the rows before q have what the letters make of their
 -- states. The measure is the number of rows left.
 use Prim.Native.Nat.{◌-◌}
-use borrow.Author.Rules.{rules}
-use native.Mathlib.Omega.{arith}
-use Rattle.card.proofs.RowSteps.{Spreading, spreading-none, spreading-more, spreading-end}
+use Rattle.card.proofs.RowSteps.{Spreading}
 use Rattle.card.proofs.rows.segment.spread.Given as goal
 
 abbrev pub invariant-loop-q : goal.invariant-loop-q

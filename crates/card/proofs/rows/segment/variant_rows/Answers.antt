@@ -1,5 +1,4 @@
 -- `card::rows::segment::variant_rows` meets its contract: what `carry` tells of every state within the union, and what `spread` does with it.
-use borrow.Author.Rules.{rules}
 use Rattle.card.proofs.RowSteps.{passed-spread, passed_none, passed-short}
 use Rattle.card.proofs.rows.segment.variant_rows.Goals as goal
 

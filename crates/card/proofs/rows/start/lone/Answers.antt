@@ -1,6 +1,4 @@
-use Prim.Native.Nat.{◌-◌}
-use borrow.Author.Rules.{rules}
-use Rattle.card.proofs.Lones.{Loning, loning-none, loning-more, loning-all}
+use Rattle.card.proofs.Lones.{loning-none, loning-more, loning-all}
 use Rattle.card.proofs.rows.start.lone.Goals as goal
 
 pub loop-q-init : goal.loop-q-init

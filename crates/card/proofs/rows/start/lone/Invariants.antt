@@ -1,8 +1,7 @@
 -- `card::rows::start::lone` meets its contract. The loop's invariant, `Loning`: the rows below q have their bit. The measure is the number of
 -- rows left.
 use Prim.Native.Nat.{◌-◌}
-use borrow.Author.Rules.{rules}
-use Rattle.card.proofs.Lones.{Loning, loning-none, loning-more, loning-all}
+use Rattle.card.proofs.Lones.{Loning}
 use Rattle.card.proofs.rows.start.lone.Given as goal
 
 abbrev pub invariant-loop-q : goal.invariant-loop-q

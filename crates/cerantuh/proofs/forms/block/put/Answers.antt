@@ -1,6 +1,5 @@
-use Prim.Native.Nat.{◌-◌}
 use borrow.Author.Rules.{rules}
-use Rattle.cerantuh.proofs.Blocks.{Putting, putting-none, putting-room, putting-length, putting-more, putting-end}
+use Rattle.cerantuh.proofs.Blocks.{putting-none, putting-room, putting-length, putting-more, putting-end}
 use Rattle.cerantuh.proofs.forms.block.put.Goals as goal
 
 pub loop-i-init : goal.loop-i-init

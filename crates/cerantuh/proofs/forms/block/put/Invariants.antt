@@ -1,8 +1,7 @@
 -- `cerantuh::forms::block::put` meets its contract. The loop's invariant, `Putting`: the first i bytes stand in the block. The measure is
 -- the number of bytes left.
 use Prim.Native.Nat.{◌-◌}
-use borrow.Author.Rules.{rules}
-use Rattle.cerantuh.proofs.Blocks.{Putting, putting-none, putting-room, putting-length, putting-more, putting-end}
+use Rattle.cerantuh.proofs.Blocks.{Putting}
 use Rattle.cerantuh.proofs.forms.block.put.Given as goal
 
 abbrev pub invariant-loop-i : goal.invariant-loop-i

@@ -1,6 +1,5 @@
 -- `cerantuh::forms::feeding::feed` meets its contract: what the feed refuses, or its two numbers.
 use Rattle.cerantuh.proofs.FeedForms.{fed-fits, form-not, form-met}
-use borrow.Author.Rules.{rules}
 use Rattle.cerantuh.proofs.forms.feeding.feed.Goals as goal
 
 pub code-requires : goal.code-requires
@@ -14,4 +13,4 @@ returns-in-Refused c =
 pub returns-in-Next : goal.returns-in-Next
 returns-in-Next c =
     let whole = form-met _ _ _ _ c.args.block.now _ c.feed.ensures _ _ _ _ c.in-Next.is
-    c.two.ensures in record { value = whole.0; block_after = whole.1 }
+    (c.two.ensures.value, c.two.ensures.block_after) in record { value = whole.0; block_after = whole.1 }

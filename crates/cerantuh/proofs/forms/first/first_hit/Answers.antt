@@ -1,6 +1,5 @@
 -- `cerantuh::forms::first::first_hit` meets its contract: what is refused, or the two numbers of the first hit.
 use Rattle.cerantuh.proofs.FirstForms.{first_fits, form-not, form-ends, form-clear}
-use borrow.Author.Rules.{rules}
 use Rattle.cerantuh.proofs.forms.first.first_hit.Goals as goal
 
 pub code-requires : goal.code-requires
@@ -14,9 +13,9 @@ returns-in-Refused c =
 pub returns-in-Ends : goal.returns-in-Ends
 returns-in-Ends c =
     let whole = form-ends _ _ _ _ c.args.block.now _ c.first.ensures _ _ _ c.in-Ends.is
-    c.two.ensures in record { value = whole.0; block_after = whole.1 }
+    (c.two.ensures.value, c.two.ensures.block_after) in record { value = whole.0; block_after = whole.1 }
 
 pub returns-in-None : goal.returns-in-None
 returns-in-None c =
     let whole = form-clear _ _ _ _ c.args.block.now _ c.first.ensures _ _ _ c.in-None.is
-    c.two-in-None.ensures in record { value = whole.0; block_after = whole.1 }
+    (c.two-in-None.ensures.value, c.two-in-None.ensures.block_after) in record { value = whole.0; block_after = whole.1 }

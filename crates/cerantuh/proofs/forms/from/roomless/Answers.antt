@@ -1,7 +1,6 @@
 -- `cerantuh::forms::from::roomless` meets its contract: what the search refuses without room for a mark, else 10.
 use Rattle.text.specs.declared.strand.Strand.TheVariants.{Given}
 use Rattle.cerantuh.proofs.FromForms.{roomless-fits, roomless-not, roomless-met}
-use borrow.Author.Rules.{rules}
 use Rattle.cerantuh.proofs.forms.from.roomless.Goals as goal
 
 pub code-requires : goal.code-requires

@@ -1,5 +1,4 @@
 -- `cerantuh::forms::from::search_from` meets its contract: without room nothing is written; else the search decides.
-use borrow.Author.Rules.{rules}
 use Rattle.cerantuh.proofs.FromForms.{form-short, form-room, sought-fits}
 use Rattle.cerantuh.proofs.forms.from.search_from.Goals as goal
 
@@ -18,4 +17,4 @@ pub returns : goal.returns
 returns c =
     let whole = form-room c.args.pattern.now c.args.strand c.args.state c.args.stretch.now c.args.marks.now c.args.block.now c.through-sought.result
     c.through-sought.ensures.result_value _ _ _
-    c.if-block-lt-FROM_BLOCK.false c.through-sought.ensures.marks_after c.told.ensures in record { value = whole.0; marks_after = whole.1.0; block_after = whole.1.1 }
+    c.if-block-lt-FROM_BLOCK.false c.through-sought.ensures.marks_after (c.told.ensures.value, c.told.ensures.block_after) in record { value = whole.0; marks_after = whole.1.0; block_after = whole.1.1 }

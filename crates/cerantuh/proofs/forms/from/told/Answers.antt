@@ -1,6 +1,5 @@
 -- `cerantuh::forms::from::told` meets its contract: a refusal's code, or the four numbers put one after another.
 use Rattle.cerantuh.proofs.FromForms.{told-not, told-fits, told-put}
-use borrow.Author.Rules.{rules}
 use Rattle.cerantuh.proofs.forms.from.told.Goals as goal
 
 pub code-requires : goal.code-requires

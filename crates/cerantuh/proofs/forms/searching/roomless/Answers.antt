@@ -6,7 +6,6 @@ use Rattle.stretch.specs.Answers.{told_checked}
 use Rattle.cerantuh.specs.Forms.{coded}
 use Rattle.cerantuh.proofs.Codes.{pattern-small, checking-small}
 use Rattle.cerantuh.proofs.Rooms.{short-pattern, short-stretch, short-sound}
-use borrow.Author.Rules.{rules}
 use Rattle.cerantuh.proofs.forms.searching.roomless.Goals as goal
 use Rattle.cerantuh.proofs.forms.searching.roomless.Goals.{In-Sound}
 

@@ -1,5 +1,4 @@
 -- `cerantuh::forms::searching::search_either` meets its contract: without room nothing is written; else the search decides.
-use borrow.Author.Rules.{rules}
 use Rattle.search.specs.Either.{either_marks, either_sums}
 use Rattle.cerantuh.proofs.SearchForms.{form-short, form-room, searched-fits}
 use Rattle.cerantuh.proofs.forms.searching.search_either.Goals as goal
@@ -18,4 +17,4 @@ pub returns : goal.returns
 returns c =
     let whole = form-room (either_marks c.args.pattern.now) (either_sums c.args.pattern.now) c.args.pattern.now c.args.stretch.now c.args.marks.now
     c.args.block.now c.either-searched.result c.either-searched.ensures.result_value _ _ _
-    c.if-block-lt-SEARCH_BLOCK.false c.either-searched.ensures.marks_after c.told.ensures in record { value = whole.0; marks_after = whole.1.0; block_after = whole.1.1 }
+    c.if-block-lt-SEARCH_BLOCK.false c.either-searched.ensures.marks_after (c.told.ensures.value, c.told.ensures.block_after) in record { value = whole.0; marks_after = whole.1.0; block_after = whole.1.1 }

@@ -1,6 +1,5 @@
 -- `cerantuh::forms::searching::search_strand` meets its contract: without room nothing is written; else the search decides.
 use Prim.Native.Nat.{ℕ}
-use borrow.Author.Rules.{rules}
 use mathlib.Core.List.{List}
 use Rattle.text.specs.Strand.{on_strand}
 use Rattle.search.specs.Answers.{sums_of, marked}
@@ -31,11 +30,11 @@ returns-in-Bits c =
     let Q : List ℕ = on_strand c.args.strand c.args.pattern.now in
     let whole = form-room (marked Q) (sums_of Q) c.args.pattern.now c.args.stretch.now c.args.marks.now c.args.block.now c.by_bits-searched.result
     c.by_bits-searched.ensures.result_value _ _ _
-    c.if-block-lt-SEARCH_BLOCK.false c.by_bits-searched.ensures.marks_after c.told.ensures in record { value = whole.0; marks_after = whole.1.0; block_after = whole.1.1 }
+    c.if-block-lt-SEARCH_BLOCK.false c.by_bits-searched.ensures.marks_after (c.told.ensures.value, c.told.ensures.block_after) in record { value = whole.0; marks_after = whole.1.0; block_after = whole.1.1 }
 
 pub returns-in-Borders : goal.returns-in-Borders
 returns-in-Borders c =
     let Q : List ℕ = on_strand c.args.strand c.args.pattern.now in
     let whole = form-room (marked Q) (sums_of Q) c.args.pattern.now c.args.stretch.now c.args.marks.now c.args.block.now c.by_borders-searched.result
     c.by_borders-searched.ensures.result_value _ _ _
-    c.if-block-lt-SEARCH_BLOCK.false c.by_borders-searched.ensures.marks_after c.told-in-Borders.ensures in record { value = whole.0; marks_after = whole.1.0; block_after = whole.1.1 }
+    c.if-block-lt-SEARCH_BLOCK.false c.by_borders-searched.ensures.marks_after (c.told-in-Borders.ensures.value, c.told-in-Borders.ensures.block_after) in record { value = whole.0; marks_after = whole.1.0; block_after = whole.1.1 }

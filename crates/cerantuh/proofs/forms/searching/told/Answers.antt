@@ -1,6 +1,5 @@
 -- `cerantuh::forms::searching::told` meets its contract: a refusal's code, or the three numbers put one after another.
 use Rattle.cerantuh.proofs.SearchForms.{told-not, told-fits, told-put}
-use borrow.Author.Rules.{rules}
 use Rattle.cerantuh.proofs.forms.searching.told.Goals as goal
 
 pub code-requires : goal.code-requires
