@@ -1,9 +1,9 @@
 use Prim.Native.Nat.{◌-◌}
 use native.Mathlib.Omega.{arith}
-use mathlib.Core.Logic.{⊎_elim}
 use borrow.Author.Rules.{rules}
 use Rattle.desk_night.proofs.Asks.{Counting, counting-none, counting-on, counting-not, counting-all}
 use Rattle.desk_night.proofs.standings.going.Goals as goal
+use Rattle.desk_night.proofs.standings.going.Goals.{then-standing-eq0, else-standing-eq0}
 
 pub loop-k-init : goal.loop-k-init
 loop-k-init c = counting-none _ _
@@ -22,9 +22,10 @@ overflow_add-sum c =
 
 pub loop-k-preserved : goal.loop-k-preserved
 loop-k-preserved c =
-    ⊎_elim (λ w. counting-on _ _ c.loop-k.invariant c.loop-k-test.true w.0.taken w.1)
-    (λ w. counting-not _ _ c.loop-k.invariant c.loop-k-test.true w.0.left w.1)
-    c.if-standing-eq0.branch
+    elim c.if-standing-eq0.branch [
+      | then-standing-eq0 w ↦ counting-on _ _ c.loop-k.invariant c.loop-k-test.true w.if-standing-eq0.true w.sum-is
+      | else-standing-eq0 w ↦ counting-not _ _ c.loop-k.invariant c.loop-k-test.true w.if-standing-eq0.false w.sum-is
+    ]
 
 pub returns : goal.returns
 returns c = counting-all _ _ c.loop-k.invariant c.loop-k-test.false

@@ -1,20 +1,16 @@
 -- `desk_night::trouble::is_none` meets its contract.
 use mathlib.Core.Path.{◌≡◌, refl}
 use mathlib.Core.Bool.{false}
-use mathlib.Core.List.{[], ◌∷◌}
-use denote.Enum.Declared.{tag_of}
-use types.Run.{OneOf, miss}
 use Rattle.desk_night.specs.Trouble.{calm}
 use Rattle.desk_night.specs.declared.trouble.Trouble.{Trouble}
 use Rattle.desk_night.proofs.Troubles.{none-calm}
-use Rattle.desk_night.specs.contracts.trouble.Trouble.{the_type}
 use borrow.Author.Rules.{rules}
 use Rattle.desk_night.proofs.trouble.is_none.Goals as goal
 
 -- what is a trouble
-some : (t : Trouble) → OneOf (1 ∷ 2 ∷ 3 ∷ 4 ∷ 5 ∷ 6 ∷ 7 ∷ 8 ∷ 9 ∷ 10 ∷ 11 ∷ 12 ∷ 13 ∷ []) (tag_of the_type t) → false ≡ calm t
+some : (t : Trouble) → (t ≡ Trouble.None → ⊥) → false ≡ calm t
 unfolding calm
-some Trouble.None k = absurd (miss (1 ∷ 2 ∷ 3 ∷ 4 ∷ 5 ∷ 6 ∷ 7 ∷ 8 ∷ 9 ∷ 10 ∷ 11 ∷ 12 ∷ 13 ∷ []) 0 tt k)
+some Trouble.None k = absurd (k refl)
 some Trouble.List k = refl
 some Trouble.Empty k = refl
 some Trouble.Many k = refl
@@ -33,4 +29,4 @@ pub returns-in-None : goal.returns-in-None
 returns-in-None c = none-calm _ c.in-None.is
 
 pub returns : goal.returns
-returns c = some c.args.trouble c.in_default.in_default-own.keys2
+returns c = some c.args.trouble c.in_default.not-None
