@@ -1,4 +1,4 @@
-/* The C side of crate bench_calls (target/staticlib/libbench_calls.a): the calls that have no C form. A slice is a pointer and a length. */
+/* The C side of crate bench_calls (crates/bench_calls/out/libbench_calls.a): the calls that have no C form. A slice is a pointer and a length. */
 #ifndef PACED_H
 #define PACED_H
 

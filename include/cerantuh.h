@@ -1,6 +1,6 @@
 /* Cerantuh's C forms: the searches, the first hit and the feed, on either strand, for x86-64 Linux. Link
-   target/staticlib/libcerantuh.a, which 'rt staticlib cerantuh' builds. docs/FORMAT.md has the bytes of a stretch and says when each
-   refusal is given.
+   crates/cerantuh/out/libcerantuh.a, which 'rt lib' builds in crates/cerantuh. docs/FORMAT.md has the bytes of a stretch and says when
+   each refusal is given.
 
    Which form. cerantuh_search_bits, _borders and _either, and those on the opposite strand, speak of ONE stretch. A text of many
    stretches is searched by cerantuh_search_from with the state handed on: an occurrence that begins in one stretch and ends in a

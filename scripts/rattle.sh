@@ -1,35 +1,37 @@
 # How programs are built and run here, packages, and refusals in words. Sourced from the top folder.
 top_folder=$PWD
 
-# The toolchain's folder with its compiler, the loader that programs run with and, on Arm, an emulator.
+# The toolchain's folder with the loader that programs run with.
 toolchain() {
-    rt=$(readlink -f "$(command -v rt)") && echo "${RATTLE_HOME:-$(dirname "$(dirname "$rt")")}/on/$(uname -m)/toolchain"
+    rt=$(readlink -f "$(command -v rt)") && echo "${RATTLE_HOME:-$(dirname "$(dirname "$rt")")}/toolchain"
+}
+
+# Where rt puts the program of a crate.
+program_of() {
+    echo "crates/$1/out/$1"
 }
 
 # Whether a file is there, and nothing of the crates has changed since it was made.
 is_new() {
-    [ -f "$1" ] && [ -z "$(find crates crates.txt -type f -newer "$1")" ]
+    [ -f "$1" ] && [ -z "$(find crates crates.txt -path 'crates/*/out' -prune -o -type f -newer "$1" -print)" ]
 }
 
-# What programs run with: a copy for this kind of machine, since a program that is built runs without the toolchain too. Arm needs the
-# emulator. Each file takes its place whole, since another call may be starting a program, and the loader last: where it is, all are.
-runtime=target/run/$(uname -m)
+# What programs run with: a copy, since a program that is built runs without the toolchain too. Each file takes its place whole, since
+# another call may be starting a program, and the loader last: where it is, all are.
+runtime=target/run
 keep_runtime() {
     tools=$(toolchain) && mkdir -p "$runtime" || return 1
-    for file in bin/qemu-x86_64 lib/libc.so.6 lib/ld-linux-x86-64.so.2; do
-        [ -e "$tools/$file" ] || [ "$file" = bin/qemu-x86_64 ] || return 1
-        [ ! -e "$tools/$file" ] || {
-            cp "$tools/$file" "$runtime/new" && mv "$runtime/new" "$runtime/${file##*/}"
-        } || return 1
+    for file in libc.so.6 ld-linux-x86-64.so.2; do
+        cp "$tools/lib/$file" "$runtime/new" && mv "$runtime/new" "$runtime/$file" || return 1
     done
 }
 
-# Becomes a program of target/bin, run as rt does, with the words after its name, from whatever folder.
+# Becomes the program of a crate, with the words after its name, from whatever folder. Where the machine is no x86-64, an emulator runs it.
 exec_program() {
-    runs="$top_folder/$runtime" program=$top_folder/target/bin/$1
+    runs="$top_folder/$runtime" program=$top_folder/$(program_of "$1")
     shift
     set -- "$runs/ld-linux-x86-64.so.2" --library-path "$runs" "$program" "$@"
-    [ ! -x "$runs/qemu-x86_64" ] || set -- "$runs/qemu-x86_64" "$@"
+    [ "$(uname -m)" = x86_64 ] || set -- qemu-x86_64 "$@"
     exec "$@"
 }
 run_program() (exec_program "$@")
@@ -69,26 +71,25 @@ end_prover() {
     trap '' HUP INT TERM
     [ -z "$prover" ] || kill -- "-$prover" 2>/dev/null || kill "$prover" 2>/dev/null
     wait
-    rm -f "$made.new"
-    put_back
+    rm -f "$began"
     exit 2
 }
 
-# Proves and builds a program by rt, whose whole output goes to a log; the lines in which rt speaks are shown as they come. The shell
-# waits, and waits alone: a signal ends a wait, and no command.
+# Proves and builds a program by rt, whose whole output goes to a log; the lines in which rt speaks are shown as they come. rt runs it
+# then: with no words and no input it makes no file. The shell waits, and waits alone: a signal ends a wait, and no command.
 check_program() {
     : >"$2"
     trap end_prover HUP INT TERM
-    # shellcheck disable=SC2046
-    $(command -v setsid) rt check "$1" >"$2" 2>&1 </dev/null &
+    # shellcheck disable=SC2046,SC2016
+    $(command -v setsid) sh -c 'cd "crates/$0" && exec rt run' "$1" >"$2" 2>&1 </dev/null &
     prover=$!
     tail -n +1 -s 0.5 --pid="$prover" -f "$2" | sed -un '/^rt: /p' >&2 &
     wait "$prover"
-    checked=$?
     wait
     prover=''
     trap 'end_child; exit 2' HUP INT TERM
-    [ $checked = 0 ] && [ -x "target/bin/$1" ]
+    # its status is that of the program; rt writes the stamp where it proved and built what stands here
+    [ -f "$(program_of "$1").stamp" ] && [ -x "$(program_of "$1")" ]
 }
 
 # Waits for another call that builds, and keeps later ones waiting until this one, and all that it has started, has ended.
@@ -102,39 +103,30 @@ alone() {
 
 # Whether a program is proved and built, and what it runs with is there.
 is_built() {
-    is_new "target/$1.done" && [ -x "target/bin/$1" ] && [ -x "$runtime/ld-linux-x86-64.so.2" ]
+    is_new "$(program_of "$1")" && [ -x "$(program_of "$1")" ] && [ -x "$runtime/ld-linux-x86-64.so.2" ]
 }
 
-# Keeps a copy of what was built before, and puts it back where nothing new was built.
-keep_built() {
-    rm -rf target/kept
-    [ ! -d target/bin ] || cp -Rp target/bin target/kept
-}
-put_back() {
-    [ ! -d target/kept ] || { rm -rf target/bin && mv target/kept target/bin; }
-}
-
-# Proves and builds a program, from nothing where an earlier run left it half built; where that fails too, what was built before stays.
+# Proves and builds a program, unless rt ci has; from nothing where an earlier run left it half built. Where that fails too, what was built
+# before stays. The program's time becomes that of the moment before, so that what changes meanwhile is newer.
 build_program() {
-    made=target/$1.done log=target/$1.log
-    echo "The program $1 is being proved and built: some minutes on the first call, nothing on later ones." >&2
-    if ! : >"$made.new" || ! keep_runtime; then
+    began=target/$1.new log=target/$1.log
+    if ! : >"$began" || ! keep_runtime; then
         echo "${0##*/}: the toolchain's files that programs run with could not be copied to $runtime" >&2
         return 1
     fi
-    [ -x "target/bin/$1" ] || rm -f "target/stamp/$1"
-    keep_built
+    is_built "$1" && rm -f "$began" && return
+    echo "The program $1 is being proved and built: some minutes on the first call, nothing on later ones." >&2
+    rm -f "$(program_of "$1").stamp"
     check_program "$1" "$log" || {
         echo 'It was not built; once more, from nothing.' >&2
-        rm -rf target/stamp target/rlib target/obj target/bin
+        rm -rf crates/*/out/rlib crates/*/out/incremental
         check_program "$1" "$log"
     } || {
-        put_back
+        rm -f "$began"
         echo "${0##*/}: the program $1 could not be proved and built; $log says why" >&2
         return 1
     }
-    rm -rf target/kept
-    mv "$made.new" "$made"
+    touch -r "$began" "$(program_of "$1")" && rm -f "$began"
 }
 
 # Proves and builds a program, unless that is done.

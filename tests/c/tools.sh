@@ -14,7 +14,7 @@ look_for_tools() {
     *)
         # nothing of an x86-64 system need be here to run a static program
         compiler=$(first_of x86_64-linux-gnu-gcc) && compiler="$compiler -static" &&
-            emulator=$(first_of qemu-x86_64-static qemu-x86_64 "$(toolchain)/bin/qemu-x86_64")
+            emulator=$(first_of qemu-x86_64-static qemu-x86_64)
         ;;
     esac
 }
@@ -54,13 +54,17 @@ find_tools() {
     }
 }
 
-# Proves and builds the C forms, unless the archive is newer than every crate.
-library=target/staticlib/libcerantuh.a
+# Where rt puts the archives of the C forms and of what the bench calls besides.
+library=crates/cerantuh/out/libcerantuh.a
+bench_calls=crates/bench_calls/out/libbench_calls.a
+
+# Proves and builds the archive of a crate, unless it is newer than every crate.
 build_library() {
-    is_new "$library" && return 0
-    alone && { is_new "$library" || rt staticlib cerantuh >target/c/library.log 2>&1; } || cat target/c/library.log
+    archive=crates/$1/out/lib$1.a log=target/lib$1.log
+    is_new "$archive" && return 0
+    alone && { is_new "$archive" || (cd "crates/$1" && rt lib) >"$log" 2>&1; } || cat "$log"
     exec 9>&-
-    is_new "$library"
+    is_new "$archive"
 }
 
 flags='-std=c11 -O2 -Wall -Wextra -Iinclude -Itests/c'
