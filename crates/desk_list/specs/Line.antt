@@ -1,5 +1,5 @@
 -- What a line of a list says.
-use Rattle.std.specs.Prelude.{ℕ, ◌+◌, ◌-◌, ◌≤◌, ◌<◌, Bool, ◌||◌, ◌&&◌, cond, List, eqb, leb, ltb, length, take, drop, get_or}
+use Rattle.std.specs.Prelude.{ℕ, ◌+◌, ◌-◌, ◌≤◌, ◌<◌, Bool, ◌||◌, ◌&&◌, cond, List, eqb, leb, ltb, length, get_or}
 use Rattle.text.specs.Compare.{from_to}
 use Rattle.text.specs.Refusal.{Outcome, ok, refused, pattern}
 use Rattle.desk_list.specs.Kinds.{past}

@@ -1,5 +1,5 @@
 -- A night: where each sequence of a list stands after stretches that are handed in one after another, and what has come of them.
-use Rattle.std.specs.Prelude.{ℕ, Bool, true, false, not, cond, ◌&&◌, List, length, replicate, min}
+use Rattle.std.specs.Prelude.{ℕ, Bool, true, false, cond, ◌&&◌, List, length, replicate, min}
 use Rattle.layout.specs.Bytes.{word_at}
 use Rattle.digest.specs.Blake2b.{blake2b256}
 use Rattle.desk_verdict.specs.Standing.{plus, begun}

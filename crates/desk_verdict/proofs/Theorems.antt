@@ -18,7 +18,7 @@ use Rattle.text.specs.Bits.{bit}
 use Rattle.text.specs.State.{is_state, fresh, next, run, marks_from, marks}
 use Rattle.text.specs.Card.{none, first_end}
 use Rattle.text.specs.Strand.{opposite}
-use Rattle.text.specs.Refusal.{ok, after, SoundPattern}
+use Rattle.text.specs.Refusal.{ok, SoundPattern}
 use Rattle.text.proofs.Outcomes.{ok-inj, after-met}
 use Rattle.text.proofs.Truth.{and_left, and_both}
 use Rattle.text.proofs.Steps.{next-open, next-lt}

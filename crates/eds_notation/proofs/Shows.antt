@@ -19,7 +19,7 @@ use Rattle.layout.specs.Reading.{stretch_of}
 use Rattle.layout.specs.Encoding.{bytes_of, raised_text, all, writable_segment, writable}
 use Rattle.layout.specs.Standing.{standing}
 use Rattle.layout.proofs.Decoding.{stretch-means}
-use Rattle.stretch.specs.Places.{Found, found, end, Reading, handed, variant, reading, read_from, read_in, part_of}
+use Rattle.stretch.specs.Places.{Found, found, end, Reading, handed, reading, read_from, read_in, part_of}
 use Rattle.stretch.specs.Answers.{Accepted, checking, told_got}
 use Rattle.stretch.specs.declared.reading.Got.{Got}
 use Rattle.layout.proofs.Stands.{Bytes}

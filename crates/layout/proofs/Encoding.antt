@@ -1,5 +1,5 @@
 -- What can be written is read back: the bytes of a text, or of a lone segment, are accepted and mean just that.
-use Rattle.std.proofs.Common.{◌≡◌, ℕ, ◌+◌, ◌*◌, ◌<◌, ◌≤◌, Bool, true, false, not, ◌&&◌, ltb, leb, List, [], ◌∷◌, ◌++◌, length, get_or, sym, refl, ap, ◌∙◌, ap₂, add-zero, arith, length-append, ltb-true, lt-ltb, le-leb, leb-true}
+use Rattle.std.proofs.Common.{◌≡◌, ℕ, ◌+◌, ◌*◌, ◌<◌, ◌≤◌, Bool, true, false, not, ◌&&◌, ltb, leb, List, [], ◌∷◌, ◌++◌, length, get_or, refl, ap, ◌∙◌, ap₂, add-zero, arith, length-append, ltb-true, lt-ltb, le-leb, leb-true}
 use borrow.Author.Tests.{not-true}
 use lib.Seq.{take-length}
 use Rattle.text.specs.Letter.{capital, meant, every}

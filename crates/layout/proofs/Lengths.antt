@@ -1,5 +1,5 @@
 -- How many bytes encodings have, by their numbers of segments, variants and letters.
-use Rattle.std.proofs.Common.{◌≡◌, ℕ, ◌+◌, ◌*◌, ◌≤◌, Bool, true, ltb, List, [], ◌∷◌, length, refl, arith, length-append, ltb-true}
+use Rattle.std.proofs.Common.{◌≡◌, ℕ, ◌+◌, ◌*◌, ◌≤◌, Bool, true, ltb, [], ◌∷◌, length, refl, arith, length-append, ltb-true}
 use Rattle.text.specs.Text.{Variant, Segment, Text, total}
 use Rattle.text.proofs.Truth.{and_left, and_right}
 use Rattle.layout.specs.Bytes.{word_bytes}

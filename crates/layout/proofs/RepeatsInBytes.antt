@@ -4,7 +4,7 @@ use Rattle.std.proofs.Common.{◌≡◌, ℕ, zero, suc, ◌+◌, ◌-◌, ◌<�
 use borrow.Author.Tests.{lt-leb}
 use Rattle.text.specs.Text.{Variant}
 use Rattle.text.specs.Letter.{meant}
-use Rattle.text.specs.Compare.{same, alike}
+use Rattle.text.specs.Compare.{alike}
 use Rattle.text.proofs.Likes.{like-lengths}
 use Rattle.text.specs.Bits.{any_of}
 use Rattle.layout.specs.Pieces.{letters_at, next_of, repeated_before, repeats}

@@ -1,5 +1,5 @@
 -- Answers that are told alike are the same answer.
-use Rattle.std.proofs.Common.{◌≡◌, sym, refl, ap, ap₂}
+use Rattle.std.proofs.Common.{◌≡◌, sym, ap, ap₂}
 use Rattle.text.proofs.Told.{same-refusal}
 use Rattle.text.proofs.Outcomes.{refused-ok, ok-inj}
 use Rattle.layout.specs.Pieces.{Span, told_part}

@@ -1,5 +1,5 @@
 -- The pieces of which every walk over a stretch is made: what each of them refuses and where, and what it tells else.
-use Rattle.std.specs.Prelude.{ℕ, zero, suc, ◌+◌, Bool, false, cond, not, ◌&&◌, ◌||◌, List, length, ◌==◌, nat_le, nat_lt, slice_index}
+use Rattle.std.specs.Prelude.{ℕ, zero, suc, ◌+◌, Bool, false, ◌&&◌, ◌||◌, List, length, ◌==◌, nat_le, nat_lt, slice_index}
 use Rattle.text.specs.Letter.{letter, first_not}
 use Rattle.text.specs.Text.{Variant}
 use Rattle.text.specs.Compare.{alike}

@@ -14,7 +14,7 @@ use Rattle.text.proofs.Strings.{same_refl}
 use Rattle.text.proofs.Truth.{and_left, and_right, and_both}
 use Rattle.manifest.specs.Kinds.{of, is_name}
 use Rattle.manifest.specs.Line.{blanks, is_comment, is_entry, said_by, line_to, end_from, line_of}
-use Rattle.manifest.specs.Lines.{after, Entry, entry_at, entries_from, wrong_from}
+use Rattle.manifest.specs.Lines.{Entry, entry_at, entries_from, wrong_from}
 use Rattle.manifest.specs.Written.{comment_line, comment_lines, entry_for, entry_line, entry_lines}
 use Rattle.manifest.specs.declared.classes.Kind.TheVariants.{InLine, Digit, Name}
 use Rattle.manifest.specs.declared.reading.Line.{Line}

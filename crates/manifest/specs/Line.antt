@@ -1,5 +1,5 @@
 -- What a line of a manifest says.
-use Rattle.std.specs.Prelude.{ℕ, ◌+◌, ◌-◌, ◌≤◌, ◌<◌, Bool, ◌&&◌, cond, List, [], ◌∷◌, eqb, leb, length, take, drop, get_or}
+use Rattle.std.specs.Prelude.{ℕ, ◌+◌, ◌≤◌, ◌<◌, Bool, ◌&&◌, cond, List, [], ◌∷◌, eqb, leb, length, take, drop, get_or}
 use Rattle.text.specs.Letter.{every, first_not}
 use Rattle.text.specs.Compare.{same, from_to}
 use Rattle.manifest.specs.Kinds.{of, is_name}

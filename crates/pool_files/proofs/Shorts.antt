@@ -1,5 +1,5 @@
 -- Laws of a line in short: byte by byte, up to the end of the line.
-use Rattle.std.proofs.Common.{◌≡◌, ℕ, suc, ◌+◌, ◌%◌, ◌^◌, ◌<◌, ◌≤◌, Bool, true, false, cond, ◌&&◌, eqb, ltb, List, [], ◌∷◌, length, get_or, drop, sym, refl, ap, ◌∙◌, ap₂, add-one, arith, drop_of_length-le, drop-cons, ltb-true, eq-eqb, ne_eqb}
+use Rattle.std.proofs.Common.{◌≡◌, ℕ, ◌+◌, ◌%◌, ◌^◌, ◌<◌, ◌≤◌, Bool, true, false, cond, ◌&&◌, eqb, ltb, List, [], ◌∷◌, length, get_or, drop, sym, refl, ap, ◌∙◌, add-one, drop_of_length-le, drop-cons, ltb-true, eq-eqb, ne_eqb}
 use Rattle.pool_files.specs.Short.{Shortened, keeps, act_of, putting, in_field, tabbed, acted, over_byte, reading}
 use Rattle.pool_files.specs.declared.short.Act.{Act}
 use Rattle.pool_files.specs.declared.short.Act.TheVariants.{Skip, Keep, Name, Next, Count, Comment}

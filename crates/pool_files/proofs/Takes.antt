@@ -1,5 +1,5 @@
 -- Laws of taking bases: byte by byte, up to as many as are wanted.
-use Rattle.std.proofs.Common.{◌≡◌, ℕ, suc, ◌+◌, ◌-◌, ◌<◌, ◌≤◌, min, true, false, cond, eqb, List, [], ◌∷◌, length, get_or, drop, set, sym, refl, ap, ◌∙◌, add-one, arith, length-set, drop_of_length-le, drop-cons, eq-eqb, ne_eqb}
+use Rattle.std.proofs.Common.{◌≡◌, ℕ, ◌+◌, ◌-◌, ◌<◌, ◌≤◌, true, false, List, [], ◌∷◌, length, get_or, drop, set, refl, ap, ◌∙◌, add-one, arith, length-set, drop_of_length-le, drop-cons, eq-eqb, ne_eqb}
 use Rattle.pool_files.specs.Reference.{Filled, filled, step_of, led_to, by_led, taking, wanted}
 use Rattle.pool_files.specs.declared.reference.Reading.{Reading}
 use Rattle.pool_files.specs.declared.reference.Space.{Space}

@@ -1,6 +1,5 @@
 -- What this crate proves of its calls, over all inputs.
-use Rattle.std.proofs.Common.{◌≡◌, ℕ, suc, ◌+◌, ◌<◌, ◌≤◌, true, false, cond, eqb, leb, List, [], ◌∷◌, ◌++◌, length, sym, refl, ap, ◌∙◌, arith, length-append, le-leb, leb-false, leb-true}
-use borrow.Author.Tests.{lt-leb}
+use Rattle.std.proofs.Common.{◌≡◌, ℕ, ◌+◌, ◌<◌, ◌≤◌, true, false, cond, leb, [], ◌∷◌, ◌++◌, length, sym, refl, ap, ◌∙◌, arith, length-append, leb-false, leb-true}
 use Rattle.text.specs.Text.{Segment, Text}
 use Rattle.layout.specs.Bytes.{word_bytes, greatest_stretch}
 use Rattle.layout.specs.Encoding.{bytes_of, encode_segment, encode}

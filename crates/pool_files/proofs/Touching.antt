@@ -1,6 +1,6 @@
 -- Building from the lines that touch a window is building from the whole file: records outside the window change nothing but what they
 -- may refuse.
-use Rattle.std.proofs.Common.{◌≡◌, ℕ, suc, ◌+◌, ◌≤◌, Bool, true, false, cond, ◌&&◌, ◌||◌, leb, List, [], ◌∷◌, length, sym, refl, ap, ◌∙◌, ap₂, arith, le-leb, leb-true}
+use Rattle.std.proofs.Common.{◌≡◌, ℕ, suc, ◌≤◌, Bool, true, false, cond, ◌&&◌, ◌||◌, leb, List, [], ◌∷◌, sym, refl, ap, ◌∙◌, ap₂, arith, le-leb, leb-true}
 use Rattle.text.specs.Compare.{prefix}
 use Rattle.text.specs.Letter.{letter, meant, every, first_not}
 use Rattle.text.specs.Refusal.{Outcome, ok, demand, after}

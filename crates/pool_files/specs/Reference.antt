@@ -1,5 +1,5 @@
 -- The sequence of a name in a file in FASTA format, byte by byte.
-use Rattle.std.specs.Prelude.{ℕ, ◌+◌, ◌-◌, min, Bool, true, false, cond, ◌||◌, List, [], ◌∷◌, ◌++◌, length, ◌==◌, slice_set}
+use Rattle.std.specs.Prelude.{ℕ, ◌+◌, ◌-◌, min, Bool, true, false, cond, ◌||◌, List, [], ◌∷◌, length, ◌==◌, slice_set}
 use Rattle.text.specs.Letter.{letter}
 use Rattle.pool_files.specs.Words.{go_on}
 use Rattle.pool_files.specs.declared.reference.Reading.{Reading}

@@ -1,5 +1,5 @@
 -- What a stretch holds so far, in bytes, and what it has room for.
-use Rattle.std.specs.Prelude.{ℕ, ◌+◌, ◌-◌, Bool, true, false, cond, ◌==◌, nat_le}
+use Rattle.std.specs.Prelude.{ℕ, ◌+◌, ◌-◌, true, false, cond, ◌==◌, nat_le}
 use Rattle.layout.specs.Bytes.{greatest_stretch}
 use Rattle.layout.specs.Sizes.{first_segment, least_segment}
 use Rattle.pool_files.specs.declared.held.Held.{Held}

@@ -1,6 +1,6 @@
 -- A line of a variant file in short: POS, REF and ALT, and the tabs that end the first seven fields; of a line that begins with # all but
 -- that # and tabs.
-use Rattle.std.specs.Prelude.{ℕ, suc, ◌+◌, ◌%◌, ◌^◌, Bool, true, false, cond, not, ◌&&◌, ◌||◌, List, [], ◌∷◌, length, ◌==◌, nat_le, nat_lt, slice_set}
+use Rattle.std.specs.Prelude.{ℕ, ◌+◌, ◌%◌, ◌^◌, Bool, true, false, cond, ◌&&◌, ◌||◌, List, [], ◌∷◌, length, ◌==◌, nat_le, nat_lt, slice_set}
 use Rattle.pool_files.specs.Words.{go_on}
 use Rattle.pool_files.specs.declared.short.Act.{Act}
 use Rattle.pool_files.specs.declared.short.Act.TheVariants.{Skip, Keep, Name, Next, Count, Comment}

@@ -1,5 +1,5 @@
 -- A word compared with a name, byte by byte as it comes.
-use Rattle.std.specs.Prelude.{ℕ, suc, Bool, cond, ◌&&◌, List, [], ◌∷◌, length, ◌==◌, nat_lt, slice_index}
+use Rattle.std.specs.Prelude.{ℕ, suc, cond, List, [], ◌∷◌, length, ◌==◌, nat_lt, slice_index}
 
 -- the word differs from the name
 abbrev pub other : ℕ

@@ -1,5 +1,4 @@
 -- Answers that are told alike are the same answer.
-use Prim.Native.Nat.{ℕ}
 use mathlib.Core.Path.{◌≡◌, refl, sym, ap}
 use Rattle.text.specs.Refusal.{Outcome, refused, told_verdict, told_amount}
 use Rattle.text.specs.declared.refusal.Refusal.{Refusal}

@@ -1,5 +1,4 @@
 -- Answers that are told alike are the same answer.
-use Prim.Native.Nat.{ℕ}
 use mathlib.Core.Path.{◌≡◌, sym, ap}
 use Rattle.text.proofs.Outcomes.{refused-ok, refused-inj, ok-inj}
 use Rattle.vcf.specs.Measures.{Measure, told_measured}

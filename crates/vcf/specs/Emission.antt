@@ -1,7 +1,7 @@
 -- What each line adds to the text.
-use Rattle.std.specs.Prelude.{ℕ, ◌+◌, ◌-◌, ◌<◌, ◌≤◌, ◌≡◌, true, false, cond, List, [], ◌∷◌, ◌++◌, ltb, length, drop}
+use Rattle.std.specs.Prelude.{ℕ, ◌+◌, ◌-◌, ◌<◌, ◌≤◌, ◌≡◌, true, false, cond, List, [], ◌∷◌, ◌++◌, ltb, length}
 use Rattle.text.specs.Text.{Variant, Text}
-use Rattle.vcf.specs.Records.{position, reference, alts, behind, idle, records}
+use Rattle.vcf.specs.Records.{position, reference, alts, behind, idle}
 use Rattle.vcf.specs.Records.{placed}
 use Rattle.vcf.specs.Building.{gap}
 

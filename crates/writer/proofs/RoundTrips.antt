@@ -7,7 +7,7 @@ use native.Mathlib.Omega.{arith}
 use mathlib.Core.Path.{◌≡◌, refl, sym, ap, ap₂, ◌∙◌}
 use mathlib.Core.Bool.{Bool, true, false, not, ◌&&◌}
 use mathlib.Core.List.{List, [], ◌∷◌, ◌++◌, append_assoc, append-nil, map, map-append, flatten}
-use borrow.Author.Tests.{le-leb, eq-eqb, not-true}
+use borrow.Author.Tests.{le-leb, eq-eqb}
 use lib.Dec.{leb, ltb}
 use lib.ListN.{length, get_or, length-append, length-map}
 use lib.Seq.{take-length, take-append_seam, drop-append_seam}

@@ -1,5 +1,5 @@
 -- A text written whole: what a write of its letters, lengths and counts asks of it.
-use Rattle.std.specs.Prelude.{ℕ, suc, Bool, not, ◌&&◌, List, [], ◌∷◌, ◌++◌, leb, ltb, length}
+use Rattle.std.specs.Prelude.{ℕ, suc, Bool, not, ◌&&◌, [], ◌∷◌, ◌++◌, leb, ltb, length}
 use Rattle.text.specs.Letter.{capital, every}
 use Rattle.text.specs.Text.{Segment, Text}
 use Rattle.text.specs.Refusal.{Outcome, ok, demand, after}

@@ -1,4 +1,4 @@
-use Rattle.std.proofs.Common.{◌≡◌, ℕ, ◌+◌, ◌-◌, ◌<◌, false, List, length, drop, sym, ◌∙◌, ap₂, arith, rules}
+use Rattle.std.proofs.Common.{ℕ, ◌+◌, ◌<◌, false, List, length, drop, sym, ◌∙◌, ap₂, arith}
 use Rattle.digest.specs.Structs.{total}
 use Rattle.digest.specs.Updating.{emptied, with_bytes}
 use Rattle.digest.specs.declared.offset.Offset.{Offset}

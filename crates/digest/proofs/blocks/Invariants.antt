@@ -1,10 +1,6 @@
 -- `digest::blocks` meets its contract: each turn passes one block that is not the last one (Updates).
-use Rattle.std.proofs.Common.{◌≡◌, ℕ, ◌+◌, ◌-◌, ◌<◌, false, List, length, drop, sym, ◌∙◌, ap₂, arith, rules}
-use Rattle.digest.specs.Structs.{total}
+use Rattle.std.proofs.Common.{◌≡◌, ◌-◌, ◌<◌, drop}
 use Rattle.digest.specs.Updating.{emptied, with_bytes}
-use Rattle.digest.specs.declared.offset.Offset.{Offset}
-use Rattle.digest.proofs.Offsets.{F-offset}
-use Rattle.digest.proofs.Updates.{turn}
 use Rattle.digest.proofs.blocks.Given as goal
 
 abbrev pub invariant-loop-at : goal.invariant-loop-at

@@ -1,5 +1,5 @@
 -- `digest::digest` meets its contract: a new hash, over the bytes, ended.
-use Rattle.std.proofs.Common.{ap, ◌∙◌, rules}
+use Rattle.std.proofs.Common.{ap, ◌∙◌}
 use Rattle.digest.specs.Updating.{with_bytes, end_of}
 use Rattle.digest.specs.declared.Hashing.{Hashing}
 use Rattle.digest.proofs.Theorems.{whole}

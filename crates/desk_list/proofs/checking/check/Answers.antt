@@ -1,8 +1,5 @@
-use Prim.Native.Nat.{◌-◌}
 use native.Mathlib.Omega.{arith}
-use lib.ListN.{length}
-use borrow.Author.Rules.{rules}
-use Rattle.desk_list.proofs.Checks.{Checking, checking-none, checking-nothing, checking-more, checking-wrong, checking-end}
+use Rattle.desk_list.proofs.Checks.{checking-none, checking-nothing, checking-more, checking-wrong, checking-end}
 use Rattle.desk_list.proofs.Checks.{next-nothing, next_more}
 use Rattle.desk_list.proofs.checking.check.Goals as goal
 

@@ -1,11 +1,8 @@
 -- `desk_list::checking::check` meets its contract. The loop's invariant, `Checking`: the lines so far are right, and have that many
 -- sequences. The measure is the number of bytes left.
 use Prim.Native.Nat.{◌-◌}
-use native.Mathlib.Omega.{arith}
 use lib.ListN.{length}
-use borrow.Author.Rules.{rules}
-use Rattle.desk_list.proofs.Checks.{Checking, checking-none, checking-nothing, checking-more, checking-wrong, checking-end}
-use Rattle.desk_list.proofs.Checks.{next-nothing, next_more}
+use Rattle.desk_list.proofs.Checks.{Checking}
 use Rattle.desk_list.proofs.checking.check.Given as goal
 
 abbrev pub invariant-loop-next : goal.invariant-loop-next

@@ -1,5 +1,4 @@
 -- `desk_list::classes::is_kind` meets its contract, kind by kind.
-use borrow.Author.Rules.{rules}
 use Rattle.desk_list.proofs.Skips.{is-tab, is-printable, low_byte, high_byte}
 use Rattle.desk_list.proofs.Skips.{is-blank, no-blank, is_digit, low_digit, high_digit, no_word, is_word, in-line}
 use Rattle.desk_list.proofs.classes.is_kind.Goals as goal

@@ -1,10 +1,7 @@
-use Prim.Native.Nat.{◌-◌}
 use native.Mathlib.Omega.{arith}
 use mathlib.Core.Path.{sym, ◌∙◌}
-use lib.ListN.{length}
-use borrow.Author.Rules.{rules}
 use borrow.Author.Tests.{not-true, not-false}
-use Rattle.desk_list.proofs.Skips.{Skipping, skipping-none, skipping-more, skipping-stop, skipping-end}
+use Rattle.desk_list.proofs.Skips.{skipping-none, skipping-more, skipping-stop, skipping-end}
 use Rattle.desk_list.proofs.classes.past.Goals as goal
 
 pub loop-i-init : goal.loop-i-init

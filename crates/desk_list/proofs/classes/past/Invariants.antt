@@ -1,12 +1,8 @@
 -- `desk_list::classes::past` meets its contract. The loop's invariant, `Skipping`: the bytes before i are of the kind. The measure is the
 -- number of bytes left.
 use Prim.Native.Nat.{◌-◌}
-use native.Mathlib.Omega.{arith}
-use mathlib.Core.Path.{sym, ◌∙◌}
 use lib.ListN.{length}
-use borrow.Author.Rules.{rules}
-use borrow.Author.Tests.{not-true, not-false}
-use Rattle.desk_list.proofs.Skips.{Skipping, skipping-none, skipping-more, skipping-stop, skipping-end}
+use Rattle.desk_list.proofs.Skips.{Skipping}
 use Rattle.desk_list.proofs.classes.past.Given as goal
 
 abbrev pub invariant-loop-i : goal.invariant-loop-i

@@ -1,8 +1,5 @@
-use Prim.Native.Nat.{◌-◌}
 use native.Mathlib.Omega.{arith}
-use lib.ListN.{length}
-use borrow.Author.Rules.{rules}
-use Rattle.desk_list.proofs.Values.{Telling, telling-none, telling-large, telling-more, telling-end}
+use Rattle.desk_list.proofs.Values.{telling-none, telling-large, telling-more, telling-end}
 use Rattle.desk_list.proofs.decimal.told.Goals as goal
 
 pub loop-i-init : goal.loop-i-init

@@ -1,10 +1,8 @@
 -- `desk_list::decimal::told` meets its contract. The loop's invariant, `Telling`: the first i digits tell n. The measure is the number of
 -- digits left.
 use Prim.Native.Nat.{◌-◌}
-use native.Mathlib.Omega.{arith}
 use lib.ListN.{length}
-use borrow.Author.Rules.{rules}
-use Rattle.desk_list.proofs.Values.{Telling, telling-none, telling-large, telling-more, telling-end}
+use Rattle.desk_list.proofs.Values.{Telling}
 use Rattle.desk_list.proofs.decimal.told.Given as goal
 
 abbrev pub invariant-loop-i : goal.invariant-loop-i

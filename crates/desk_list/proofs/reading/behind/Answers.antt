@@ -1,6 +1,5 @@
 -- `desk_list::reading::behind` meets its contract: after a line's end, or at the end of the list.
 use Rattle.desk_list.proofs.Entries.{behind-end, behind-none}
-use borrow.Author.Rules.{rules}
 use Rattle.desk_list.proofs.reading.behind.Goals as goal
 
 pub returns-then-stop-list : goal.returns-then-stop-list

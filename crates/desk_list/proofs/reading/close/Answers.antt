@@ -1,6 +1,5 @@
 -- `desk_list::reading::close` meets its contract, test by test.
 use Rattle.desk_list.proofs.Entries.{close-last, close-empty, close-return, close-plain}
-use borrow.Author.Rules.{rules}
 use Rattle.desk_list.proofs.reading.close.Goals as goal
 
 pub returns-then-list-stop : goal.returns-then-list-stop

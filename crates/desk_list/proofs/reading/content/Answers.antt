@@ -1,5 +1,4 @@
 -- `desk_list::reading::content` meets its contract: the bytes first, then the words.
-use borrow.Author.Rules.{rules}
 use Rattle.desk_list.proofs.Entries.{entry-byte, entry-words}
 use Rattle.desk_list.proofs.reading.content.Goals as goal
 

@@ -1,5 +1,4 @@
 -- `desk_list::reading::ends_at` meets its contract: the line's end, or the byte of a comment.
-use borrow.Author.Rules.{rules}
 use Rattle.desk_list.proofs.Entries.{ends-behind, ends-here}
 use Rattle.desk_list.proofs.reading.ends_at.Goals as goal
 

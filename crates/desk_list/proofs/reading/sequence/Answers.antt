@@ -2,7 +2,6 @@
 use native.Mathlib.Omega.{arith}
 use borrow.Author.Tests.{not-true, not-false}
 use Rattle.desk_list.proofs.Entries.{sequence-not, sequence-more, sequence-is}
-use borrow.Author.Rules.{rules}
 use Rattle.desk_list.proofs.reading.sequence.Goals as goal
 
 pub returns-in-Refused : goal.returns-in-Refused

@@ -1,6 +1,5 @@
 -- `desk_list::reading::words` meets its contract, test by test.
 use Rattle.desk_list.proofs.Entries.{says_nothing, says-no-label, says-large, says-joined, says-no-sequence, says-sequence}
-use borrow.Author.Rules.{rules}
 use Rattle.desk_list.proofs.reading.words.Goals as goal
 
 pub returns-then-ends_at : goal.returns-then-ends_at

@@ -1,5 +1,4 @@
 -- `desk_night::ending::found` meets its contract.
-use borrow.Author.Rules.{rules}
 use Rattle.desk_night.proofs.Nights.{found-held, found-clear}
 use Rattle.desk_night.proofs.ending.found.Goals as goal
 

@@ -1,5 +1,4 @@
 -- `desk_night::ending::is_left` meets its contract.
-use borrow.Author.Rules.{rules}
 use Rattle.desk_night.proofs.Nights.{left_is}
 use Rattle.desk_night.proofs.ending.is_left.Goals as goal
 

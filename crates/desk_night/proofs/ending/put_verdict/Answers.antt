@@ -1,5 +1,4 @@
 -- `desk_night::ending::put_verdict` meets its contract: clear for one verdict only.
-use borrow.Author.Rules.{rules}
 use Rattle.desk_verdict.proofs.Saying.{put-fits}
 use Rattle.desk_night.proofs.Nights.{verdict-put}
 use Rattle.desk_night.proofs.ending.put_verdict.Goals as goal

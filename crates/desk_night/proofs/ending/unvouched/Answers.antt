@@ -1,6 +1,5 @@
 -- `desk_night::ending::unvouched` meets its contract.
 use borrow.Author.Tests.{not-true, not-false}
-use borrow.Author.Rules.{rules}
 use Rattle.desk_night.proofs.Nights.{unvouched-files, unvouched-left, unvouched-none, unvouched-counts}
 use Rattle.desk_night.proofs.ending.unvouched.Goals as goal
 

@@ -1,5 +1,4 @@
 -- `desk_night::moving::moved_by` meets its contract.
-use borrow.Author.Rules.{rules}
 use Rattle.desk_night.proofs.Moves.{moved-first, moved_all}
 use Rattle.desk_night.proofs.moving.moved_by.Goals as goal
 

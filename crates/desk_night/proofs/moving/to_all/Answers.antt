@@ -1,6 +1,5 @@
 -- `desk_night::moving::to_all` meets its contract: the buffer has room for the marks of any stretch.
 use Prim.Native.Nat.{ℕ}
-use borrow.Author.Rules.{rules}
 use lib.ListN.{length-replicate}
 use Rattle.desk_night.proofs.Moves.{passed_to_lem, passed-not}
 use Rattle.desk_night.proofs.moving.to_all.Goals as goal

@@ -1,5 +1,4 @@
 -- `desk_night::moving::to_first` meets its contract.
-use borrow.Author.Rules.{rules}
 use Rattle.desk_night.proofs.Moves.{halted-ends, halted-goes, halted-not}
 use Rattle.desk_night.proofs.moving.to_first.Goals as goal
 

@@ -1,5 +1,4 @@
 -- `desk_night::night::begun_with` meets its contract.
-use borrow.Author.Rules.{rules}
 use Rattle.desk_night.proofs.Nights.{begun-made}
 use Rattle.desk_night.proofs.night.begun_with.Goals as goal
 

@@ -1,5 +1,4 @@
 -- `desk_night::night::taken` meets its contract.
-use borrow.Author.Rules.{rules}
 use Rattle.desk_night.specs.Night.{segments_of}
 use Rattle.desk_night.proofs.Nights.{takes}
 use Rattle.desk_night.proofs.night.taken.Goals as goal

@@ -1,5 +1,4 @@
 -- `desk_night::standings::all_end` meets its contract, by the number of sequences that go on.
-use borrow.Author.Rules.{rules}
 use Rattle.desk_night.proofs.Asks.{all-counted}
 use Rattle.desk_night.proofs.standings.all_end.Goals as goal
 

@@ -1,7 +1,6 @@
-use Prim.Native.Nat.{◌-◌}
 use native.Mathlib.Omega.{arith}
 use borrow.Author.Rules.{rules}
-use Rattle.desk_night.proofs.Asks.{Counting, counting-none, counting-on, counting-not, counting-all}
+use Rattle.desk_night.proofs.Asks.{counting-none, counting-on, counting-not, counting-all}
 use Rattle.desk_night.proofs.standings.going.Goals as goal
 use Rattle.desk_night.proofs.standings.going.Goals.{then-standing-eq0, else-standing-eq0}
 

@@ -1,10 +1,7 @@
 -- `desk_night::standings::going` meets its contract. The loop's invariant, `Counting`: the first k standings are counted. The measure is
 -- the number of those that are left.
 use Prim.Native.Nat.{◌-◌}
-use native.Mathlib.Omega.{arith}
-use mathlib.Core.Logic.{⊎_elim}
-use borrow.Author.Rules.{rules}
-use Rattle.desk_night.proofs.Asks.{Counting, counting-none, counting-on, counting-not, counting-all}
+use Rattle.desk_night.proofs.Asks.{Counting}
 use Rattle.desk_night.proofs.standings.going.Given as goal
 
 abbrev pub invariant-loop-k : goal.invariant-loop-k

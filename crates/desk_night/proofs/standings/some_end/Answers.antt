@@ -1,5 +1,4 @@
 -- `desk_night::standings::some_end` meets its contract, by the number of sequences that go on.
-use borrow.Author.Rules.{rules}
 use Rattle.desk_night.proofs.Asks.{some-counted}
 use Rattle.desk_night.proofs.standings.some_end.Goals as goal
 

@@ -1,10 +1,7 @@
-use Prim.Native.Nat.{◌-◌}
 use native.Mathlib.Omega.{arith}
-use lib.ListN.{length}
-use borrow.Author.Rules.{rules}
 use Rattle.desk_list.proofs.Checks.{next-nothing, next_more, next-wrong}
 use Rattle.desk_night.specs.Sweep.{swept}
-use Rattle.desk_night.proofs.Sweeps.{Sweeping, sweeping-none, sweeping-full}
+use Rattle.desk_night.proofs.Sweeps.{sweeping-none, sweeping-full}
 use Rattle.desk_night.proofs.Sweeps.{sweeping-nothing, sweeping-wrong, sweeping-more, sweeping-end}
 use Rattle.desk_night.proofs.sweeping.sweep.Goals as goal
 

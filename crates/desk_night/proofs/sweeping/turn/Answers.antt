@@ -1,6 +1,5 @@
 -- `desk_night::sweeping::turn` meets its contract.
 use mathlib.Core.Path.{refl}
-use borrow.Author.Rules.{rules}
 use Rattle.desk_night.proofs.Sweeps.{turned-to, turned-not}
 use Rattle.desk_night.proofs.sweeping.turn.Goals as goal
 

@@ -1,5 +1,4 @@
 -- `desk_night::trouble::earlier` meets its contract.
-use borrow.Author.Rules.{rules}
 use Rattle.desk_night.proofs.Troubles.{earlier-other, earlier-one}
 use Rattle.desk_night.proofs.trouble.earlier.Goals as goal
 

@@ -4,7 +4,6 @@ use mathlib.Core.Bool.{false}
 use Rattle.desk_night.specs.Trouble.{calm}
 use Rattle.desk_night.specs.declared.trouble.Trouble.{Trouble}
 use Rattle.desk_night.proofs.Troubles.{none-calm}
-use borrow.Author.Rules.{rules}
 use Rattle.desk_night.proofs.trouble.is_none.Goals as goal
 
 -- what is a trouble

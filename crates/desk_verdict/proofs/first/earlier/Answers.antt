@@ -1,10 +1,9 @@
 -- `desk_verdict::first::earlier` meets its contract: case by case, what the two strands say.
 use Prim.Native.Nat.{ℕ}
-use mathlib.Core.Path.{◌≡◌, sym, ap, ap₂, ◌∙◌}
+use mathlib.Core.Path.{sym, ap, ap₂, ◌∙◌}
 use Rattle.text.specs.Refusal.{ok}
 use Rattle.search.specs.First.{told_first}
 use Rattle.desk_verdict.specs.First.{ends, earlier}
-use borrow.Author.Rules.{rules}
 use Rattle.desk_verdict.proofs.first.earlier.Goals as goal
 
 pub returns-in-Ends-other : goal.returns-in-Ends-other

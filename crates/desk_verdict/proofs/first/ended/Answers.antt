@@ -1,6 +1,5 @@
 -- `desk_verdict::first::ended` meets its contract.
 use Rattle.desk_verdict.proofs.Firsts.{ended_is}
-use borrow.Author.Rules.{rules}
 use Rattle.desk_verdict.proofs.first.ended.Goals as goal
 
 pub returns : goal.returns

@@ -1,6 +1,5 @@
 -- `desk_verdict::first::gone` meets its contract.
 use Rattle.desk_verdict.proofs.Firsts.{gone-is}
-use borrow.Author.Rules.{rules}
 use Rattle.desk_verdict.proofs.first.gone.Goals as goal
 
 pub returns : goal.returns

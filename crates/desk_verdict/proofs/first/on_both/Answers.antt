@@ -1,7 +1,6 @@
 -- `desk_verdict::first::on_both` meets its contract.
-use mathlib.Core.Path.{◌≡◌, ap₂, ◌∙◌}
+use mathlib.Core.Path.{ap₂, ◌∙◌}
 use Rattle.desk_verdict.specs.First.{earlier, on_both}
-use borrow.Author.Rules.{rules}
 use Rattle.desk_verdict.proofs.first.on_both.Goals as goal
 
 pub returns : goal.returns

@@ -1,6 +1,5 @@
 -- `desk_verdict::first::pass_first` meets its contract: what both strands say of the stretch, and the count that it states.
 use Rattle.desk_verdict.proofs.Firsts.{halting-stays, halting-not, halting-ends, halting-goes}
-use borrow.Author.Rules.{rules}
 use Rattle.desk_verdict.proofs.first.pass_first.Goals as goal
 
 pub returns-then-standing-ne0 : goal.returns-then-standing-ne0

@@ -1,7 +1,4 @@
-use Prim.Native.Nat.{◌-◌}
-use lib.ListN.{length}
-use borrow.Author.Rules.{rules}
-use Rattle.desk_verdict.proofs.NextMarked.{Passing, passing-none, passing-more, passing-marked, passing-end}
+use Rattle.desk_verdict.proofs.NextMarked.{passing-none, passing-more, passing-marked, passing-end}
 use Rattle.desk_verdict.proofs.marked.next_marked.Goals as goal
 
 pub loop-j-init : goal.loop-j-init

@@ -2,8 +2,7 @@
 -- is the number of marks left.
 use Prim.Native.Nat.{◌-◌}
 use lib.ListN.{length}
-use borrow.Author.Rules.{rules}
-use Rattle.desk_verdict.proofs.NextMarked.{Passing, passing-none, passing-more, passing-marked, passing-end}
+use Rattle.desk_verdict.proofs.NextMarked.{Passing}
 use Rattle.desk_verdict.proofs.marked.next_marked.Given as goal
 
 abbrev pub invariant-loop-j : goal.invariant-loop-j

@@ -1,5 +1,4 @@
 -- `desk_verdict::standing::pass` meets its contract: a refusal is that of the search, and else the sums are what it tells.
-use borrow.Author.Rules.{rules}
 use Rattle.desk_verdict.proofs.Standings.{passes-not, passes-to}
 use Rattle.desk_verdict.proofs.standing.pass.Goals as goal
 

@@ -1,5 +1,4 @@
 -- `desk_verdict::sum::plus` meets its contract: the sum, or the greatest number where it is over that.
-use native.Mathlib.Omega.{arith}
 use Rattle.desk_verdict.specs.Standing.{plus}
 use borrow.Author.Rules.{rules}
 use Rattle.desk_verdict.proofs.sum.plus.Goals as goal

@@ -1,5 +1,5 @@
 -- `digest::Hashing::end` meets its contract: the block is the last one, and F reads the offset modulo 2 ^ 128.
-use Rattle.std.proofs.Common.{ℕ, ◌+◌, true, List, ap, ◌∙◌, rules}
+use Rattle.std.proofs.Common.{ℕ, ◌+◌, true, List, ap, ◌∙◌}
 use Rattle.digest.specs.Words.{block_at, first32}
 use Rattle.digest.specs.Structs.{total}
 use Rattle.digest.specs.Updating.{end_of}

@@ -1,4 +1,4 @@
-use Rattle.std.proofs.Common.{◌≡◌, ℕ, ◌+◌, ◌-◌, ◌<◌, ◌≤◌, List, [], length, drop, sym, ap, ◌∙◌, arith, rules}
+use Rattle.std.proofs.Common.{◌≡◌, ℕ, ◌+◌, ◌<◌, List, [], length, drop, sym, ap, ◌∙◌, arith}
 use mathlib.Core.List.{foldl}
 use lib.Seq.{drop-length}
 use Rattle.digest.specs.Updating.{put}

@@ -1,9 +1,8 @@
 -- `digest::Hashing::fill` meets its contract: at each turn the bytes left are put after those in the block (Updates).
-use Rattle.std.proofs.Common.{◌≡◌, ℕ, ◌+◌, ◌-◌, ◌<◌, ◌≤◌, List, [], length, drop, sym, ap, ◌∙◌, arith, rules}
+use Rattle.std.proofs.Common.{◌≡◌, ◌+◌, ◌-◌, ◌≤◌, drop}
 use mathlib.Core.List.{foldl}
-use lib.Seq.{drop-length}
 use Rattle.digest.specs.Updating.{put}
-use Rattle.digest.proofs.Updates.{held, put-none, put-more}
+use Rattle.digest.proofs.Updates.{held}
 use Rattle.digest.proofs.Hashing.fill.Given as goal
 
 abbrev pub invariant-loop-j : goal.invariant-loop-j

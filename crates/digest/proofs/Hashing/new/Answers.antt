@@ -2,7 +2,6 @@
 use Rattle.digest.specs.Blake2b.{initial}
 use Rattle.digest.specs.Structs.{offset}
 use Rattle.digest.specs.Updating.{begun}
-use Rattle.std.proofs.Common.{rules}
 use Rattle.digest.proofs.Hashing.new.Goals as goal
 
 pub returns : goal.returns

@@ -1,5 +1,5 @@
 -- `digest::Hashing::over` meets its contract: bytes for which the block has room, and more (Updates).
-use Rattle.std.proofs.Common.{◌-◌, ◌<◌, ◌≤◌, length, sym, ◌∙◌, arith, length-take, rules}
+use Rattle.std.proofs.Common.{◌-◌, ◌<◌, ◌≤◌, length, sym, ◌∙◌, arith, length-take}
 use Rattle.digest.proofs.Updates.{fills, last_fits, long}
 use Rattle.digest.proofs.Hashing.over.Goals as goal
 

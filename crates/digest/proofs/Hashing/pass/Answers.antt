@@ -1,5 +1,5 @@
 -- `digest::Hashing::pass` meets its contract: F reads the offset modulo 2 ^ 128.
-use Rattle.std.proofs.Common.{ℕ, ◌+◌, false, List, ap, ◌∙◌, ap₂, rules}
+use Rattle.std.proofs.Common.{ℕ, ◌+◌, false, List, ap, ◌∙◌, ap₂}
 use Rattle.digest.specs.Words.{block_at}
 use Rattle.digest.specs.Structs.{total}
 use Rattle.digest.specs.Updating.{emptied, passed}

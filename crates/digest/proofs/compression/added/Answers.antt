@@ -1,5 +1,5 @@
 -- `digest::compression::added` meets its contract: what `sum` ensures, put at place a.
-use Rattle.std.proofs.Common.{set, ap, rules}
+use Rattle.std.proofs.Common.{set, ap}
 use Rattle.digest.specs.Compression.{add}
 use Rattle.digest.proofs.compression.added.Goals as goal
 

@@ -1,5 +1,5 @@
 -- `digest::compression::compress` meets its contract: the twelve rounds one after another.
-use Rattle.std.proofs.Common.{ℕ, List, ap, ◌∙◌, rules}
+use Rattle.std.proofs.Common.{ℕ, List, ap, ◌∙◌}
 use Rattle.digest.specs.Compression.{round, scheduled, rounds, halves_xored, F}
 use Rattle.digest.specs.Structs.{listed}
 use Rattle.digest.proofs.compression.compress.Goals as goal

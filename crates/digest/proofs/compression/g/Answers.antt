@@ -1,5 +1,5 @@
 -- `digest::compression::g` meets its contract: its eight lines one after another.
-use Rattle.std.proofs.Common.{ap, ◌∙◌, rules}
+use Rattle.std.proofs.Common.{ap, ◌∙◌}
 use Rattle.digest.specs.Compression.{add, mix, G}
 use Rattle.digest.proofs.compression.g.Goals as goal
 

@@ -1,5 +1,5 @@
 -- `digest::compression::mixed` meets its contract: what `turned` ensures, put at place a.
-use Rattle.std.proofs.Common.{set, ap, rules}
+use Rattle.std.proofs.Common.{set, ap}
 use Rattle.digest.specs.Compression.{mix}
 use Rattle.digest.proofs.compression.mixed.Goals as goal
 

@@ -1,5 +1,5 @@
 -- `digest::compression::rotate` meets its contract: the shifts are those of the definition.
-use Rattle.std.proofs.Common.{refl, rules}
+use Rattle.std.proofs.Common.{refl}
 use Rattle.digest.specs.Compression.{rotated}
 use Rattle.digest.proofs.compression.rotate.Goals as goal
 

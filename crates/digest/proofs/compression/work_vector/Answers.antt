@@ -1,5 +1,5 @@
 -- `digest::compression::work_vector` meets its contract: the offset in two words.
-use Rattle.std.proofs.Common.{◌^◌, ◌<◌, arith, rules}
+use Rattle.std.proofs.Common.{◌^◌, ◌<◌, arith}
 use Rattle.digest.proofs.Offsets.{vector-of}
 use Rattle.digest.proofs.compression.work_vector.Goals as goal
 

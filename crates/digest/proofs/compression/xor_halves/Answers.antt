@@ -1,5 +1,5 @@
 -- `digest::compression::xor_halves` meets its contract: the eight words are those of the definition.
-use Rattle.std.proofs.Common.{refl, rules}
+use Rattle.std.proofs.Common.{refl}
 use Rattle.digest.specs.Compression.{halves_xored}
 use Rattle.digest.proofs.compression.xor_halves.Goals as goal
 

@@ -2,7 +2,6 @@
 use Rattle.digest.specs.Compression.{scheduled}
 use Rattle.digest.specs.Structs.{listed}
 use Rattle.digest.proofs.Round.{round-of}
-use Rattle.std.proofs.Common.{rules}
 use Rattle.digest.proofs.rounds.round_11.Goals as goal
 
 pub returns : goal.returns

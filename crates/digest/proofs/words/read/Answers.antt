@@ -1,5 +1,5 @@
 -- `digest::words::read` meets its contract: word by word.
-use Rattle.std.proofs.Common.{refl, rules}
+use Rattle.std.proofs.Common.{refl}
 use Rattle.digest.specs.Words.{block_at}
 use Rattle.digest.proofs.Bytes.{cons}
 use Rattle.digest.proofs.words.read.Goals as goal

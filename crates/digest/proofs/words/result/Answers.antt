@@ -1,5 +1,5 @@
 -- `digest::words::result` meets its contract: the bytes of four words, read one by one.
-use Rattle.std.proofs.Common.{◌≡◌, ℕ, List, ◌++◌, ◌∙◌, ap₂, rules}
+use Rattle.std.proofs.Common.{◌≡◌, ℕ, List, ◌++◌, ◌∙◌, ap₂}
 use Rattle.digest.specs.Words.{first32}
 use Rattle.digest.proofs.words.result.Goals as goal
 

@@ -1,6 +1,5 @@
 -- `digest::words::word_at` meets its contract: two halves.
 use Rattle.digest.proofs.Bytes.{halves}
-use Rattle.std.proofs.Common.{rules}
 use Rattle.digest.proofs.words.word_at.Goals as goal
 
 pub returns : goal.returns

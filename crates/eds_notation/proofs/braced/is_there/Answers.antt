@@ -1,5 +1,4 @@
 -- `eds_notation::braced::is_there` meets its contract.
-use borrow.Author.Rules.{rules}
 use Rattle.eds_notation.proofs.Shows.{there-as}
 use Rattle.eds_notation.proofs.braced.is_there.Goals as goal
 

@@ -1,9 +1,7 @@
-use borrow.Author.Rules.{rules}
-use Prim.Native.Nat.{◌-◌}
 use mathlib.Core.Path.{sym, ap, ◌∙◌}
 use Rattle.stretch.specs.Answers.{told_checked}
 use Rattle.stretch.proofs.ReadsAtPlace.{check-accepted}
-use Rattle.eds_notation.proofs.Shows.{Bracing, bracing-none, bracing-more, bracing-end, bracing-length, refused-braces}
+use Rattle.eds_notation.proofs.Shows.{bracing-none, bracing-more, bracing-end, bracing-length, refused-braces}
 use Rattle.eds_notation.proofs.braced.put_braces.Goals as goal
 
 pub loop-segment-init : goal.loop-segment-init

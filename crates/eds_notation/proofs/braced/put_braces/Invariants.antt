@@ -1,12 +1,8 @@
 -- `eds_notation::braced::put_braces` meets its contract.
 -- The loop's invariant, `Bracing`: the segments before this one are put. The measure is the
 -- number of segments left.
-use borrow.Author.Rules.{rules}
 use Prim.Native.Nat.{◌-◌}
-use mathlib.Core.Path.{sym, ap, ◌∙◌}
-use Rattle.stretch.specs.Answers.{told_checked}
-use Rattle.stretch.proofs.ReadsAtPlace.{check-accepted}
-use Rattle.eds_notation.proofs.Shows.{Bracing, bracing-none, bracing-more, bracing-end, bracing-length, refused-braces}
+use Rattle.eds_notation.proofs.Shows.{Bracing}
 use Rattle.eds_notation.proofs.braced.put_braces.Given as goal
 
 abbrev pub invariant-loop-segment : goal.invariant-loop-segment

@@ -1,8 +1,6 @@
-use borrow.Author.Rules.{rules}
-use Prim.Native.Nat.{◌-◌}
 use native.Mathlib.Omega.{arith}
 use borrow.Author.Tests.{not-true, not-false}
-use Rattle.eds_notation.proofs.Shows.{Showing, showing-none, showing-over, showing-last, showing-length, showing-more}
+use Rattle.eds_notation.proofs.Shows.{showing-none, showing-over, showing-last, showing-length, showing-more}
 use Rattle.eds_notation.proofs.braced.put_segment.Goals as goal
 
 pub loop-variant-init : goal.loop-variant-init

@@ -1,10 +1,7 @@
 -- `eds_notation::braced::put_segment` meets its contract. The loop's invariant, `Showing`: the variants before this one are put. The measure is
 -- the number of variants that a segment may still have.
-use borrow.Author.Rules.{rules}
 use Prim.Native.Nat.{◌-◌}
-use native.Mathlib.Omega.{arith}
-use borrow.Author.Tests.{not-true, not-false}
-use Rattle.eds_notation.proofs.Shows.{Showing, showing-none, showing-over, showing-last, showing-length, showing-more}
+use Rattle.eds_notation.proofs.Shows.{Showing}
 use Rattle.eds_notation.proofs.braced.put_segment.Given as goal
 
 abbrev pub invariant-loop-variant : goal.invariant-loop-variant

@@ -1,6 +1,4 @@
-use borrow.Author.Rules.{rules}
-use Prim.Native.Nat.{◌-◌}
-use Rattle.eds_notation.proofs.Cuts.{Moving, moving-none, moving-more, moving-end}
+use Rattle.eds_notation.proofs.Cuts.{moving-none, moving-more, moving-end}
 use Rattle.eds_notation.proofs.cutting.move_lengths.Goals as goal
 
 pub loop-i-init : goal.loop-i-init

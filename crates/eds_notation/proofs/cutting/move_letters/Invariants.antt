@@ -1,8 +1,7 @@
 -- `eds_notation::cutting::move_letters` meets its contract.
 -- The loop's invariant, `Moving`: i members have been moved. The measure is the number of those left.
-use borrow.Author.Rules.{rules}
 use Prim.Native.Nat.{◌-◌}
-use Rattle.eds_notation.proofs.Cuts.{Moving, moving-none, moving-more, moving-end}
+use Rattle.eds_notation.proofs.Cuts.{Moving}
 use Rattle.eds_notation.proofs.cutting.move_letters.Given as goal
 
 abbrev pub invariant-loop-i : goal.invariant-loop-i

@@ -1,5 +1,4 @@
 -- `eds_notation::filling::finish` meets its contract.
-use borrow.Author.Rules.{rules}
 use Rattle.eds_notation.proofs.Fillings.{acted-as}
 use Rattle.eds_notation.proofs.filling.finish.Goals as goal
 

@@ -1,7 +1,6 @@
 -- `eds_notation::filling::fits` meets its contract.
 use Prim.Native.Nat.{◌+◌}
 use mathlib.Core.Path.{◌≡◌}
-use borrow.Author.Rules.{rules}
 use native.Mathlib.Omega.{arith}
 use Rattle.layout.specs.Sizes.{text_bytes}
 use Rattle.eds_notation.proofs.Fillings.{fits_not, fits_last}

@@ -1,5 +1,4 @@
 -- `eds_notation::filling::put` meets its contract.
-use borrow.Author.Rules.{rules}
 use Rattle.eds_notation.proofs.Fillings.{pass-acted, letter-acted, variant-acted, segment-acted, wrong-acted}
 use Rattle.eds_notation.proofs.filling.put.Goals as goal
 

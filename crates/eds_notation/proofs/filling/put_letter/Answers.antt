@@ -1,5 +1,4 @@
 -- `eds_notation::filling::put_letter` meets its contract.
-use borrow.Author.Rules.{rules}
 use mathlib.Core.Path.{sym, ◌∙◌}
 use borrow.Author.Tests.{not-true, not-false}
 use Rattle.eds_notation.proofs.Fillings.{full-leaves, done-leaves, letter-far, letter-full, letter-done}

@@ -1,5 +1,4 @@
 -- `eds_notation::filling::put_segment` meets its contract.
-use borrow.Author.Rules.{rules}
 use native.Mathlib.Omega.{arith}
 use mathlib.Core.Path.{◌∙◌}
 use Rattle.eds_notation.proofs.Fillings.{full-leaves, full-stays, done-leaves, wrong-leaves, left_as, left-done}

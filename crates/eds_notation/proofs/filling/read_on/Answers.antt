@@ -1,9 +1,5 @@
-use borrow.Author.Rules.{rules}
-use Prim.Native.Nat.{◌-◌}
 use mathlib.Core.Path.{◌∙◌}
-use lib.ListN.{length}
-use Rattle.eds_notation.specs.Filling.{buffers}
-use Rattle.eds_notation.proofs.Fillings.{Reaching, reach-none, reach-more, reach-full, reach-wrong, reach-all}
+use Rattle.eds_notation.proofs.Fillings.{reach-none, reach-more, reach-full, reach-wrong, reach-all}
 use Rattle.eds_notation.proofs.filling.read_on.Goals as goal
 
 pub loop-at-init : goal.loop-at-init

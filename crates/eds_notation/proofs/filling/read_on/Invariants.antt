@@ -1,12 +1,10 @@
 -- `eds_notation::filling::read_on` meets its contract.
 -- The loop's invariant, `Reaching`: the rest of the piece comes to what the whole comes to. The measure
 -- is the number of bytes left.
-use borrow.Author.Rules.{rules}
 use Prim.Native.Nat.{◌-◌}
-use mathlib.Core.Path.{◌∙◌}
 use lib.ListN.{length}
 use Rattle.eds_notation.specs.Filling.{buffers}
-use Rattle.eds_notation.proofs.Fillings.{Reaching, reach-none, reach-more, reach-full, reach-wrong, reach-all}
+use Rattle.eds_notation.proofs.Fillings.{Reaching}
 use Rattle.eds_notation.proofs.filling.read_on.Given as goal
 
 abbrev pub invariant-loop-at : goal.invariant-loop-at

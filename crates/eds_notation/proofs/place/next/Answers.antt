@@ -1,5 +1,4 @@
 -- `eds_notation::place::next` meets its contract.
-use borrow.Author.Rules.{rules}
 use native.Mathlib.Omega.{arith}
 use Rattle.eds_notation.specs.Places.{next}
 use Rattle.eds_notation.proofs.place.next.Goals as goal

@@ -1,7 +1,4 @@
-use borrow.Author.Rules.{rules}
-use Prim.Native.Nat.{◌-◌}
-use lib.ListN.{length}
-use Rattle.eds_notation.proofs.Repeats.{Comparing, comparing-none, comparing-same, comparing-more, comparing-end}
+use Rattle.eds_notation.proofs.Repeats.{comparing-none, comparing-same, comparing-more, comparing-end}
 use Rattle.eds_notation.proofs.repetition.stands.Goals as goal
 
 pub loop-i-init : goal.loop-i-init

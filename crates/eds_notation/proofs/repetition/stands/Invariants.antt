@@ -1,9 +1,8 @@
 -- `eds_notation::repetition::stands` meets its contract. The loop's invariant, `Comparing`: the variant is equal to none of the first i, and is
 -- compared on from there. The measure is the number of lengths left.
-use borrow.Author.Rules.{rules}
 use Prim.Native.Nat.{◌-◌}
 use lib.ListN.{length}
-use Rattle.eds_notation.proofs.Repeats.{Comparing, comparing-none, comparing-same, comparing-more, comparing-end}
+use Rattle.eds_notation.proofs.Repeats.{Comparing}
 use Rattle.eds_notation.proofs.repetition.stands.Given as goal
 
 abbrev pub invariant-loop-i : goal.invariant-loop-i

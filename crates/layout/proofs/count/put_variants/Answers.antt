@@ -1,5 +1,5 @@
 -- `layout::count::put_variants` meets its contract: a number set is one written over the buffer, where it has room.
-use Rattle.std.proofs.Common.{◌+◌, ◌<◌, ◌≤◌, length, sym, ◌∙◌, arith, rules}
+use Rattle.std.proofs.Common.{◌+◌, ◌<◌, ◌≤◌, length, sym, ◌∙◌, arith}
 use borrow.Author.Tests.{lt-leb}
 use Rattle.layout.specs.Sizes.{count_bytes}
 use Rattle.layout.proofs.Overs.{over-set, put-over, put-short}

@@ -1,5 +1,5 @@
 -- `layout::number::pair` meets its contract: the two bytes are those of the definition.
-use Rattle.std.proofs.Common.{arith, rules}
+use Rattle.std.proofs.Common.{arith}
 use Rattle.layout.specs.Bytes.{word}
 use Rattle.layout.proofs.number.pair.Goals as goal
 

@@ -1,5 +1,5 @@
 -- `layout::number::put_word` meets its contract: two numbers set one after another are written over the buffer, where they have room.
-use Rattle.std.proofs.Common.{◌+◌, ◌≤◌, length, sym, ◌∙◌, arith, length-set, rules, leb-true}
+use Rattle.std.proofs.Common.{◌+◌, ◌≤◌, length, sym, ◌∙◌, arith, length-set, leb-true}
 use borrow.Author.Tests.{not-true, not-false}
 use Rattle.layout.specs.Bytes.{word_bytes}
 use Rattle.layout.proofs.Overs.{over-two, put-over, put-short}

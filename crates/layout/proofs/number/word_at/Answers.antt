@@ -1,5 +1,5 @@
 -- `layout::number::word_at` meets its contract: `pair` where the two bytes are there.
-use Rattle.std.proofs.Common.{◌+◌, ◌≤◌, length, sym, ◌∙◌, arith, rules, leb-true}
+use Rattle.std.proofs.Common.{◌+◌, ◌≤◌, length, sym, ◌∙◌, arith, leb-true}
 use borrow.Author.Tests.{not-true, not-false}
 use Rattle.layout.proofs.Stands.{word-there, word_none}
 use Rattle.layout.proofs.number.word_at.Goals as goal

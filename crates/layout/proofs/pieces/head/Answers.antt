@@ -1,6 +1,6 @@
 -- `layout::pieces::head` meets its contract: each test compares the end with the place after the letters, or with the least that it
 -- can be.
-use Rattle.std.proofs.Common.{sym, arith, rules}
+use Rattle.std.proofs.Common.{sym, arith}
 use Rattle.layout.proofs.Heads.{head-cut, head-found}
 use Rattle.layout.proofs.pieces.head.Goals as goal
 

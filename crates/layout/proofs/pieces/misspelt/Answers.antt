@@ -1,5 +1,5 @@
 -- `layout::pieces::misspelt` meets its contract, from what `head` and `first_wrong` ensure.
-use Rattle.std.proofs.Common.{sym, ap, ◌∙◌, arith, rules}
+use Rattle.std.proofs.Common.{sym, ap, ◌∙◌, arith}
 use Rattle.layout.specs.Pieces.{told_part}
 use Rattle.layout.proofs.Heads.{Whole, head-is}
 use Rattle.layout.proofs.Verdicts.{misspelt-cut, misspelt-inside, misspelt-found}

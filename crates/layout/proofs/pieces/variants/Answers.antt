@@ -1,5 +1,5 @@
 -- `layout::pieces::variants` meets its contract, by its two tests.
-use Rattle.std.proofs.Common.{sym, rules}
+use Rattle.std.proofs.Common.{sym}
 use Rattle.layout.proofs.Frames.{variants-cut, variants-none, variants-some}
 use Rattle.layout.proofs.pieces.variants.Goals as goal
 

@@ -1,7 +1,6 @@
-use Rattle.std.proofs.Common.{◌≡◌, ℕ, ◌+◌, ◌-◌, ◌≤◌, length, take, drop, sym, refl, ap, ◌∙◌, arith, rules}
+use Rattle.std.proofs.Common.{◌≡◌, ℕ, ◌+◌, ◌≤◌, length, take, drop, sym, refl, ap, ◌∙◌, arith}
 use Rattle.text.specs.Compare.{alike}
 use Rattle.layout.specs.Pieces.{letters_at}
-use Rattle.layout.specs.Pieces.{repeated_before}
 use Rattle.layout.proofs.RepeatsInBytes.{repeats-short, repeats-room, before-none, before-found, before-other}
 use Rattle.layout.proofs.repetition.repeated.Goals as goal
 use Rattle.layout.proofs.repetition.repeated.Goals.{After-stands, At-loop-place}

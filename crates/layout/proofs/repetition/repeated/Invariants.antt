@@ -1,10 +1,7 @@
 -- `layout::repetition::repeated` meets its contract. The loop's invariant: the variants passed are all different, and the test goes on
 -- with those that are left, not more than `rest`. The measure is the number of bytes up to `at`.
-use Rattle.std.proofs.Common.{◌≡◌, ℕ, ◌+◌, ◌-◌, ◌≤◌, length, take, drop, sym, refl, ap, ◌∙◌, arith, rules}
-use Rattle.text.specs.Compare.{alike}
-use Rattle.layout.specs.Pieces.{letters_at}
+use Rattle.std.proofs.Common.{◌≡◌, ℕ, ◌+◌, ◌-◌, ◌≤◌}
 use Rattle.layout.specs.Pieces.{repeated_before}
-use Rattle.layout.proofs.RepeatsInBytes.{repeats-short, repeats-room, before-none, before-found, before-other}
 use Rattle.layout.proofs.repetition.repeated.Given as goal
 
 abbrev pub invariant-loop-place : goal.invariant-loop-place

@@ -1,5 +1,5 @@
 -- `layout::repetition::repeated_at` meets its contract, from what `head` tells of the place and `repeated` of the letters there.
-use Rattle.std.proofs.Common.{sym, ap, ◌∙◌, arith, rules}
+use Rattle.std.proofs.Common.{sym, ap, ◌∙◌, arith}
 use Rattle.layout.specs.Pieces.{told_part}
 use Rattle.layout.proofs.Heads.{Whole, head-is, head-not}
 use Rattle.layout.proofs.RepeatsInBytes.{repeats-at-cut, repeats-at-whole}

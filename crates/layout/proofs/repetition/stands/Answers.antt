@@ -1,5 +1,5 @@
 -- `layout::repetition::stands` meets its contract: letters of another length are others, and as many are compared.
-use Rattle.std.proofs.Common.{◌≡◌, ℕ, ◌+◌, ◌-◌, take, drop, sym, ap, ◌∙◌, arith, rules}
+use Rattle.std.proofs.Common.{◌≡◌, ℕ, ◌+◌, ◌-◌, take, drop, sym, ap, ◌∙◌, arith}
 use Rattle.text.specs.Compare.{alike}
 use Rattle.layout.proofs.RepeatsInBytes.{other_length}
 use Rattle.layout.proofs.repetition.stands.Goals as goal

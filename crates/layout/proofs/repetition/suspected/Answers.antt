@@ -1,5 +1,5 @@
 -- `layout::repetition::suspected` meets its contract, from what `print` ensures.
-use Rattle.std.proofs.Common.{ℕ, not, eqb, ap, rules}
+use Rattle.std.proofs.Common.{ℕ, not, eqb, ap}
 use lib.Bits.{bit_and}
 use Rattle.layout.specs.Prints.{suspected_at}
 use Rattle.layout.proofs.repetition.suspected.Goals as goal

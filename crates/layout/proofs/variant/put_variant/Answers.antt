@@ -1,4 +1,4 @@
-use Rattle.std.proofs.Common.{◌≡◌, ◌+◌, ◌-◌, ◌≤◌, length, sym, ap, ◌∙◌, arith, rules, leb-true}
+use Rattle.std.proofs.Common.{◌+◌, ◌≤◌, length, sym, ap, ◌∙◌, arith, leb-true}
 use borrow.Author.Tests.{not-true, not-false}
 use Rattle.text.specs.Letter.{meant}
 use Rattle.text.proofs.Likes.{meant-length, meant-at}
@@ -6,7 +6,7 @@ use Rattle.layout.specs.Bytes.{word_bytes, over}
 use Rattle.layout.specs.Encoding.{encode_variant}
 use Rattle.layout.proofs.Lengths.{length-variant}
 use Rattle.layout.proofs.Overs.{put-over, put-short, variant-over}
-use Rattle.layout.proofs.Overs.{emitted-length, Copied, copied_none, copied-room, copied_more, copied-end}
+use Rattle.layout.proofs.Overs.{emitted-length, copied_none, copied-room, copied_more, copied-end}
 use Rattle.layout.proofs.variant.put_variant.Goals as goal
 use Rattle.layout.proofs.variant.put_variant.Goals.{Else-not-has_room}
 

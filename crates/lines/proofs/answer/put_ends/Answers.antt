@@ -1,8 +1,5 @@
-use Prim.Native.Nat.{◌-◌}
-use lib.ListN.{length}
-use borrow.Author.Rules.{rules}
 use Rattle.lines.proofs.Putting.{put-length}
-use Rattle.lines.proofs.Marked.{Ending, ending-none, ending-marked, ending-unmarked, ending-end}
+use Rattle.lines.proofs.Marked.{ending-none, ending-marked, ending-unmarked, ending-end}
 use Rattle.lines.proofs.answer.put_ends.Goals as goal
 use Rattle.lines.proofs.answer.put_ends.Goals.{then-marks-k-eq1, else-marks-k-eq1}
 

@@ -1,11 +1,8 @@
 -- `lines::answer::put_ends` meets its contract. The loop's invariant, `Ending`: the lines of the marked segments before k are put. The
 -- measure is the number of marks left.
 use Prim.Native.Nat.{◌-◌}
-use mathlib.Core.Logic.{⊎_elim}
 use lib.ListN.{length}
-use borrow.Author.Rules.{rules}
-use Rattle.lines.proofs.Putting.{put-length}
-use Rattle.lines.proofs.Marked.{Ending, ending-none, ending-marked, ending-unmarked, ending-end}
+use Rattle.lines.proofs.Marked.{Ending}
 use Rattle.lines.proofs.answer.put_ends.Given as goal
 
 abbrev pub invariant-loop-k : goal.invariant-loop-k

@@ -1,9 +1,7 @@
-use Prim.Native.Nat.{◌-◌}
-use mathlib.Core.Path.{◌≡◌, refl, ap, ◌∙◌}
+use mathlib.Core.Path.{refl, ap, ◌∙◌}
 use lib.ListN.{length}
-use borrow.Author.Rules.{rules}
 use Rattle.lines.proofs.Putting.{put-length}
-use Rattle.lines.proofs.Marked.{Seeking, seeking-none, seeking-marked, seeking-unmarked, seeking-end}
+use Rattle.lines.proofs.Marked.{seeking-none, seeking-marked, seeking-unmarked, seeking-end}
 use Rattle.lines.proofs.answer.put_first.Goals as goal
 
 pub loop-j-init : goal.loop-j-init

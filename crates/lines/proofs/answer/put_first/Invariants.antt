@@ -1,11 +1,9 @@
 -- `lines::answer::put_first` meets its contract. The loop's invariant, `Seeking`: no segment before j is marked, and nothing is put.
 -- The measure is the number of marks left.
 use Prim.Native.Nat.{◌-◌}
-use mathlib.Core.Path.{◌≡◌, refl, ap, ◌∙◌}
+use mathlib.Core.Path.{◌≡◌}
 use lib.ListN.{length}
-use borrow.Author.Rules.{rules}
-use Rattle.lines.proofs.Putting.{put-length}
-use Rattle.lines.proofs.Marked.{Seeking, seeking-none, seeking-marked, seeking-unmarked, seeking-end}
+use Rattle.lines.proofs.Marked.{Seeking}
 use Rattle.lines.proofs.answer.put_first.Given as goal
 
 abbrev pub invariant-loop-j : goal.invariant-loop-j

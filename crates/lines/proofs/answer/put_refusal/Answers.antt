@@ -1,5 +1,4 @@
 -- `lines::answer::put_refusal` meets its contract: the number, then the line of the place.
-use borrow.Author.Rules.{rules}
 use Rattle.lines.specs.Answer.{refusal_line}
 use Rattle.lines.proofs.Putting.{put-more}
 use Rattle.lines.proofs.answer.put_refusal.Goals as goal

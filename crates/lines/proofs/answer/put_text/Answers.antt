@@ -1,5 +1,4 @@
 -- `lines::answer::put_text` meets its contract: its lines one after another.
-use borrow.Author.Rules.{rules}
 use Rattle.lines.specs.Answer.{text_lines}
 use Rattle.lines.proofs.Putting.{put-more}
 use Rattle.lines.proofs.answer.put_text.Goals as goal

@@ -1,7 +1,6 @@
 -- `lines::answer::screened` meets its contract: what is put are the lines of what the search answers.
 use native.Mathlib.Omega.{arith}
 use lib.ListN.{length-take}
-use borrow.Author.Rules.{rules}
 use Rattle.lines.proofs.Answering.{answered-refused, answered-long, answered-marked, lines-put}
 use Rattle.lines.proofs.answer.screened.Goals as goal
 use Rattle.lines.proofs.answer.screened.Goals.{In-Marked}

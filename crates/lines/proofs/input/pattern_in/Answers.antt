@@ -1,6 +1,5 @@
 -- `lines::input::pattern_in` meets its contract, whether there is no input, a part of the pattern or all of it.
 use Rattle.lines.proofs.Inputs.{none-pattern, cut-pattern, whole-pattern}
-use borrow.Author.Rules.{rules}
 use Rattle.lines.proofs.input.pattern_in.Goals as goal
 
 pub returns-then-input-eq0 : goal.returns-then-input-eq0

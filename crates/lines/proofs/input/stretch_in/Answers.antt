@@ -1,6 +1,5 @@
 -- `lines::input::stretch_in` meets its contract, whether the input goes on after the pattern or not.
 use Rattle.lines.proofs.Inputs.{no-stretch, whole-stretch}
-use borrow.Author.Rules.{rules}
 use Rattle.lines.proofs.input.stretch_in.Goals as goal
 
 pub returns-then-input-start : goal.returns-then-input-start

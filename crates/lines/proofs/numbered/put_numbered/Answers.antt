@@ -1,5 +1,4 @@
 -- `lines::numbered::put_numbered` meets its contract: the name, then a point and five digits after it.
-use borrow.Author.Rules.{rules}
 use Rattle.lines.proofs.FileNames.{put-numbered}
 use Rattle.lines.proofs.numbered.put_numbered.Goals as goal
 

@@ -1,6 +1,4 @@
-use Prim.Native.Nat.{◌-◌}
-use borrow.Author.Rules.{rules}
-use Rattle.lines.proofs.Putting.{Filling, put-behind, filling-none, filling-length, filling-room, filling-more, filling-end}
+use Rattle.lines.proofs.Putting.{put-behind, filling-none, filling-length, filling-room, filling-more, filling-end}
 use Rattle.lines.proofs.put.put_bytes.Goals as goal
 
 pub returns-then-out-at : goal.returns-then-out-at

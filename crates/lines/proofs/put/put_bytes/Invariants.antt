@@ -1,8 +1,7 @@
 -- `lines::put::put_bytes` meets its contract. The loop's invariant, `Filling`: the first i of the n bytes are put. The measure is the
 -- number of bytes left.
 use Prim.Native.Nat.{◌-◌}
-use borrow.Author.Rules.{rules}
-use Rattle.lines.proofs.Putting.{Filling, put-behind, filling-none, filling-length, filling-room, filling-more, filling-end}
+use Rattle.lines.proofs.Putting.{Filling}
 use Rattle.lines.proofs.put.put_bytes.Given as goal
 
 abbrev pub invariant-loop-i : goal.invariant-loop-i

@@ -1,5 +1,4 @@
 -- `lines::put::put_line` meets its contract: the word, the digits and the line's end, one after another.
-use borrow.Author.Rules.{rules}
 use Rattle.lines.specs.Decimal.{line}
 use Rattle.lines.proofs.Putting.{put-more}
 use Rattle.lines.proofs.put.put_line.Goals as goal

@@ -1,5 +1,4 @@
 -- `lines::put::put_number` meets its contract: what is spelt at the end of the local buffer is put.
-use borrow.Author.Rules.{rules}
 use Rattle.lines.proofs.Putting.{spelt}
 use Rattle.lines.proofs.put.put_number.Goals as goal
 

@@ -2,7 +2,7 @@ use native.Mathlib.Omega.{arith}
 use mathlib.Core.Path.{◌∙◌}
 use lib.ListN.{length-set}
 use borrow.Author.Rules.{rules}
-use Rattle.lines.proofs.Digits.{Spelling, spelling-none, spelling-room, spelling-more, spelling-end}
+use Rattle.lines.proofs.Digits.{spelling-none, spelling-room, spelling-more, spelling-end}
 use Rattle.lines.proofs.put.spell.Goals as goal
 
 pub loop-rest-init : goal.loop-rest-init

@@ -1,5 +1,4 @@
 -- `lines::strands::by_word` meets its contract: one test for each word.
-use borrow.Author.Rules.{rules}
 use mathlib.Core.Path.{sym, ◌∙◌}
 use Rattle.lines.proofs.Screens.{named-given, named-opposite, named-either, named-unknown}
 use Rattle.lines.proofs.strands.by_word.Goals as goal

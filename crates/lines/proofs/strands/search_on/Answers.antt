@@ -1,5 +1,4 @@
 -- `lines::strands::search_on` meets its contract: it is that of the search that these strands ask for.
-use borrow.Author.Rules.{rules}
 use Rattle.lines.proofs.Screens.{known_on}
 use Rattle.lines.proofs.strands.search_on.Goals as goal
 

@@ -1,7 +1,6 @@
 -- `manifest::checking::check` meets its contract: the first line, the last line, then the lines.
 use borrow.Author.Tests.{not-true, not-false}
 use Rattle.manifest.proofs.Seals.{checked-foreign, checked-altered, checked-listed}
-use borrow.Author.Rules.{rules}
 use Rattle.manifest.proofs.checking.check.Goals as goal
 
 pub returns-then-not-prefix : goal.returns-then-not-prefix

@@ -2,7 +2,6 @@
 use mathlib.Core.Path.{refl, sym}
 use lib.Seq.{length-take-le}
 use Rattle.manifest.proofs.Seals.{counts-none, counts-size, counts-short, counts-are}
-use borrow.Author.Rules.{rules}
 use Rattle.manifest.proofs.checking.counts_stand.Goals as goal
 
 pub returns-then-manifest-lt-SEAL : goal.returns-then-manifest-lt-SEAL

@@ -5,7 +5,6 @@ use mathlib.Core.Path.{refl, sym}
 use lib.ListN.{length}
 use lib.Seq.{length-take-le}
 use Rattle.manifest.proofs.Seals.{sealed-short, sealed-is}
-use borrow.Author.Rules.{rules}
 use Rattle.manifest.proofs.checking.is_sealed.Goals as goal
 
 pub returns-then-manifest-lt-SEAL : goal.returns-then-manifest-lt-SEAL

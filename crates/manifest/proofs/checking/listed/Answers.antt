@@ -1,8 +1,5 @@
-use Prim.Native.Nat.{◌-◌}
 use native.Mathlib.Omega.{arith}
-use lib.ListN.{length}
-use Rattle.manifest.proofs.Finding.{Listing, listing_none, listing-more, listing-no-comment, listing-wrong, listing-end}
-use borrow.Author.Rules.{rules}
+use Rattle.manifest.proofs.Finding.{listing_none, listing-more, listing-no-comment, listing-wrong, listing-end}
 use Rattle.manifest.proofs.checking.listed.Goals as goal
 
 pub loop-next-init : goal.loop-next-init

@@ -1,10 +1,8 @@
 -- `manifest::checking::listed` meets its contract. The loop's invariant, `Listing`: that many stretches stand before, and no wrong line. The
 -- measure is the number of bytes left.
 use Prim.Native.Nat.{◌-◌}
-use native.Mathlib.Omega.{arith}
 use lib.ListN.{length}
-use Rattle.manifest.proofs.Finding.{Listing, listing_none, listing-more, listing-no-comment, listing-wrong, listing-end}
-use borrow.Author.Rules.{rules}
+use Rattle.manifest.proofs.Finding.{Listing}
 use Rattle.manifest.proofs.checking.listed.Given as goal
 
 abbrev pub invariant-loop-next : goal.invariant-loop-next

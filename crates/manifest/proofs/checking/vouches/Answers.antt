@@ -1,7 +1,6 @@
 -- `manifest::checking::vouches` meets its contract: what a buffer of 64 bytes holds are the digits.
 use mathlib.Core.Path.{refl}
 use Rattle.manifest.proofs.Seals.{vouches-early, vouches-late, vouches-is}
-use borrow.Author.Rules.{rules}
 use Rattle.manifest.proofs.checking.vouches.Goals as goal
 
 pub returns-then-start-lt66 : goal.returns-then-start-lt66

@@ -1,7 +1,6 @@
 -- `manifest::classes::all_of` meets its contract: the first byte that is not of the kind stands after all.
 use Rattle.manifest.specs.Kinds.{of}
 use Rattle.manifest.proofs.Sorts.{all-leading}
-use borrow.Author.Rules.{rules}
 use Rattle.manifest.proofs.classes.all_of.Goals as goal
 
 pub returns : goal.returns

@@ -1,6 +1,5 @@
 -- `manifest::classes::is_kind` meets its contract, kind by kind.
 use Rattle.manifest.proofs.Sorts.{in-line, is_number, is-letter, no-digit-low, no-digit-between, no-digit-high, no_name, in-name}
-use borrow.Author.Rules.{rules}
 use Rattle.manifest.proofs.classes.is_kind.Goals as goal
 
 pub returns-in-InLine : goal.returns-in-InLine

@@ -1,6 +1,5 @@
 -- `manifest::classes::is_name` meets its contract, test by test.
 use Rattle.manifest.proofs.Sorts.{name-none, name-rooted, name-is}
-use borrow.Author.Rules.{rules}
 use Rattle.manifest.proofs.classes.is_name.Goals as goal
 
 pub returns-then-name-eq0 : goal.returns-then-name-eq0

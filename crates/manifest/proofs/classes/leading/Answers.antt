@@ -1,10 +1,6 @@
-use Prim.Native.Nat.{◌-◌}
 use mathlib.Core.Path.{sym, ◌∙◌}
 use borrow.Author.Tests.{not-true, not-false}
-use lib.ListN.{length}
-use Rattle.text.proofs.Letters.{Passed, passed_none, passed-more, passed-stop, passed-all}
-use Rattle.manifest.specs.Kinds.{of}
-use borrow.Author.Rules.{rules}
+use Rattle.text.proofs.Letters.{passed_none, passed-more, passed-stop, passed-all}
 use Rattle.manifest.proofs.classes.leading.Goals as goal
 
 pub loop-i-init : goal.loop-i-init

@@ -1,6 +1,5 @@
 -- `manifest::putting::glyph` meets its contract: 0 to 9, or a to f.
 use Rattle.manifest.proofs.Hex.{glyph-low, glyph-high}
-use borrow.Author.Rules.{rules}
 use Rattle.manifest.proofs.putting.glyph.Goals as goal
 
 pub returns-then-d-lt10 : goal.returns-then-d-lt10

@@ -1,7 +1,6 @@
 -- `manifest::putting::put_counts` meets its contract: words and numbers, one after another.
 use Rattle.lines.proofs.Putting.{put-more}
 use Rattle.manifest.specs.Written.{counts_line}
-use borrow.Author.Rules.{rules}
 use Rattle.manifest.proofs.putting.put_counts.Goals as goal
 
 pub returns : goal.returns

@@ -2,7 +2,6 @@
 use mathlib.Core.Path.{sym}
 use lib.Seq.{length-take-le}
 use Rattle.manifest.proofs.Seals.{end-far, end-put}
-use borrow.Author.Rules.{rules}
 use Rattle.manifest.proofs.putting.put_end.Goals as goal
 
 pub returns-then-out-end : goal.returns-then-out-end

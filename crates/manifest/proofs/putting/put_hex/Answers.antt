@@ -1,9 +1,6 @@
-use Prim.Native.Nat.{◌-◌}
 use native.Mathlib.Omega.{arith}
-use lib.ListN.{length}
 use Rattle.lines.proofs.Putting.{put-length}
-use Rattle.manifest.proofs.Hex.{Spelling, spelling-none, spelling-more, spelling-end}
-use borrow.Author.Rules.{rules}
+use Rattle.manifest.proofs.Hex.{spelling-none, spelling-more, spelling-end}
 use Rattle.manifest.proofs.putting.put_hex.Goals as goal
 
 pub loop-i-init : goal.loop-i-init

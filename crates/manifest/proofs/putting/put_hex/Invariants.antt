@@ -1,11 +1,8 @@
 -- `manifest::putting::put_hex` meets its contract. The loop's invariant, `Spelling`: the digits of the first i bytes are put. The measure
 -- is the number of bytes left.
 use Prim.Native.Nat.{◌-◌}
-use native.Mathlib.Omega.{arith}
 use lib.ListN.{length}
-use Rattle.lines.proofs.Putting.{put-length}
-use Rattle.manifest.proofs.Hex.{Spelling, spelling-none, spelling-more, spelling-end}
-use borrow.Author.Rules.{rules}
+use Rattle.manifest.proofs.Hex.{Spelling}
 use Rattle.manifest.proofs.putting.put_hex.Given as goal
 
 abbrev pub invariant-loop-i : goal.invariant-loop-i

@@ -1,7 +1,6 @@
 -- `manifest::putting::put_seal` meets its contract: the word, the digits and the line's end, one after another.
 use Rattle.lines.proofs.Putting.{put-more}
 use Rattle.manifest.specs.Written.{digest_line}
-use borrow.Author.Rules.{rules}
 use Rattle.manifest.proofs.putting.put_seal.Goals as goal
 
 pub returns : goal.returns

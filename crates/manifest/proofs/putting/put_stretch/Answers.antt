@@ -1,6 +1,5 @@
 -- `manifest::putting::put_stretch` meets its contract: the digest, two blanks, the name and the line's end, one after another.
 use Rattle.manifest.proofs.Hex.{stretch-put}
-use borrow.Author.Rules.{rules}
 use Rattle.manifest.proofs.putting.put_stretch.Goals as goal
 
 pub returns : goal.returns

@@ -1,6 +1,5 @@
 -- `manifest::reading::is_comment` meets its contract: the first byte.
 use Rattle.manifest.proofs.Entries.{comment-none, comment-is}
-use borrow.Author.Rules.{rules}
 use Rattle.manifest.proofs.reading.is_comment.Goals as goal
 
 pub returns-then-line-eq0 : goal.returns-then-line-eq0

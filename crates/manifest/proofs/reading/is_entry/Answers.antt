@@ -4,7 +4,6 @@ use mathlib.Core.Path.{sym}
 use lib.Seq.{length-take-le}
 use borrow.Author.Tests.{not-true, not-false}
 use Rattle.manifest.proofs.Entries.{entry-short, entry-no-digits, entry-no-blanks, entry_named}
-use borrow.Author.Rules.{rules}
 use Rattle.manifest.proofs.reading.is_entry.Goals as goal
 
 pub returns-then-line-lt66 : goal.returns-then-line-lt66

@@ -1,7 +1,6 @@
 -- `manifest::reading::line_at` meets its contract, test by test.
 use native.Mathlib.Omega.{arith}
 use Rattle.manifest.proofs.Entries.{line-none, line-cut, line-comment, line-entry, line_other, line-room, onward-is}
-use borrow.Author.Rules.{rules}
 use Rattle.manifest.proofs.reading.line_at.Goals as goal
 
 pub returns-then-manifest-at : goal.returns-then-manifest-at

@@ -1,8 +1,5 @@
-use Prim.Native.Nat.{◌-◌}
 use native.Mathlib.Omega.{arith}
-use lib.ListN.{length}
-use Rattle.manifest.proofs.Finding.{Seeking, seeking-none, seeking-on, seeking-stretch, seeking-wrong, seeking-stop, seeking-end}
-use borrow.Author.Rules.{rules}
+use Rattle.manifest.proofs.Finding.{seeking-none, seeking-on, seeking-stretch, seeking-wrong, seeking-stop, seeking-end}
 use Rattle.manifest.proofs.reading.next_stretch.Goals as goal
 
 pub loop-from-init : goal.loop-from-init

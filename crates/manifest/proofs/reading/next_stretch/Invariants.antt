@@ -1,10 +1,8 @@
 -- `manifest::reading::next_stretch` meets its contract. The loop's invariant, `Seeking`: the lines before are comments. The measure is the
 -- number of bytes left.
 use Prim.Native.Nat.{◌-◌}
-use native.Mathlib.Omega.{arith}
 use lib.ListN.{length}
-use Rattle.manifest.proofs.Finding.{Seeking, seeking-none, seeking-on, seeking-stretch, seeking-wrong, seeking-stop, seeking-end}
-use borrow.Author.Rules.{rules}
+use Rattle.manifest.proofs.Finding.{Seeking}
 use Rattle.manifest.proofs.reading.next_stretch.Given as goal
 
 abbrev pub invariant-loop-from : goal.invariant-loop-from

@@ -1,5 +1,5 @@
 -- `pool_files::reference::in_line` meets its contract.
-use Rattle.std.proofs.Common.{sym, ◌∙◌, rules, eq-eqb, ne_eqb}
+use Rattle.std.proofs.Common.{sym, ◌∙◌, eq-eqb, ne_eqb}
 use Rattle.pool_files.specs.Reference.{in_line}
 use Rattle.pool_files.proofs.reference.in_line.Goals as goal
 

@@ -1,5 +1,5 @@
 -- `pool_files::reference::in_word` meets its contract.
-use Rattle.std.proofs.Common.{sym, ap, ◌∙◌, rules}
+use Rattle.std.proofs.Common.{sym, ap, ◌∙◌}
 use Rattle.pool_files.specs.Reference.{in_word}
 use Rattle.pool_files.specs.declared.reference.Reading.TheVariants.{Word}
 use Rattle.pool_files.proofs.reference.in_word.Goals as goal

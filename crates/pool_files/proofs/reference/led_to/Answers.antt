@@ -1,5 +1,5 @@
 -- `pool_files::reference::led_to` meets its contract, reading by reading.
-use Rattle.std.proofs.Common.{sym, rules}
+use Rattle.std.proofs.Common.{sym}
 use Rattle.pool_files.specs.Reference.{led_to}
 use Rattle.pool_files.proofs.reference.led_to.Goals as goal
 

@@ -1,5 +1,4 @@
 -- `pool_files::reference::put_base` meets its contract.
-use Rattle.std.proofs.Common.{rules}
 use Rattle.pool_files.proofs.reference.put_base.Goals as goal
 
 pub returns-in-Base : goal.returns-in-Base

@@ -1,5 +1,5 @@
 -- `pool_files::reference::step` meets its contract, reading by reading.
-use Rattle.std.proofs.Common.{sym, ◌∙◌, rules}
+use Rattle.std.proofs.Common.{sym, ◌∙◌}
 use Rattle.pool_files.specs.Reference.{step_of}
 use Rattle.pool_files.proofs.reference.step.Goals as goal
 

@@ -1,6 +1,6 @@
-use Rattle.std.proofs.Common.{◌-◌, ◌<◌, length, sym, ap, ◌∙◌, arith, rules}
-use Rattle.pool_files.specs.Reference.{Filled, wanted}
-use Rattle.pool_files.proofs.Takes.{Takes, takes_none, takes_all, takes-room, takes-full, takes-end, takes-more}
+use Rattle.std.proofs.Common.{◌<◌, sym, ap, ◌∙◌, arith}
+use Rattle.pool_files.specs.Reference.{Filled}
+use Rattle.pool_files.proofs.Takes.{takes_none, takes_all, takes-room, takes-full, takes-end, takes-more}
 use Rattle.pool_files.proofs.reference.take.Goals as goal
 
 pub loop-at-init : goal.loop-at-init

@@ -1,8 +1,8 @@
 -- `pool_files::reference::take` meets its contract. The loop's invariant, `Takes`: the bytes that are left lead to what all of them lead to,
 -- and there is room for the bases that are wanted. The measure is the number of these bytes.
-use Rattle.std.proofs.Common.{◌-◌, ◌<◌, length, sym, ap, ◌∙◌, arith, rules}
-use Rattle.pool_files.specs.Reference.{Filled, wanted}
-use Rattle.pool_files.proofs.Takes.{Takes, takes_none, takes_all, takes-room, takes-full, takes-end, takes-more}
+use Rattle.std.proofs.Common.{◌-◌, length}
+use Rattle.pool_files.specs.Reference.{wanted}
+use Rattle.pool_files.proofs.Takes.{Takes}
 use Rattle.pool_files.proofs.reference.take.Given as goal
 
 abbrev pub invariant-loop-at : goal.invariant-loop-at

@@ -1,5 +1,5 @@
 -- `pool_files::reference::wanted` meets its contract.
-use Rattle.std.proofs.Common.{◌-◌, arith, rules}
+use Rattle.std.proofs.Common.{arith}
 use Rattle.pool_files.specs.Reference.{wanted}
 use Rattle.pool_files.proofs.reference.wanted.Goals as goal
 

@@ -1,5 +1,5 @@
 -- `pool_files::short::act_of` meets its contract.
-use Rattle.std.proofs.Common.{sym, ◌∙◌, rules, le-ltb, lt-ltb, eq-eqb, ne_eqb}
+use Rattle.std.proofs.Common.{sym, ◌∙◌, le-ltb, lt-ltb, eq-eqb, ne_eqb}
 use Rattle.pool_files.specs.Short.{act_of}
 use Rattle.pool_files.proofs.short.act_of.Goals as goal
 

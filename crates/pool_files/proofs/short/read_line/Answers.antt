@@ -1,6 +1,6 @@
-use Rattle.std.proofs.Common.{◌-◌, length, ap, ◌∙◌, rules}
+use Rattle.std.proofs.Common.{ap}
 use Rattle.pool_files.specs.Short.{Outcome}
-use Rattle.pool_files.proofs.Shorts.{Reads, reads_none, reads_all, reads-feed, reads_more}
+use Rattle.pool_files.proofs.Shorts.{reads_none, reads_all, reads-feed, reads_more}
 use Rattle.pool_files.proofs.short.read_line.Goals as goal
 
 pub loop-at-init : goal.loop-at-init

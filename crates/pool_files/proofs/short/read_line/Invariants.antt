@@ -1,8 +1,7 @@
 -- `pool_files::short::read_line` meets its contract. The loop's invariant, `Reads`: the bytes that are left lead to what all of them lead to.
 -- The measure is their number.
-use Rattle.std.proofs.Common.{◌-◌, length, ap, ◌∙◌, rules}
-use Rattle.pool_files.specs.Short.{Outcome}
-use Rattle.pool_files.proofs.Shorts.{Reads, reads_none, reads_all, reads-feed, reads_more}
+use Rattle.std.proofs.Common.{◌-◌, length}
+use Rattle.pool_files.proofs.Shorts.{Reads}
 use Rattle.pool_files.proofs.short.read_line.Given as goal
 
 abbrev pub invariant-loop-at : goal.invariant-loop-at

@@ -1,5 +1,5 @@
 -- `pool_files::word::go_on` meets its contract.
-use Rattle.std.proofs.Common.{suc, sym, ◌∙◌, add-one, rules, le-ltb, lt-ltb, eq-eqb, ne_eqb}
+use Rattle.std.proofs.Common.{sym, ◌∙◌, add-one, le-ltb, lt-ltb, eq-eqb, ne_eqb}
 use Rattle.pool_files.specs.Words.{go_on}
 use Rattle.pool_files.proofs.word.go_on.Goals as goal
 

@@ -1,12 +1,11 @@
-use Prim.Native.Nat.{◌-◌, ◌≤◌}
+use Prim.Native.Nat.{◌≤◌}
 use lib.ListN.{length}
-use borrow.Author.Rules.{rules}
 use native.Mathlib.Omega.{arith}
 use mathlib.Core.Path.{◌≡◌, ◌∙◌}
 use Rattle.layout.specs.Bytes.{word}
 use Rattle.layout.specs.Pieces.{next_of}
 use Rattle.layout.proofs.Stands.{word-there}
-use Rattle.layout.proofs.Skips.{Stepping, stepping-none, stepping-more, stepping-end, stepping-fits, behind-grows}
+use Rattle.layout.proofs.Skips.{stepping-none, stepping-more, stepping-end, stepping-fits, behind-grows}
 use Rattle.stretch.proofs.places.behind_variants.Goals as goal
 use Rattle.stretch.proofs.places.behind_variants.Goals.{After-word_at-letters, In-loop-i}
 

@@ -1,14 +1,8 @@
 -- `stretch::places::behind_variants` meets its contract. The loop's invariant, `Stepping`: i of the k steps are done. A step never
 -- goes back, so each place lies before the last one, which lies in the bytes.
-use Prim.Native.Nat.{◌-◌, ◌≤◌}
-use lib.ListN.{length}
-use borrow.Author.Rules.{rules}
-use native.Mathlib.Omega.{arith}
-use mathlib.Core.Path.{◌≡◌, ◌∙◌}
-use Rattle.layout.specs.Bytes.{word}
+use Prim.Native.Nat.{◌-◌}
 use Rattle.layout.specs.Pieces.{next_of}
-use Rattle.layout.proofs.Stands.{word-there}
-use Rattle.layout.proofs.Skips.{Stepping, stepping-none, stepping-more, stepping-end, stepping-fits, behind-grows}
+use Rattle.layout.proofs.Skips.{Stepping}
 use Rattle.stretch.proofs.places.behind_variants.Given as goal
 
 abbrev pub invariant-loop-i : goal.invariant-loop-i

@@ -1,9 +1,8 @@
-use Prim.Native.Nat.{◌+◌, ◌-◌, ◌≤◌, ◌<◌}
+use Prim.Native.Nat.{◌+◌, ◌≤◌, ◌<◌}
 use lib.ListN.{length, get_or}
-use borrow.Author.Rules.{rules}
 use native.Mathlib.Omega.{arith}
 use Rattle.layout.specs.Skips.{behind_segment}
-use Rattle.layout.proofs.Skips.{Stepping, stepping-none, stepping-more, stepping-end, stepping-fits, variants-grow, segment-grows}
+use Rattle.layout.proofs.Skips.{stepping-none, stepping-more, stepping-end, stepping-fits, variants-grow, segment-grows}
 use Rattle.stretch.proofs.places.segment_place.Goals as goal
 use Rattle.stretch.proofs.places.segment_place.Goals.{In-loop-i}
 

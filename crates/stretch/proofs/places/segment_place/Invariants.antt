@@ -1,10 +1,7 @@
 -- `stretch::places::segment_place` meets its contract, by the same invariant as `behind_variants`: i of the k segments are stepped over.
-use Prim.Native.Nat.{◌+◌, ◌-◌, ◌≤◌, ◌<◌}
-use lib.ListN.{length, get_or}
-use borrow.Author.Rules.{rules}
-use native.Mathlib.Omega.{arith}
+use Prim.Native.Nat.{◌-◌}
 use Rattle.layout.specs.Skips.{behind_segment}
-use Rattle.layout.proofs.Skips.{Stepping, stepping-none, stepping-more, stepping-end, stepping-fits, variants-grow, segment-grows}
+use Rattle.layout.proofs.Skips.{Stepping}
 use Rattle.stretch.proofs.places.segment_place.Given as goal
 
 abbrev pub invariant-loop-i : goal.invariant-loop-i

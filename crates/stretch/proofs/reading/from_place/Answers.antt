@@ -3,7 +3,6 @@ use Prim.Native.Nat.{◌<◌}
 use lib.ListN.{length}
 use native.Mathlib.Omega.{arith}
 use mathlib.Core.Path.{◌∙◌}
-use borrow.Author.Rules.{rules}
 use Rattle.stretch.proofs.ReadsAtPlace.{Standing, read_behind, place_inside, here-inside, here-handed, last-ended}
 use Rattle.stretch.proofs.ReadsAtPlace.{next-inside, first-inside, next-handed}
 use Rattle.stretch.proofs.reading.from_place.Goals as goal

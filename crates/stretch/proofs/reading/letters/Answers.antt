@@ -3,7 +3,6 @@ use Prim.Native.Nat.{◌+◌, ◌≤◌}
 use native.Mathlib.Omega.{arith}
 use mathlib.Core.Path.{sym, ap, ◌∙◌}
 use lib.ListN.{length}
-use borrow.Author.Rules.{rules}
 use Rattle.stretch.specs.Answers.{told_got}
 use Rattle.stretch.proofs.ReadsAtPlace.{found_inside, part-told, part-found}
 use Rattle.stretch.proofs.reading.letters.Goals as goal

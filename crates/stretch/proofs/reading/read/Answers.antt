@@ -1,6 +1,5 @@
 -- `stretch::reading::read` meets its contract, from what `check` and `from_place` ensure.
 use mathlib.Core.Path.{sym, ap, ◌∙◌}
-use borrow.Author.Rules.{rules}
 use Rattle.stretch.specs.Answers.{told_checked}
 use Rattle.stretch.proofs.ReadsAtPlace.{check-accepted, read-refused}
 use Rattle.stretch.proofs.reading.read.Goals as goal

@@ -1,15 +1,12 @@
-use borrow.Author.Rules.{rules}
 use Prim.Native.Nat.{◌^◌, ◌<◌}
 use native.Mathlib.Omega.{arith}
 use mathlib.Core.Path.{◌≡◌, refl, sym, ap, ◌∙◌}
-use mathlib.Core.Logic.{⊎_elim}
 use mathlib.Core.List.{[]}
 use lib.ListN.{length}
-use Rattle.text.specs.Text.{Segment}
 use Rattle.text.proofs.Blocks.{wrong-letters}
 use Rattle.layout.specs.Pieces.{told_part}
 use Rattle.layout.proofs.Heads.{Whole, head-is}
-use Rattle.layout.proofs.Walking.{Walking, walk-not, walk_none, walk-done, walk-cut, walk-misspelt, walk-again, walk-new, walk-unsuspected}
+use Rattle.layout.proofs.Walking.{walk-not, walk_none, walk-done, walk-cut, walk-misspelt, walk-again, walk-new, walk-unsuspected}
 use Rattle.layout.proofs.Walking.{walk-past, walk-less}
 use Rattle.stretch.proofs.Checks.{walked-refused, walked-done}
 use Rattle.stretch.proofs.segment.segment_at.Goals as goal

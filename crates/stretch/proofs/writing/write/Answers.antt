@@ -1,5 +1,4 @@
 -- `stretch::write` meets its contract: what the writer puts is what is told.
-use borrow.Author.Rules.{rules}
 use mathlib.Core.Path.{sym, ap, ◌∙◌}
 use Rattle.text.specs.Refusal.{told_amount}
 use Rattle.stretch.proofs.writing.write.Goals as goal

@@ -1,5 +1,5 @@
 -- `test_reference::occurrences::carries` is safe and ends: a length is below 64. The measure is the number of lengths left.
-use Rattle.std.proofs.Common.{◌-◌, ◌≤◌, rules}
+use Rattle.std.proofs.Common.{◌-◌, ◌≤◌}
 use Rattle.test_reference.proofs.occurrences.carries.Given as goal
 
 abbrev pub invariant-loop-r : goal.invariant-loop-r

@@ -1,5 +1,5 @@
 -- `test_reference::occurrences::ends` is safe and ends: a length is below 64. The measure is the number of lengths left.
-use Rattle.std.proofs.Common.{◌-◌, ◌≤◌, rules}
+use Rattle.std.proofs.Common.{◌-◌, ◌≤◌}
 use Rattle.test_reference.proofs.occurrences.ends.Given as goal
 
 abbrev pub invariant-loop-q : goal.invariant-loop-q

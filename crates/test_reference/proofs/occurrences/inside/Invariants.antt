@@ -1,5 +1,5 @@
 -- `test_reference::occurrences::inside` is safe and ends. The measure is the number of places left.
-use Rattle.std.proofs.Common.{◌-◌, ◌≤◌, length, rules}
+use Rattle.std.proofs.Common.{◌-◌, ◌≤◌, length}
 use Rattle.test_reference.proofs.occurrences.inside.Given as goal
 
 abbrev pub invariant-loop-at : goal.invariant-loop-at

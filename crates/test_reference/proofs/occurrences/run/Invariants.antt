@@ -1,5 +1,5 @@
 -- `test_reference::occurrences::run` is safe and ends. The measure is the number of segments left.
-use Rattle.std.proofs.Common.{◌-◌, ◌≤◌, rules}
+use Rattle.std.proofs.Common.{◌-◌, ◌≤◌}
 use Rattle.test_reference.proofs.occurrences.run.Given as goal
 
 abbrev pub invariant-loop-j : goal.invariant-loop-j

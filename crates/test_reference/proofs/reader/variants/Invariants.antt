@@ -1,5 +1,5 @@
 -- `test_reference::reader::variants` is safe and ends. The measure is the number of variants left.
-use Rattle.std.proofs.Common.{◌-◌, ◌≤◌, rules}
+use Rattle.std.proofs.Common.{◌-◌, ◌≤◌}
 use Rattle.test_reference.proofs.reader.variants.Given as goal
 
 abbrev pub invariant-loop-k : goal.invariant-loop-k

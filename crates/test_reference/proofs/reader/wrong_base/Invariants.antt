@@ -1,5 +1,5 @@
 -- `test_reference::reader::wrong_base` is safe and ends. The measure is the number of bases left.
-use Rattle.std.proofs.Common.{◌-◌, ◌≤◌, length, rules}
+use Rattle.std.proofs.Common.{◌-◌, ◌≤◌, length}
 use Rattle.test_reference.proofs.reader.wrong_base.Given as goal
 
 abbrev pub invariant-loop-i : goal.invariant-loop-i

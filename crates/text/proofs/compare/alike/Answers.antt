@@ -1,10 +1,5 @@
-use Prim.Native.Nat.{◌-◌}
 use mathlib.Core.Path.{sym}
-use borrow.Author.Rules.{rules}
-use lib.ListN.{length}
-use Rattle.text.proofs.Strings.{Alike}
 use Rattle.text.proofs.Likes.{like-lengths, like-none, like-more, like-stop, like-all}
-use Rattle.text.specs.Letter.{meant}
 use Rattle.text.proofs.compare.alike.Goals as goal
 
 pub returns-then-a-b : goal.returns-then-a-b

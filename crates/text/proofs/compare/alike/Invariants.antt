@@ -1,11 +1,8 @@
 -- `text::compare::alike` meets its contract. The loop's invariant, `Alike`: the letters before i mean the same, and what is left to compare
 -- is what stands from i on. The measure is the number of letters left.
 use Prim.Native.Nat.{◌-◌}
-use mathlib.Core.Path.{sym}
-use borrow.Author.Rules.{rules}
 use lib.ListN.{length}
 use Rattle.text.proofs.Strings.{Alike}
-use Rattle.text.proofs.Likes.{like-lengths, like-none, like-more, like-stop, like-all}
 use Rattle.text.specs.Letter.{meant}
 use Rattle.text.proofs.compare.alike.Given as goal
 

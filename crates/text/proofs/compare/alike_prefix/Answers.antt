@@ -1,7 +1,6 @@
 -- `text::compare::alike_prefix` meets its contract: p against the first letters of s, as many as p has; a string shorter than p does not
 -- begin with it.
 use mathlib.Core.Path.{sym, ◌∙◌}
-use borrow.Author.Rules.{rules}
 use native.Mathlib.Omega.{arith}
 use lib.ListN.{length-take}
 use Rattle.text.proofs.Likes.{like-prefix-short, like-prefix}

@@ -1,7 +1,6 @@
 -- `text::compare::alike_suffix` meets its contract: p against the last letters of s, as many as p has; a string shorter than p does not
 -- end with it.
 use mathlib.Core.Path.{sym, ◌∙◌}
-use borrow.Author.Rules.{rules}
 use Rattle.text.proofs.Likes.{like-suffix-short, like-suffix}
 use Rattle.text.proofs.compare.alike_suffix.Goals as goal
 

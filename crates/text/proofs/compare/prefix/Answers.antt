@@ -1,7 +1,6 @@
 -- `text::compare::prefix` meets its contract. It is the definition itself: p against the first letters of s, as many as p has;
 -- a string shorter than p does not begin with it.
 use mathlib.Core.Path.{sym}
-use borrow.Author.Rules.{rules}
 use native.Mathlib.Omega.{arith}
 use lib.ListN.{length-take}
 use Rattle.text.specs.Compare.{prefix}

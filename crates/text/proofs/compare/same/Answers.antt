@@ -1,8 +1,5 @@
-use Prim.Native.Nat.{◌-◌}
 use mathlib.Core.Path.{sym}
-use borrow.Author.Rules.{rules}
-use lib.ListN.{length}
-use Rattle.text.proofs.Strings.{same-lengths, Alike, alike-none, alike-more, alike-stop, alike_all}
+use Rattle.text.proofs.Strings.{same-lengths, alike-none, alike-more, alike-stop, alike_all}
 use Rattle.text.proofs.compare.same.Goals as goal
 
 pub returns-then-a-b : goal.returns-then-a-b

@@ -1,10 +1,8 @@
 -- `text::compare::same` meets its contract. The loop's invariant, `Alike`: the letters before i are equal, and what is left to compare
 -- is what stands from i on. The measure is the number of letters left.
 use Prim.Native.Nat.{◌-◌}
-use mathlib.Core.Path.{sym}
-use borrow.Author.Rules.{rules}
 use lib.ListN.{length}
-use Rattle.text.proofs.Strings.{same-lengths, Alike, alike-none, alike-more, alike-stop, alike_all}
+use Rattle.text.proofs.Strings.{Alike}
 use Rattle.text.proofs.compare.same.Given as goal
 
 abbrev pub invariant-loop-i : goal.invariant-loop-i

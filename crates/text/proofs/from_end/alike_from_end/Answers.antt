@@ -1,10 +1,6 @@
-use Prim.Native.Nat.{◌+◌, ◌-◌, ◌<◌}
+use Prim.Native.Nat.{◌+◌, ◌-◌}
 use native.Mathlib.Omega.{arith}
 use mathlib.Core.Path.{◌≡◌, sym}
-use lib.ListN.{length}
-use borrow.Author.Rules.{rules}
-use Rattle.text.specs.Letter.{meant}
-use Rattle.text.specs.FromEnd.{SameFrom}
 use Rattle.text.proofs.Likes.{like-lengths, meant-length}
 use Rattle.text.proofs.FromEnd.{from-meant, from-letter, letter-differs, from_all}
 use Rattle.text.proofs.from_end.alike_from_end.Goals as goal

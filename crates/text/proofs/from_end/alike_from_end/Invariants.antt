@@ -1,14 +1,7 @@
 -- `text::from_end::alike_from_end` meets its contract. The loop's invariant, `SameFrom`: the letters from i on mean the same. The measure
 -- is the number of letters before i.
-use Prim.Native.Nat.{◌+◌, ◌-◌, ◌<◌}
-use native.Mathlib.Omega.{arith}
-use mathlib.Core.Path.{◌≡◌, sym}
-use lib.ListN.{length}
-use borrow.Author.Rules.{rules}
 use Rattle.text.specs.Letter.{meant}
 use Rattle.text.specs.FromEnd.{SameFrom}
-use Rattle.text.proofs.Likes.{like-lengths, meant-length}
-use Rattle.text.proofs.FromEnd.{from-meant, from-letter, letter-differs, from_all}
 use Rattle.text.proofs.from_end.alike_from_end.Given as goal
 
 abbrev pub invariant-loop-i : goal.invariant-loop-i

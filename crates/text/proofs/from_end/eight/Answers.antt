@@ -1,6 +1,5 @@
 -- `text::from_end::eight` meets its contract, by halves.
 use native.Mathlib.Omega.{arith}
-use borrow.Author.Rules.{rules}
 use Rattle.text.specs.FromEnd.{eight}
 use Rattle.text.proofs.from_end.eight.Goals as goal
 

@@ -1,6 +1,5 @@
 -- `text::from_end::four` meets its contract, by halves.
 use native.Mathlib.Omega.{arith}
-use borrow.Author.Rules.{rules}
 use Rattle.text.specs.FromEnd.{four}
 use Rattle.text.proofs.from_end.four.Goals as goal
 

@@ -1,8 +1,6 @@
 use Prim.Native.Nat.{◌+◌, ◌-◌}
 use native.Mathlib.Omega.{arith}
-use borrow.Author.Rules.{rules}
 use mathlib.Core.Path.{◌≡◌, sym, ◌∙◌}
-use Rattle.text.specs.FromEnd.{SameFrom}
 use Rattle.text.proofs.FromEnd.{from-none, from-eight, from_first}
 use Rattle.text.proofs.from_end.same_from.Goals as goal
 

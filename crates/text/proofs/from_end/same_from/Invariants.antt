@@ -1,11 +1,6 @@
 -- `text::from_end::same_from` meets its contract. The loop's invariant, `SameFrom`: the bytes from i on are the same. The measure is
 -- the number of bytes before i.
-use Prim.Native.Nat.{◌+◌, ◌-◌}
-use native.Mathlib.Omega.{arith}
-use borrow.Author.Rules.{rules}
-use mathlib.Core.Path.{◌≡◌, sym, ◌∙◌}
 use Rattle.text.specs.FromEnd.{SameFrom}
-use Rattle.text.proofs.FromEnd.{from-none, from-eight, from_first}
 use Rattle.text.proofs.from_end.same_from.Given as goal
 
 abbrev pub invariant-loop-i : goal.invariant-loop-i

@@ -1,6 +1,5 @@
 -- `text::from_end::two` meets its contract: two bytes are a number below 65,536.
 use native.Mathlib.Omega.{arith}
-use borrow.Author.Rules.{rules}
 use Rattle.text.specs.FromEnd.{two}
 use Rattle.text.proofs.from_end.two.Goals as goal
 

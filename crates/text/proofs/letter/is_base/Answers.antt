@@ -1,6 +1,5 @@
 -- `text::letter::is_base` meets its contract: a byte that means a base is one where it is that base, in upper case.
 use mathlib.Core.Path.{sym, ap, ◌∙◌}
-use borrow.Author.Rules.{rules}
 use Rattle.text.proofs.Meanings.{is_base, meaning-base, meaning-other}
 use Rattle.text.proofs.letter.is_base.Goals as goal
 

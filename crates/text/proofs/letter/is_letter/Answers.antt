@@ -1,6 +1,5 @@
 -- `text::letter::is_letter` meets its contract: every byte that means something is one.
 use mathlib.Core.Path.{sym, ap, ◌∙◌}
-use borrow.Author.Rules.{rules}
 use Rattle.text.proofs.Meanings.{named, meaning-named}
 use Rattle.text.proofs.letter.is_letter.Goals as goal
 

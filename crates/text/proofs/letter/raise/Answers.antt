@@ -1,6 +1,5 @@
 -- `text::letter::raise` meets its contract: a letter without the bit of lower case, or the byte itself.
 use mathlib.Core.Path.{sym, ◌∙◌}
-use borrow.Author.Rules.{rules}
 use Rattle.text.proofs.Meanings.{cleared, no-letter-raised}
 use Rattle.text.proofs.letter.raise.Goals as goal
 

@@ -1,6 +1,5 @@
 -- `text::part` meets its contract, whether all of the bytes are there or not.
 use Rattle.text.proofs.PartsOfLists.{part-far, part_none, part-front}
-use borrow.Author.Rules.{rules}
 use Rattle.text.proofs.parts.part.Goals as goal
 
 pub returns-then-bytes-start : goal.returns-then-bytes-start

@@ -1,9 +1,4 @@
-use Prim.Native.Nat.{◌-◌}
-use mathlib.Core.Path.{◌≡◌}
-use mathlib.Core.Bool.{not}
-use borrow.Author.Rules.{rules}
-use lib.ListN.{length, take}
-use Rattle.text.specs.Letter.{base, every}
+use Rattle.text.specs.Letter.{base}
 use Rattle.text.proofs.Blocks.{wrong-none, wrong-more, wrong-all}
 use Rattle.text.proofs.pattern.any_other.Goals as goal
 

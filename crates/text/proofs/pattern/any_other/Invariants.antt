@@ -3,10 +3,8 @@
 use Prim.Native.Nat.{◌-◌}
 use mathlib.Core.Path.{◌≡◌}
 use mathlib.Core.Bool.{not}
-use borrow.Author.Rules.{rules}
 use lib.ListN.{length, take}
 use Rattle.text.specs.Letter.{base, every}
-use Rattle.text.proofs.Blocks.{wrong-none, wrong-more, wrong-all}
 use Rattle.text.proofs.pattern.any_other.Given as goal
 
 abbrev pub invariant-loop-i : goal.invariant-loop-i

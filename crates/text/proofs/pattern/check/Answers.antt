@@ -1,7 +1,6 @@
 -- `text::pattern::check` meets its contract. Each answer is a law of `pattern`, from the tests that led to it
 -- and from what `any_other` and `first_other` ensure.
 use mathlib.Core.Path.{sym}
-use borrow.Author.Rules.{rules}
 use Rattle.text.specs.Refusal.{ok}
 use Rattle.text.proofs.Patterns.{pattern-empty, pattern-long, pattern-byte, bases-sound, sound-pattern}
 use Rattle.text.proofs.pattern.check.Goals as goal

@@ -1,10 +1,7 @@
-use Prim.Native.Nat.{◌-◌}
 use mathlib.Core.Path.{sym, ◌∙◌}
-use borrow.Author.Rules.{rules}
 use borrow.Author.Tests.{not-true, not-false}
-use lib.ListN.{length}
 use Rattle.text.specs.Letter.{base}
-use Rattle.text.proofs.Letters.{Passed, passed_none, passed-more, passed-stop, passed-all}
+use Rattle.text.proofs.Letters.{passed_none, passed-more, passed-stop, passed-all}
 use Rattle.text.proofs.pattern.first_other.Goals as goal
 
 pub loop-i-init : goal.loop-i-init

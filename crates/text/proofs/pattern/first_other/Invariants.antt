@@ -1,12 +1,9 @@
 -- `text::pattern::first_other` meets its contract. The loop's invariant, `Passed`: the bytes before i are bases, and the first other byte
 -- is looked for from i on. The measure is the number of bytes left.
 use Prim.Native.Nat.{◌-◌}
-use mathlib.Core.Path.{sym, ◌∙◌}
-use borrow.Author.Rules.{rules}
-use borrow.Author.Tests.{not-true, not-false}
 use lib.ListN.{length}
 use Rattle.text.specs.Letter.{base}
-use Rattle.text.proofs.Letters.{Passed, passed_none, passed-more, passed-stop, passed-all}
+use Rattle.text.proofs.Letters.{Passed}
 use Rattle.text.proofs.pattern.first_other.Given as goal
 
 abbrev pub invariant-loop-i : goal.invariant-loop-i

@@ -1,6 +1,5 @@
 -- `text::spelling::any_wrong` meets its contract, from what `first_wrong` tells of few bytes and `wrong_in_blocks` of many.
 use Prim.Native.Nat.{ℕ}
-use borrow.Author.Rules.{rules}
 use mathlib.Core.Path.{ap, ◌∙◌}
 use lib.Dec.{ltb}
 use lib.ListN.{length}

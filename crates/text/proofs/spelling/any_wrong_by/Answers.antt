@@ -1,9 +1,8 @@
-use Prim.Native.Nat.{◌-◌, ◌<◌}
+use Prim.Native.Nat.{◌<◌}
 use native.Mathlib.Omega.{arith}
 use mathlib.Core.Path.{refl}
-use borrow.Author.Rules.{rules}
-use lib.ListN.{length, get_or}
-use Rattle.text.proofs.Blocks.{Clean, clean-none, clean-more, clean_all, blocks-by}
+use lib.ListN.{get_or}
+use Rattle.text.proofs.Blocks.{clean-none, clean-more, clean_all, blocks-by}
 use Rattle.text.proofs.spelling.any_wrong_by.Goals as goal
 use Rattle.text.proofs.spelling.any_wrong_by.Goals.{After-shared_slice_known-in-loop-i-1}
 

@@ -1,11 +1,8 @@
 -- `text::spelling::any_wrong_by` meets its contract. The loop's invariant, `Clean`: whether the table has had 0 for each of the
 -- first i. The measure is the number of bytes left.
-use Prim.Native.Nat.{◌-◌, ◌<◌}
-use native.Mathlib.Omega.{arith}
-use mathlib.Core.Path.{refl}
-use borrow.Author.Rules.{rules}
-use lib.ListN.{length, get_or}
-use Rattle.text.proofs.Blocks.{Clean, clean-none, clean-more, clean_all, blocks-by}
+use Prim.Native.Nat.{◌-◌}
+use lib.ListN.{length}
+use Rattle.text.proofs.Blocks.{Clean}
 use Rattle.text.proofs.spelling.any_wrong_by.Given as goal
 
 abbrev pub invariant-loop-i : goal.invariant-loop-i

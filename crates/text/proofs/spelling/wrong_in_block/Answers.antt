@@ -1,11 +1,10 @@
-use Prim.Native.Nat.{ℕ, ◌-◌, ◌≤◌, ◌<◌}
+use Prim.Native.Nat.{ℕ, ◌<◌}
 use native.Mathlib.Omega.{arith}
 use mathlib.Core.Path.{◌≡◌, sym, ap, ◌∙◌}
 use mathlib.Core.Bool.{not}
-use borrow.Author.Rules.{rules}
-use lib.ListN.{length, take, drop, length-drop}
+use lib.ListN.{length, drop, length-drop}
 use lib.Seq.{get_or-drop}
-use Rattle.text.specs.Letter.{letter, every}
+use Rattle.text.specs.Letter.{letter}
 use Rattle.text.proofs.Blocks.{wrong-none, wrong-more}
 use Rattle.text.proofs.spelling.wrong_in_block.Goals as goal
 

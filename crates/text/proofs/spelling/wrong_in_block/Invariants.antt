@@ -1,14 +1,10 @@
 -- `text::spelling::wrong_in_block` meets its contract. The loop's invariant: whether one of the first i from `at` on is no letter. The
 -- measure is the number of bytes left.
-use Prim.Native.Nat.{ℕ, ◌-◌, ◌≤◌, ◌<◌}
-use native.Mathlib.Omega.{arith}
-use mathlib.Core.Path.{◌≡◌, sym, ap, ◌∙◌}
+use Prim.Native.Nat.{◌-◌, ◌≤◌}
+use mathlib.Core.Path.{◌≡◌}
 use mathlib.Core.Bool.{not}
-use borrow.Author.Rules.{rules}
-use lib.ListN.{length, take, drop, length-drop}
-use lib.Seq.{get_or-drop}
+use lib.ListN.{take, drop}
 use Rattle.text.specs.Letter.{letter, every}
-use Rattle.text.proofs.Blocks.{wrong-none, wrong-more}
 use Rattle.text.proofs.spelling.wrong_in_block.Given as goal
 
 abbrev pub invariant-loop-i : goal.invariant-loop-i

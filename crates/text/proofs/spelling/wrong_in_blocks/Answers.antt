@@ -1,8 +1,6 @@
-use Prim.Native.Nat.{◌-◌}
 use native.Mathlib.Omega.{arith}
-use borrow.Author.Rules.{rules}
 use Rattle.text.specs.Letter.{letter}
-use Rattle.text.proofs.Blocks.{Blocks, blocks-none, blocks_more, blocks-all}
+use Rattle.text.proofs.Blocks.{blocks-none, blocks_more, blocks-all}
 use Rattle.text.proofs.spelling.wrong_in_blocks.Goals as goal
 
 pub wrong_in_block-wrong-requires : goal.wrong_in_block-wrong-requires

@@ -1,6 +1,5 @@
 -- `text::state::is_state` meets its contract, by bit 0 and by what `within` ensures.
 use mathlib.Core.Path.{sym, ◌∙◌}
-use borrow.Author.Rules.{rules}
 use Rattle.text.proofs.States.{state-even, state-odd}
 use Rattle.text.proofs.state.is_state.Goals as goal
 

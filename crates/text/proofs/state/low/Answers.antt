@@ -1,6 +1,5 @@
 -- `text::state::low` meets its contract: 64 ones, or a lone bit m less 1.
 use mathlib.Core.Path.{sym}
-use borrow.Author.Rules.{rules}
 use native.Mathlib.Omega.{arith}
 use lib.Pow.{pow_pos}
 use Rattle.text.proofs.States.{low-all, shifted, low-shifted}

@@ -1,8 +1,5 @@
-use Prim.Native.Nat.{◌-◌}
 use mathlib.Core.Path.{refl}
-use borrow.Author.Rules.{rules}
-use lib.ListN.{length}
-use Rattle.text.proofs.Padding.{Padding, padding-none, padding-more, padding-all}
+use Rattle.text.proofs.Padding.{padding-none, padding-more, padding-all}
 use Rattle.text.proofs.strand.copied.Goals as goal
 
 pub loop-i-init : goal.loop-i-init

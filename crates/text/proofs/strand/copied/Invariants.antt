@@ -1,10 +1,8 @@
 -- `text::strand::copied` meets its contract. The loop's invariant, `Padding`: the first i bytes are copied. The measure is the number of
 -- bytes left.
 use Prim.Native.Nat.{◌-◌}
-use mathlib.Core.Path.{refl}
-use borrow.Author.Rules.{rules}
 use lib.ListN.{length}
-use Rattle.text.proofs.Padding.{Padding, padding-none, padding-more, padding-all}
+use Rattle.text.proofs.Padding.{Padding}
 use Rattle.text.proofs.strand.copied.Given as goal
 
 abbrev pub invariant-loop-i : goal.invariant-loop-i

@@ -1,7 +1,6 @@
 -- `text::strand::read_on` meets its contract, by what `copied` and `turned` ensure.
 use native.Mathlib.Omega.{arith}
 use mathlib.Core.Path.{sym, ◌∙◌}
-use borrow.Author.Rules.{rules}
 use lib.ListN.{length-take}
 use Rattle.text.specs.declared.strand.Strand.TheVariants.{Given, Opposite}
 use Rattle.text.proofs.Strands.{read_known, read-long}

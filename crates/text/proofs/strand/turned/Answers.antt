@@ -1,8 +1,4 @@
-use Prim.Native.Nat.{◌-◌}
-use borrow.Author.Rules.{rules}
-use lib.ListN.{length}
-use Rattle.text.specs.Strand.{opposite}
-use Rattle.text.proofs.Padding.{Padding, padding-none}
+use Rattle.text.proofs.Padding.{padding-none}
 use Rattle.text.proofs.Strands.{turned_more, turned-all}
 use Rattle.text.proofs.strand.turned.Goals as goal
 

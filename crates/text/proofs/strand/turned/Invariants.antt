@@ -1,11 +1,9 @@
 -- `text::strand::turned` meets its contract. The loop's invariant, `Padding`: the first i bytes of the opposite are written. The measure is
 -- the number of bytes left.
 use Prim.Native.Nat.{◌-◌}
-use borrow.Author.Rules.{rules}
 use lib.ListN.{length}
 use Rattle.text.specs.Strand.{opposite}
-use Rattle.text.proofs.Padding.{Padding, padding-none}
-use Rattle.text.proofs.Strands.{turned_more, turned-all}
+use Rattle.text.proofs.Padding.{Padding}
 use Rattle.text.proofs.strand.turned.Given as goal
 
 abbrev pub invariant-loop-i : goal.invariant-loop-i

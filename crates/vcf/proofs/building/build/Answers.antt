@@ -1,6 +1,5 @@
 -- `vcf::building::build` meets its contract: what the survey refuses, the room, and the text.
 use mathlib.Core.Path.{refl}
-use borrow.Author.Rules.{rules}
 use Rattle.writer.proofs.Writings.{refused-leaves}
 use Rattle.vcf.proofs.Builds.{build-leaves}
 use Rattle.vcf.proofs.building.build.Goals as goal

@@ -1,8 +1,5 @@
-use Prim.Native.Nat.{◌-◌}
 use native.Mathlib.Omega.{arith}
-use borrow.Author.Rules.{rules}
-use lib.ListN.{length}
-use Rattle.vcf.proofs.Marks.{Counting, counting-none, counting-few, counting-last, counting_more}
+use Rattle.vcf.proofs.Marks.{counting-none, counting-few, counting-last, counting_more}
 use Rattle.vcf.proofs.put.count.Goals as goal
 
 pub loop-mark-init : goal.loop-mark-init

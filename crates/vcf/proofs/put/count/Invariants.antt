@@ -1,10 +1,8 @@
 -- `vcf::put::count` meets its contract. The loop's invariant, `Counting`: n - 1 pieces stand before `from`. The measure is the number of
 -- bytes left.
 use Prim.Native.Nat.{◌-◌}
-use native.Mathlib.Omega.{arith}
-use borrow.Author.Rules.{rules}
 use lib.ListN.{length}
-use Rattle.vcf.proofs.Marks.{Counting, counting-none, counting-few, counting-last, counting_more}
+use Rattle.vcf.proofs.Marks.{Counting}
 use Rattle.vcf.proofs.put.count.Given as goal
 
 abbrev pub invariant-loop-mark : goal.invariant-loop-mark

@@ -1,10 +1,9 @@
 use Prim.Native.Nat.{ℕ, ◌+◌, ◌-◌, ◌<◌, ◌≤◌}
 use native.Mathlib.Omega.{arith}
 use mathlib.Core.Path.{◌≡◌, ◌∙◌}
-use borrow.Author.Rules.{rules}
 use lib.ListN.{length}
 use Rattle.layout.specs.Sizes.{after_variant}
-use Rattle.vcf.proofs.Emitting.{Alleles, alleles-none, alleles-room, alleles-kept, alleles-more, alleles-end}
+use Rattle.vcf.proofs.Emitting.{alleles-none, alleles-room, alleles-kept, alleles-more, alleles-end}
 use Rattle.vcf.proofs.put.put_alleles.Goals as goal
 use Rattle.vcf.proofs.put.put_alleles.Goals.{After-after_variant-next, After-end_of-end, After-slice_known-1}
 

@@ -1,8 +1,7 @@
 -- `vcf::put::put_gap` meets its contract.
-use Prim.Native.Nat.{◌+◌, ◌<◌}
+use Prim.Native.Nat.{◌<◌}
 use native.Mathlib.Omega.{arith}
 use mathlib.Core.Path.{◌≡◌, ◌∙◌}
-use borrow.Author.Rules.{rules}
 use lib.ListN.{length}
 use Rattle.text.specs.Letter.{meant}
 use Rattle.layout.specs.Encoding.{bytes_of, encode_segment}

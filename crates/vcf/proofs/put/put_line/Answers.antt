@@ -2,7 +2,6 @@
 use Prim.Native.Nat.{◌-◌, ◌+◌, ◌<◌, ◌≤◌, min}
 use native.Mathlib.Omega.{arith}
 use mathlib.Core.Path.{◌≡◌, refl, sym, ap, ◌∙◌}
-use borrow.Author.Rules.{rules}
 use lib.ListN.{length, take, drop}
 use Rattle.layout.proofs.Raised.{part-meant}
 use Rattle.text.specs.Letter.{meant}

@@ -2,7 +2,6 @@ use Prim.Native.Nat.{ℕ, ◌-◌, ◌<◌, ◌≤◌}
 use native.Mathlib.Omega.{arith}
 use mathlib.Core.Path.{◌≡◌, ◌∙◌}
 use mathlib.Core.List.{List}
-use borrow.Author.Rules.{rules}
 use lib.ListN.{length, take, drop}
 use Rattle.text.specs.Letter.{meant}
 use Rattle.text.proofs.Likes.{meant-length}
@@ -10,7 +9,7 @@ use Rattle.layout.specs.Bytes.{word_bytes}
 use Rattle.layout.proofs.Raised.{part-meant}
 use Rattle.layout.proofs.Overs.{put-over}
 use Rattle.vcf.proofs.Marks.{next-behind}
-use Rattle.vcf.proofs.Lines.{readable-room, Putting, putting-none, putting-kept, putting-line, putting-placing, putting-room}
+use Rattle.vcf.proofs.Lines.{readable-room, putting-none, putting-kept, putting-line, putting-placing, putting-room}
 use Rattle.vcf.proofs.Lines.{putting-more, last-room, putting-end}
 use Rattle.vcf.proofs.put.put_text.Goals as goal
 use Rattle.vcf.proofs.put.put_text.Goals.{At-loop-put}

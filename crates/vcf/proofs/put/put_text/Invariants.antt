@@ -1,19 +1,9 @@
 -- `vcf::put::put_text` meets its contract. The loop's invariant, `Putting`: the lines left add the rest of the text. The measure is
 -- the number of bytes left.
-use Prim.Native.Nat.{ℕ, ◌-◌, ◌<◌, ◌≤◌}
-use native.Mathlib.Omega.{arith}
-use mathlib.Core.Path.{◌≡◌, ◌∙◌}
-use mathlib.Core.List.{List}
-use borrow.Author.Rules.{rules}
-use lib.ListN.{length, take, drop}
+use Prim.Native.Nat.{◌-◌}
+use lib.ListN.{length}
 use Rattle.text.specs.Letter.{meant}
-use Rattle.text.proofs.Likes.{meant-length}
-use Rattle.layout.specs.Bytes.{word_bytes}
-use Rattle.layout.proofs.Raised.{part-meant}
-use Rattle.layout.proofs.Overs.{put-over}
-use Rattle.vcf.proofs.Marks.{next-behind}
-use Rattle.vcf.proofs.Lines.{readable-room, Putting, putting-none, putting-kept, putting-line, putting-placing, putting-room}
-use Rattle.vcf.proofs.Lines.{putting-more, last-room, putting-end}
+use Rattle.vcf.proofs.Lines.{Putting}
 use Rattle.vcf.proofs.put.put_text.Given as goal
 
 abbrev pub invariant-loop-put : goal.invariant-loop-put

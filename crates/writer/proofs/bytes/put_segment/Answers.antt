@@ -1,8 +1,7 @@
 use Prim.Native.Nat.{◌+◌, ◌-◌, ◌<◌, ◌≤◌}
 use native.Mathlib.Omega.{arith}
 use mathlib.Core.Path.{◌≡◌, ap, ◌∙◌}
-use borrow.Author.Rules.{rules}
-use lib.ListN.{length, length-take, length-drop}
+use lib.ListN.{length}
 use Rattle.text.specs.Letter.{meant}
 use Rattle.text.specs.Text.{Variant}
 use Rattle.text.proofs.Likes.{meant-length}
@@ -12,7 +11,7 @@ use Rattle.layout.specs.Sizes.{after_variant}
 use Rattle.layout.proofs.Raised.{part-meant}
 use Rattle.writer.proofs.Cuts.{passing-number, passing-inside}
 use Rattle.layout.proofs.Overs.{emitted-length}
-use Rattle.writer.proofs.SegmentBytes.{VariantsPut, variants-room, variants-more, segment-room, segment-none, segment-end}
+use Rattle.writer.proofs.SegmentBytes.{variants-room, variants-more, segment-room, segment-none, segment-end}
 use Rattle.writer.proofs.bytes.put_segment.Goals as goal
 use Rattle.writer.proofs.bytes.put_segment.Goals.{After-slice_known-1, After-stated-size, At-loop-k, In-loop-k}
 

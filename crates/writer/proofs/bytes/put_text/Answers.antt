@@ -1,15 +1,13 @@
-use Prim.Native.Nat.{◌-◌, ◌<◌, ◌≤◌}
+use Prim.Native.Nat.{◌<◌, ◌≤◌}
 use native.Mathlib.Omega.{arith}
 use mathlib.Core.Path.{◌≡◌, ◌∙◌}
-use borrow.Author.Rules.{rules}
 use lib.ListN.{length}
-use Rattle.text.specs.Letter.{meant}
 use Rattle.layout.specs.Bytes.{word_bytes}
 use Rattle.layout.specs.Sizes.{first_segment, text_bytes}
 use Rattle.writer.specs.Writing.{needed}
 use Rattle.layout.proofs.Overs.{emitted-length, put-over}
 use Rattle.writer.proofs.Texts.{matched-within}
-use Rattle.writer.proofs.TextBytes.{SegmentsPut, segments-none, segments-room, segments-more, segments-end, text-over}
+use Rattle.writer.proofs.TextBytes.{segments-none, segments-room, segments-more, segments-end, text-over}
 use Rattle.writer.proofs.bytes.put_text.Goals as goal
 use Rattle.writer.proofs.bytes.put_text.Goals.{After-slice_known-1, After-text_bytes-at, At-loop-segment}
 

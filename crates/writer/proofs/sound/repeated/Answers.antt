@@ -1,13 +1,11 @@
 use Prim.Native.Nat.{◌+◌, ◌-◌, ◌<◌, ◌≤◌}
 use native.Mathlib.Omega.{arith}
 use mathlib.Core.Path.{sym, ◌∙◌}
-use borrow.Author.Rules.{rules}
 use lib.ListN.{length}
-use Rattle.text.specs.Letter.{meant}
 use Rattle.text.proofs.Likes.{meant-length}
 use Rattle.layout.proofs.Raised.{alike-part}
 use Rattle.writer.proofs.Cuts.{passing-number, passing-inside}
-use Rattle.writer.proofs.RepeatsInWrite.{Compared, compared-none, compared_same, compared-more, compared-end}
+use Rattle.writer.proofs.RepeatsInWrite.{compared-none, compared_same, compared-more, compared-end}
 use Rattle.writer.proofs.sound.repeated.Goals as goal
 use Rattle.writer.proofs.sound.repeated.Goals.{After-stated, In-loop-i}
 

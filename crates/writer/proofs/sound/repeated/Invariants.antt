@@ -1,15 +1,8 @@
 -- `writer::sound::repeated` meets its contract. The loop's invariant, `Compared`: the variant is equal to none of the
 -- first i, and is compared on from there. The measure is the number of variants left.
-use Prim.Native.Nat.{◌+◌, ◌-◌, ◌<◌, ◌≤◌}
-use native.Mathlib.Omega.{arith}
-use mathlib.Core.Path.{sym, ◌∙◌}
-use borrow.Author.Rules.{rules}
-use lib.ListN.{length}
+use Prim.Native.Nat.{◌-◌}
 use Rattle.text.specs.Letter.{meant}
-use Rattle.text.proofs.Likes.{meant-length}
-use Rattle.layout.proofs.Raised.{alike-part}
-use Rattle.writer.proofs.Cuts.{passing-number, passing-inside}
-use Rattle.writer.proofs.RepeatsInWrite.{Compared, compared-none, compared_same, compared-more, compared-end}
+use Rattle.writer.proofs.RepeatsInWrite.{Compared}
 use Rattle.writer.proofs.sound.repeated.Given as goal
 
 abbrev pub invariant-loop-i : goal.invariant-loop-i

@@ -1,10 +1,7 @@
-use Prim.Native.Nat.{◌-◌}
 use mathlib.Core.Path.{sym, ap, ◌∙◌}
-use borrow.Author.Rules.{rules}
 use Rattle.text.specs.Refusal.{told_amount}
-use Rattle.text.specs.Letter.{meant}
 use Rattle.writer.proofs.Cuts.{passing-behind}
-use Rattle.writer.proofs.GivenSegment.{segment-empty, VariantsAccepted}
+use Rattle.writer.proofs.GivenSegment.{segment-empty}
 use Rattle.writer.proofs.GivenSegment.{accepted-none, accepted-refused, accepted-more, accepted-end}
 use Rattle.writer.proofs.sound.segment_given.Goals as goal
 

@@ -1,13 +1,8 @@
 -- `writer::sound::segment_given` meets its contract. The loop's invariant, `VariantsAccepted`: a walk over the segment's
 -- variants has accepted k of them. The measure is the number of variants left.
 use Prim.Native.Nat.{◌-◌}
-use mathlib.Core.Path.{sym, ap, ◌∙◌}
-use borrow.Author.Rules.{rules}
-use Rattle.text.specs.Refusal.{told_amount}
 use Rattle.text.specs.Letter.{meant}
-use Rattle.writer.proofs.Cuts.{passing-behind}
-use Rattle.writer.proofs.GivenSegment.{segment-empty, VariantsAccepted}
-use Rattle.writer.proofs.GivenSegment.{accepted-none, accepted-refused, accepted-more, accepted-end}
+use Rattle.writer.proofs.GivenSegment.{VariantsAccepted}
 use Rattle.writer.proofs.sound.segment_given.Given as goal
 
 abbrev pub invariant-loop-k : goal.invariant-loop-k

@@ -1,12 +1,8 @@
-use Prim.Native.Nat.{◌-◌}
 use native.Mathlib.Omega.{arith}
 use mathlib.Core.Path.{sym, ap, ◌∙◌}
-use borrow.Author.Rules.{rules}
-use lib.ListN.{length}
 use Rattle.text.specs.Refusal.{told_amount}
-use Rattle.text.specs.Letter.{meant}
 use Rattle.writer.proofs.Texts.{matched-within}
-use Rattle.writer.proofs.GivenText.{SegmentsAccepted, accepted-none, accepted-refused, accepted-more, accepted-end}
+use Rattle.writer.proofs.GivenText.{accepted-none, accepted-refused, accepted-more, accepted-end}
 use Rattle.writer.proofs.sound.segments_given.Goals as goal
 
 pub loop-segment-init : goal.loop-segment-init

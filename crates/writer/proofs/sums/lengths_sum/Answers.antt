@@ -1,8 +1,5 @@
-use Prim.Native.Nat.{◌-◌}
 use mathlib.Core.Path.{sym}
-use borrow.Author.Rules.{rules}
-use lib.ListN.{length}
-use Rattle.writer.proofs.Totals.{Summing, summing-none, summing-more, summing-over, summing-end}
+use Rattle.writer.proofs.Totals.{summing-none, summing-more, summing-over, summing-end}
 use Rattle.writer.proofs.sums.lengths_sum.Goals as goal
 
 pub loop-i-init : goal.loop-i-init

@@ -1,10 +1,8 @@
 -- `writer::sums::lengths_sum` meets its contract. The loop's invariant, `Summing`: what is left of the target and the
 -- lengths from i on say whether the sum is the target. The measure is the number of lengths left.
 use Prim.Native.Nat.{◌-◌}
-use mathlib.Core.Path.{sym}
-use borrow.Author.Rules.{rules}
 use lib.ListN.{length}
-use Rattle.writer.proofs.Totals.{Summing, summing-none, summing-more, summing-over, summing-end}
+use Rattle.writer.proofs.Totals.{Summing}
 use Rattle.writer.proofs.sums.lengths_sum.Given as goal
 
 abbrev pub invariant-loop-i : goal.invariant-loop-i

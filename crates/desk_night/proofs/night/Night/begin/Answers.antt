@@ -1,5 +1,4 @@
 -- `desk_night::night::Night::begin` meets its contract.
-use borrow.Author.Rules.{rules}
 use Rattle.desk_night.proofs.Nights.{begins}
 use Rattle.desk_night.proofs.night.Night.begin.Goals as goal
 

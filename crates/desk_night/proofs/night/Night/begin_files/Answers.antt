@@ -1,5 +1,4 @@
 -- `desk_night::night::Night::begin_files` meets its contract.
-use borrow.Author.Rules.{rules}
 use Rattle.desk_night.proofs.Nights.{begins-files}
 use Rattle.desk_night.proofs.night.Night.begin_files.Goals as goal
 

@@ -1,6 +1,5 @@
 -- `desk_night::night::Night::end` meets its contract.
 use borrow.Author.Tests.{not-true, not-false}
-use borrow.Author.Rules.{rules}
 use Rattle.desk_night.proofs.Nights.{ending-trouble, ending-over, ending-unvouched, ending-found}
 use Rattle.desk_night.proofs.night.Night.end.Goals as goal
 

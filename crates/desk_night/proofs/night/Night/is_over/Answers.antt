@@ -1,6 +1,5 @@
 -- `desk_night::night::Night::is_over` meets its contract.
 use borrow.Author.Tests.{not-true, not-false}
-use borrow.Author.Rules.{rules}
 use Rattle.desk_night.proofs.Nights.{over-by-trouble, over-never, over-ended}
 use Rattle.desk_night.proofs.night.Night.is_over.Goals as goal
 

@@ -1,5 +1,4 @@
 -- `desk_night::night::Night::missed` meets its contract.
-use borrow.Author.Rules.{rules}
 use Rattle.desk_night.proofs.Nights.{missing-first, missing-more}
 use Rattle.desk_night.proofs.night.Night.missed.Goals as goal
 

@@ -1,7 +1,6 @@
 -- `desk_night::night::Night::over` meets its contract.
 use borrow.Author.Tests.{not-true, not-false}
 use mathlib.Core.Path.{refl}
-use borrow.Author.Rules.{rules}
 use Rattle.desk_night.proofs.Nights.{over-trouble, over-files, over-next, over-changed, over-added}
 use Rattle.desk_night.proofs.night.Night.over.Goals as goal
 

@@ -1,7 +1,6 @@
 -- `desk_verdict::said::put::put_counted` meets its contract: the word, then the digits.
 use Rattle.lines.proofs.Putting.{put-more}
 use Rattle.desk_verdict.specs.Said.{counted}
-use borrow.Author.Rules.{rules}
 use Rattle.desk_verdict.proofs.said.put.put_counted.Goals as goal
 
 pub returns : goal.returns

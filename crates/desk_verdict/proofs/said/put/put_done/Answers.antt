@@ -1,5 +1,4 @@
 -- `desk_verdict::said::put::put_done` meets its contract: the two numbers, one after another.
-use borrow.Author.Rules.{rules}
 use Rattle.lines.proofs.Putting.{put-more}
 use Rattle.desk_verdict.specs.Said.{done_line}
 use Rattle.desk_verdict.proofs.Saying.{put-fits}

@@ -1,5 +1,4 @@
 -- `desk_verdict::said::put::put_fault` meets its contract: the number of the line, then the words.
-use borrow.Author.Rules.{rules}
 use Rattle.lines.proofs.Putting.{put-more}
 use Rattle.desk_verdict.specs.Said.{fault_words}
 use Rattle.desk_verdict.proofs.Saying.{put-fits}

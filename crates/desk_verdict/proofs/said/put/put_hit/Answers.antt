@@ -1,7 +1,6 @@
 -- `desk_verdict::said::put::put_hit` meets its contract: the label, the two numbers and the name, one after another.
 use Rattle.lines.proofs.Putting.{put-more}
 use Rattle.desk_verdict.proofs.Saying.{put-fits, hit-put}
-use borrow.Author.Rules.{rules}
 use Rattle.desk_verdict.proofs.said.put.put_hit.Goals as goal
 
 pub returns : goal.returns

@@ -1,7 +1,6 @@
 -- `desk_verdict::said::put::put_named` meets its contract: the word, the name and the line's end, one after another.
 use Rattle.lines.proofs.Putting.{put-more}
 use Rattle.desk_verdict.specs.Said.{named}
-use borrow.Author.Rules.{rules}
 use Rattle.desk_verdict.proofs.said.put.put_named.Goals as goal
 
 pub returns : goal.returns

@@ -2,7 +2,6 @@
 use Rattle.lines.proofs.Putting.{put-more}
 use Rattle.desk_verdict.specs.Said.{refused_line}
 use Rattle.desk_verdict.proofs.Saying.{put-fits}
-use borrow.Author.Rules.{rules}
 use Rattle.desk_verdict.proofs.said.put.put_refused.Goals as goal
 
 pub returns : goal.returns

@@ -1,7 +1,6 @@
 -- `desk_verdict::said::put::put_standing` meets its contract, whether the sequence ends anywhere or not.
 use Rattle.lines.proofs.Putting.{put-more}
 use Rattle.desk_verdict.proofs.Saying.{put-fits, clear-put, held-put}
-use borrow.Author.Rules.{rules}
 use Rattle.desk_verdict.proofs.said.put.put_standing.Goals as goal
 
 pub returns-then-standing-eq0 : goal.returns-then-standing-eq0

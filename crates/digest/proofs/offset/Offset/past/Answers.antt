@@ -1,5 +1,5 @@
 -- `digest::offset::Offset::past` meets its contract: with a carry and without (Offsets).
-use Rattle.std.proofs.Common.{◌^◌, ◌<◌, arith, rules}
+use Rattle.std.proofs.Common.{◌^◌, ◌<◌, arith}
 use Rattle.digest.proofs.Offsets.{carried, kept}
 use Rattle.digest.proofs.offset.Offset.past.Goals as goal
 

@@ -1,5 +1,4 @@
 -- `eds_notation::filling::Tape::empty` meets its contract.
-use borrow.Author.Rules.{rules}
 use mathlib.Core.Path.{ap}
 use Rattle.eds_notation.specs.declared.notation.Begun.{Begun}
 use Rattle.eds_notation.specs.declared.filling.Tape.{Tape}

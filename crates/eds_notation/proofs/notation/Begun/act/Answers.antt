@@ -1,5 +1,4 @@
 -- `eds_notation::notation::Begun::act` meets its contract.
-use borrow.Author.Rules.{rules}
 use mathlib.Core.Path.{sym, ◌∙◌}
 use Rattle.eds_notation.proofs.Acts.{act-white, act-letter, act-opened, act-comma, act-closed, act-none}
 use Rattle.eds_notation.proofs.notation.Begun.act.Goals as goal

@@ -1,5 +1,4 @@
 -- `eds_notation::notation::Begun::comma` meets its contract.
-use borrow.Author.Rules.{rules}
 use Rattle.eds_notation.proofs.Acts.{comma-many, comma-next}
 use Rattle.eds_notation.proofs.notation.Begun.comma.Goals as goal
 

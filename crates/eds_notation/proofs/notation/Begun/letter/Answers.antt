@@ -1,5 +1,4 @@
 -- `eds_notation::notation::Begun::letter` meets its contract.
-use borrow.Author.Rules.{rules}
 use Rattle.eds_notation.proofs.Acts.{letter-long, letter-spelt, letter-more}
 use Rattle.eds_notation.proofs.notation.Begun.letter.Goals as goal
 

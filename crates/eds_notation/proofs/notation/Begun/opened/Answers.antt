@@ -1,5 +1,4 @@
 -- `eds_notation::notation::Begun::opened` meets its contract.
-use borrow.Author.Rules.{rules}
 use mathlib.Core.Path.{ap, sym, ◌∙◌}
 use Rattle.eds_notation.specs.Notation.{opened}
 use Rattle.eds_notation.specs.declared.notation.Act.TheVariants.{Pass, Segment}

@@ -1,7 +1,4 @@
-use borrow.Author.Rules.{rules}
-use Prim.Native.Nat.{◌-◌}
-use lib.ListN.{length}
-use Rattle.eds_notation.proofs.Lines.{Behind, behind-none, behind_more, behind-cut, behind-all}
+use Rattle.eds_notation.proofs.Lines.{behind-none, behind_more, behind-cut, behind-all}
 use Rattle.eds_notation.proofs.place.Place.behind.Goals as goal
 
 pub loop-i-init : goal.loop-i-init

@@ -1,10 +1,9 @@
 -- `eds_notation::place::Place::behind` meets its contract.
 -- The loop's invariant, `Behind`: the bytes left lead from here to where all of them lead. The measure
 -- is the number of bytes left.
-use borrow.Author.Rules.{rules}
 use Prim.Native.Nat.{◌-◌}
 use lib.ListN.{length}
-use Rattle.eds_notation.proofs.Lines.{Behind, behind-none, behind_more, behind-cut, behind-all}
+use Rattle.eds_notation.proofs.Lines.{Behind}
 use Rattle.eds_notation.proofs.place.Place.behind.Given as goal
 
 abbrev pub invariant-loop-i : goal.invariant-loop-i

@@ -1,5 +1,4 @@
 -- `eds_notation::place::Place::over` meets its contract.
-use borrow.Author.Rules.{rules}
 use Rattle.eds_notation.proofs.Lines.{over-end, over-byte}
 use Rattle.eds_notation.proofs.place.Place.over.Goals as goal
 

@@ -1,5 +1,5 @@
 -- `layout::cursor::Cursor::compared` meets its contract, from what `repeated_at` tells.
-use Rattle.std.proofs.Common.{sym, ◌∙◌, rules}
+use Rattle.std.proofs.Common.{sym, ◌∙◌}
 use Rattle.layout.proofs.Walking.{compared-again, compared-new}
 use Rattle.layout.proofs.cursor.Cursor.compared.Goals as goal
 

@@ -1,5 +1,5 @@
 -- `layout::cursor::Cursor::enter` meets its contract, from what `variants` tells.
-use Rattle.std.proofs.Common.{sym, arith, rules}
+use Rattle.std.proofs.Common.{sym, arith}
 use Rattle.layout.proofs.Frames.{count-met}
 use Rattle.layout.proofs.Walking.{enter-not, enter-is}
 use Rattle.layout.proofs.cursor.Cursor.enter.Goals as goal

@@ -1,5 +1,5 @@
 -- `layout::cursor::Cursor::past` meets its contract.
-use Rattle.std.proofs.Common.{sym, rules}
+use Rattle.std.proofs.Common.{sym}
 use Rattle.layout.proofs.Walking.{past_is}
 use Rattle.layout.proofs.cursor.Cursor.past.Goals as goal
 

@@ -1,5 +1,5 @@
 -- `layout::walk::Walk::open` meets its contract, by its one test.
-use Rattle.std.proofs.Common.{sym, rules}
+use Rattle.std.proofs.Common.{sym}
 use Rattle.layout.proofs.Going.{opened-cut, opened-is}
 use Rattle.layout.proofs.walk.Walk.open.Goals as goal
 

@@ -1,5 +1,5 @@
 -- `layout::walk::Walk::past` meets its contract.
-use Rattle.std.proofs.Common.{sym, rules}
+use Rattle.std.proofs.Common.{sym}
 use Rattle.layout.proofs.Going.{passed_is}
 use Rattle.layout.proofs.walk.Walk.past.Goals as goal
 

@@ -1,5 +1,5 @@
 -- `pool_files::held::Held::bases` meets its contract.
-use Rattle.std.proofs.Common.{◌-◌, ◌≤◌, arith, rules}
+use Rattle.std.proofs.Common.{arith}
 use Rattle.pool_files.proofs.Rooms.{room_most, bases-none, bases-full, bases-fit}
 use Rattle.pool_files.proofs.held.Held.bases.Goals as goal
 

@@ -1,5 +1,4 @@
 -- `pool_files::held::Held::record` meets its contract.
-use Rattle.std.proofs.Common.{rules}
 use Rattle.pool_files.proofs.Rooms.{record-far, record-full, record-fit}
 use Rattle.pool_files.proofs.held.Held.record.Goals as goal
 

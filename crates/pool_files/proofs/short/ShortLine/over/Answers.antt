@@ -1,5 +1,5 @@
 -- `pool_files::short::ShortLine::over` meets its contract, act by act.
-use Rattle.std.proofs.Common.{sym, ap, ◌∙◌, arith, rules}
+use Rattle.std.proofs.Common.{sym, ap, ◌∙◌, arith}
 use Rattle.pool_files.specs.Short.{in_field, tabbed}
 use Rattle.pool_files.specs.declared.short.Act.TheVariants.{Skip, Keep, Name, Count, Comment}
 use Rattle.pool_files.proofs.Shorts.{next_small, over-line, over-buffer, next-line, next-buffer}

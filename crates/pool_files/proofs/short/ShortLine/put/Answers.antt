@@ -1,5 +1,5 @@
 -- `pool_files::short::ShortLine::put` meets its contract.
-use Rattle.std.proofs.Common.{sym, rules, le-leb}
+use Rattle.std.proofs.Common.{sym, le-leb}
 use borrow.Author.Tests.{lt-leb}
 use Rattle.pool_files.specs.Short.{putting}
 use Rattle.pool_files.proofs.short.ShortLine.put.Goals as goal

@@ -1,5 +1,5 @@
 -- `test_random::drawn::masks::mask` is safe and ends: the buffer keeps its length. The measure is the number of letters left.
-use Rattle.std.proofs.Common.{◌≡◌, ◌-◌, length, rules}
+use Rattle.std.proofs.Common.{◌≡◌, ◌-◌, length}
 use Rattle.test_random.proofs.drawn.masks.mask.Given as goal
 
 abbrev pub invariant-loop-i : goal.invariant-loop-i

@@ -1,5 +1,5 @@
 -- `test_random::drawn::texts::text` is safe and ends: the buffer keeps its length. The measure is the number of segments left.
-use Rattle.std.proofs.Common.{◌≡◌, ◌-◌, length, rules}
+use Rattle.std.proofs.Common.{◌≡◌, ◌-◌, length}
 use Rattle.test_random.proofs.drawn.texts.text.Given as goal
 
 abbrev pub invariant-loop-j : goal.invariant-loop-j

@@ -1,5 +1,5 @@
 -- `test_reference::places::apart::lengths` is safe and ends: the buffer keeps its length. The measure is the number of places left.
-use Rattle.std.proofs.Common.{◌≡◌, ◌-◌, length, rules}
+use Rattle.std.proofs.Common.{◌≡◌, ◌-◌, length}
 use Rattle.test_reference.proofs.places.apart.lengths.Given as goal
 
 abbrev pub invariant-loop-k : goal.invariant-loop-k

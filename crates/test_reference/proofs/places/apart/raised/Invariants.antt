@@ -1,5 +1,5 @@
 -- `test_reference::places::apart::raised` is safe and ends: the buffer keeps its length. The measure is the number of variants left.
-use Rattle.std.proofs.Common.{◌≡◌, ◌-◌, length, rules}
+use Rattle.std.proofs.Common.{◌≡◌, ◌-◌, length}
 use Rattle.test_reference.proofs.places.apart.raised.Given as goal
 
 abbrev pub invariant-loop-k : goal.invariant-loop-k

@@ -1,5 +1,5 @@
 -- `test_reference::places::meanings::alike` is safe and ends. The measure is the number of letters left.
-use Rattle.std.proofs.Common.{◌-◌, ◌≤◌, length, rules}
+use Rattle.std.proofs.Common.{◌-◌, ◌≤◌, length}
 use Rattle.test_reference.proofs.places.meanings.alike.Given as goal
 
 abbrev pub invariant-loop-i : goal.invariant-loop-i

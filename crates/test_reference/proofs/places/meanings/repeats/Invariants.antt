@@ -1,5 +1,5 @@
 -- `test_reference::places::meanings::repeats` is safe and ends. The measure is the number of variants left.
-use Rattle.std.proofs.Common.{◌-◌, ◌≤◌, rules}
+use Rattle.std.proofs.Common.{◌-◌, ◌≤◌}
 use Rattle.test_reference.proofs.places.meanings.repeats.Given as goal
 
 abbrev pub invariant-loop-i : goal.invariant-loop-i

@@ -1,5 +1,5 @@
 -- `test_reference::places::parts::place_of` is safe and ends. The measure is the number of segments left.
-use Rattle.std.proofs.Common.{◌-◌, ◌≤◌, rules}
+use Rattle.std.proofs.Common.{◌-◌, ◌≤◌}
 use Rattle.test_reference.proofs.places.parts.place_of.Given as goal
 
 abbrev pub invariant-loop-segment : goal.invariant-loop-segment

@@ -1,5 +1,5 @@
 -- `test_reference::places::parts::put_part` is safe and ends: the buffer keeps its length. The measure is the number of bytes left.
-use Rattle.std.proofs.Common.{◌≡◌, ◌-◌, length, rules}
+use Rattle.std.proofs.Common.{◌≡◌, ◌-◌, length}
 use Rattle.test_reference.proofs.places.parts.put_part.Given as goal
 
 abbrev pub invariant-loop-i : goal.invariant-loop-i

@@ -1,5 +1,5 @@
 -- `test_reference::places::strands::turned` is safe and ends: the buffer keeps its length. The measure is the number of bases left.
-use Rattle.std.proofs.Common.{◌≡◌, ◌-◌, length, rules}
+use Rattle.std.proofs.Common.{◌≡◌, ◌-◌, length}
 use Rattle.test_reference.proofs.places.strands.turned.Given as goal
 
 abbrev pub invariant-loop-i : goal.invariant-loop-i

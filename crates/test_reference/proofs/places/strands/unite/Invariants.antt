@@ -1,5 +1,5 @@
 -- `test_reference::places::strands::unite` is safe and ends: the marks keep their number. The measure is the number of marks left.
-use Rattle.std.proofs.Common.{◌≡◌, ◌-◌, length, rules}
+use Rattle.std.proofs.Common.{◌≡◌, ◌-◌, length}
 use Rattle.test_reference.proofs.places.strands.unite.Given as goal
 
 abbrev pub invariant-loop-j : goal.invariant-loop-j

@@ -1,6 +1,5 @@
 -- `vcf::records::pieces::end_of` meets its contract.
 use native.Mathlib.Omega.{arith}
-use borrow.Author.Rules.{rules}
 use Rattle.vcf.proofs.Marks.{ends_is, ends-behind, ends-inside}
 use Rattle.vcf.proofs.records.pieces.end_of.Goals as goal
 

@@ -1,5 +1,4 @@
 -- `vcf::records::pieces::far_end` meets its contract.
-use borrow.Author.Rules.{rules}
 use Rattle.vcf.proofs.Marks.{skips-ends, ends-behind}
 use Rattle.vcf.proofs.records.pieces.far_end.Goals as goal
 

@@ -1,9 +1,5 @@
-use Prim.Native.Nat.{◌-◌}
 use mathlib.Core.Path.{sym}
-use borrow.Author.Rules.{rules}
-use lib.ListN.{length}
-use Rattle.text.proofs.Letters.{Passed, passed_none, passed-more, passed-stop, passed-all}
-use Rattle.vcf.specs.Pieces.{other}
+use Rattle.text.proofs.Letters.{passed_none, passed-more, passed-stop, passed-all}
 use Rattle.vcf.proofs.Marks.{is-mark, is-other}
 use Rattle.vcf.proofs.records.pieces.find.Goals as goal
 

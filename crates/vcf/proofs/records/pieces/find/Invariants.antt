@@ -1,12 +1,9 @@
 -- `vcf::records::pieces::find` meets its contract. The loop's invariant, `Passed`: the bytes before i are others. The measure is the number of
 -- bytes left.
 use Prim.Native.Nat.{◌-◌}
-use mathlib.Core.Path.{sym}
-use borrow.Author.Rules.{rules}
 use lib.ListN.{length}
-use Rattle.text.proofs.Letters.{Passed, passed_none, passed-more, passed-stop, passed-all}
+use Rattle.text.proofs.Letters.{Passed}
 use Rattle.vcf.specs.Pieces.{other}
-use Rattle.vcf.proofs.Marks.{is-mark, is-other}
 use Rattle.vcf.proofs.records.pieces.find.Given as goal
 
 abbrev pub invariant-loop-i : goal.invariant-loop-i

@@ -1,7 +1,4 @@
-use Prim.Native.Nat.{◌-◌}
-use borrow.Author.Rules.{rules}
-use lib.ListN.{length}
-use Rattle.vcf.proofs.Marks.{Clearing, clearing-none, clearing-more, clearing-end}
+use Rattle.vcf.proofs.Marks.{clearing-none, clearing-more, clearing-end}
 use Rattle.vcf.proofs.records.pieces.is_clear.Goals as goal
 
 pub loop-i-init : goal.loop-i-init

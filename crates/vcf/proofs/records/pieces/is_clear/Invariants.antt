@@ -1,9 +1,8 @@
 -- `vcf::records::pieces::is_clear` meets its contract. The loop's invariant, `Clearing`: a mark was found among the bytes before i, or none. The
 -- measure is the number of bytes left.
 use Prim.Native.Nat.{◌-◌}
-use borrow.Author.Rules.{rules}
 use lib.ListN.{length}
-use Rattle.vcf.proofs.Marks.{Clearing, clearing-none, clearing-more, clearing-end}
+use Rattle.vcf.proofs.Marks.{Clearing}
 use Rattle.vcf.proofs.records.pieces.is_clear.Given as goal
 
 abbrev pub invariant-loop-i : goal.invariant-loop-i

@@ -1,8 +1,6 @@
-use Prim.Native.Nat.{◌-◌}
 use native.Mathlib.Omega.{arith}
 use mathlib.Core.Path.{sym}
-use borrow.Author.Rules.{rules}
-use Rattle.vcf.proofs.Marks.{Counted, counted_none, counted-more, counted-last, counted-end}
+use Rattle.vcf.proofs.Marks.{counted_none, counted-more, counted-last, counted-end}
 use Rattle.vcf.proofs.records.pieces.more_than.Goals as goal
 
 pub loop-i-init : goal.loop-i-init

@@ -1,6 +1,5 @@
 -- `vcf::records::pieces::next_line` meets its contract.
 use mathlib.Core.Path.{sym}
-use borrow.Author.Rules.{rules}
 use borrow.Author.Tests.{lt-ltb, le-ltb}
 use Rattle.vcf.specs.Pieces.{next_line}
 use Rattle.vcf.proofs.records.pieces.next_line.Goals as goal

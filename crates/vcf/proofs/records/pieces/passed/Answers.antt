@@ -1,7 +1,7 @@
 use mathlib.Core.Path.{sym, ◌∙◌}
 use borrow.Author.Rules.{rules}
 use borrow.Author.Tests.{not-false}
-use Rattle.vcf.proofs.Marks.{Skipping, skipping-none, skipping-more}
+use Rattle.vcf.proofs.Marks.{skipping-none, skipping-more}
 use Rattle.vcf.proofs.records.pieces.passed.Goals as goal
 
 pub loop-left-init : goal.loop-left-init

@@ -1,9 +1,6 @@
 -- `vcf::records::pieces::passed` meets its contract. The loop's invariant, `Skipping`: no mark stands before `at`, and that many bytes are
 -- left. They are the measure.
-use mathlib.Core.Path.{sym, ◌∙◌}
-use borrow.Author.Rules.{rules}
-use borrow.Author.Tests.{not-false}
-use Rattle.vcf.proofs.Marks.{Skipping, skipping-none, skipping-more}
+use Rattle.vcf.proofs.Marks.{Skipping}
 use Rattle.vcf.proofs.records.pieces.passed.Given as goal
 
 abbrev pub invariant-loop-left : goal.invariant-loop-left

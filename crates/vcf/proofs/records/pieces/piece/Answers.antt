@@ -1,8 +1,6 @@
-use Prim.Native.Nat.{◌-◌}
 use native.Mathlib.Omega.{arith}
 use mathlib.Core.Path.{sym}
-use borrow.Author.Rules.{rules}
-use Rattle.vcf.proofs.Marks.{Sought, sought-none, sought-more, sought-missing, sought-end}
+use Rattle.vcf.proofs.Marks.{sought-none, sought-more, sought-missing, sought-end}
 use Rattle.vcf.proofs.records.pieces.piece.Goals as goal
 
 pub loop-i-init : goal.loop-i-init

@@ -1,10 +1,7 @@
 -- `vcf::records::pieces::piece` meets its contract. The loop's invariant, `Sought`: i pieces are passed. The measure is the number of pieces to
 -- pass.
 use Prim.Native.Nat.{◌-◌}
-use native.Mathlib.Omega.{arith}
-use mathlib.Core.Path.{sym}
-use borrow.Author.Rules.{rules}
-use Rattle.vcf.proofs.Marks.{Sought, sought-none, sought-more, sought-missing, sought-end}
+use Rattle.vcf.proofs.Marks.{Sought}
 use Rattle.vcf.proofs.records.pieces.piece.Given as goal
 
 abbrev pub invariant-loop-i : goal.invariant-loop-i

@@ -1,12 +1,11 @@
-use Prim.Native.Nat.{◌-◌, ◌≤◌}
+use Prim.Native.Nat.{◌≤◌}
 use native.Mathlib.Omega.{arith}
 use mathlib.Core.Path.{◌≡◌, sym, ◌∙◌}
-use borrow.Author.Rules.{rules}
 use borrow.Author.Tests.{not-true, not-false}
-use lib.ListN.{length, get_or}
+use lib.ListN.{get_or}
 use mathlib.Core.Bool.{true}
 use Rattle.vcf.specs.Records.{digit}
-use Rattle.vcf.proofs.Digits.{Digits, digits-none, digits-range, digits-wrong, digits_long, digits_more, digits-end}
+use Rattle.vcf.proofs.Digits.{digits-none, digits-range, digits-wrong, digits_long, digits_more, digits-end}
 use Rattle.vcf.proofs.records.position.position.Goals as goal
 use Rattle.vcf.proofs.records.position.position.Goals.{After-wide}
 

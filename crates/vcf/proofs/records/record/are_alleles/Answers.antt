@@ -1,10 +1,7 @@
-use Prim.Native.Nat.{◌-◌}
 use native.Mathlib.Omega.{arith}
 use mathlib.Core.Path.{sym, ◌∙◌}
-use borrow.Author.Rules.{rules}
 use borrow.Author.Tests.{not-true, not-false}
-use lib.ListN.{length}
-use Rattle.vcf.proofs.Alleles.{Asked, asked-none, asked-wrong, asked-all, asked-more}
+use Rattle.vcf.proofs.Alleles.{asked-none, asked-wrong, asked-all, asked-more}
 use Rattle.vcf.proofs.records.record.are_alleles.Goals as goal
 
 pub loop-from-init : goal.loop-from-init

@@ -1,6 +1,5 @@
 -- `vcf::records::record::are_alternates` meets its contract.
 use mathlib.Core.Path.{sym, ◌∙◌}
-use borrow.Author.Rules.{rules}
 use Rattle.vcf.proofs.Alleles.{sound_none, sound-many, sound-few}
 use Rattle.vcf.proofs.records.record.are_alternates.Goals as goal
 

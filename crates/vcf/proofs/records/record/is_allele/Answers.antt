@@ -1,6 +1,5 @@
 -- `vcf::records::record::is_allele` meets its contract.
 use mathlib.Core.Path.{sym}
-use borrow.Author.Rules.{rules}
 use Rattle.vcf.proofs.Alleles.{allele-empty, allele-is}
 use Rattle.vcf.proofs.records.record.is_allele.Goals as goal
 

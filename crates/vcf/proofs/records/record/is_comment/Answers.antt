@@ -1,6 +1,5 @@
 -- `vcf::records::record::is_comment` meets its contract.
 use mathlib.Core.Path.{sym}
-use borrow.Author.Rules.{rules}
 use Rattle.vcf.proofs.Alleles.{comment-empty, comment-is}
 use Rattle.vcf.proofs.records.record.is_comment.Goals as goal
 

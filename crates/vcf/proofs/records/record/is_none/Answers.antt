@@ -1,6 +1,5 @@
 -- `vcf::records::record::is_none` meets its contract.
 use mathlib.Core.Path.{sym}
-use borrow.Author.Rules.{rules}
 use Rattle.vcf.proofs.Alleles.{none-not, none_is}
 use Rattle.vcf.proofs.records.record.is_none.Goals as goal
 

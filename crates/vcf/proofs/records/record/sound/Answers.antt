@@ -1,6 +1,5 @@
 -- `vcf::records::record::sound` meets its contract: each test of a field is one of the definition.
 use mathlib.Core.Path.{◌≡◌, sym, ap, ◌∙◌}
-use borrow.Author.Rules.{rules}
 use borrow.Author.Tests.{not-true, not-false}
 use lib.ListN.{length}
 use mathlib.Core.Bool.{true}

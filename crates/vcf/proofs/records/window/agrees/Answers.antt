@@ -1,6 +1,5 @@
 -- `vcf::records::window::agrees` meets its contract.
 use mathlib.Core.Path.{sym}
-use borrow.Author.Rules.{rules}
 use Rattle.vcf.proofs.Windows.{agrees-before, agrees-behind, agrees-over, agrees-is}
 use Rattle.vcf.proofs.records.window.agrees.Goals as goal
 

@@ -1,13 +1,11 @@
-use Prim.Native.Nat.{◌-◌}
 use native.Mathlib.Omega.{arith}
 use mathlib.Core.Path.{◌≡◌, sym, ◌∙◌}
-use borrow.Author.Rules.{rules}
 use lib.ListN.{take}
 use mathlib.Core.List.{◌∷◌}
 use Rattle.text.specs.Letter.{meant}
 use Rattle.layout.specs.Reading.{among}
 use Rattle.vcf.specs.Pieces.{pieces}
-use Rattle.vcf.proofs.Tallying.{among_first, among-rest, Compared, compared-none, compared_same, compared-missing, compared-more}
+use Rattle.vcf.proofs.Tallying.{among_first, among-rest, compared-none, compared_same, compared-missing, compared-more}
 use Rattle.vcf.proofs.Tallying.{compared-end}
 use Rattle.vcf.proofs.survey.needed.repeated.Goals as goal
 use Rattle.vcf.proofs.survey.needed.repeated.Goals.{Else-alike}

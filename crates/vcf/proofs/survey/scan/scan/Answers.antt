@@ -1,12 +1,10 @@
-use Prim.Native.Nat.{◌-◌, ◌<◌, ◌≤◌}
+use Prim.Native.Nat.{◌<◌, ◌≤◌}
 use native.Mathlib.Omega.{arith}
 use mathlib.Core.Path.{sym, ◌∙◌}
-use borrow.Author.Rules.{rules}
 use lib.ListN.{length}
-use Rattle.text.specs.Letter.{meant}
 use Rattle.text.proofs.Likes.{meant-length}
 use Rattle.vcf.proofs.Marks.{next-behind}
-use Rattle.vcf.proofs.Scanning.{Scanning, scanning-none, scanning-wrong, scanning-more, scanning-end, scanning-starts}
+use Rattle.vcf.proofs.Scanning.{scanning-none, scanning-wrong, scanning-more, scanning-end, scanning-starts}
 use Rattle.vcf.proofs.survey.scan.scan.Goals as goal
 
 pub loop-at-init : goal.loop-at-init

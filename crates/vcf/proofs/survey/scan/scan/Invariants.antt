@@ -1,14 +1,9 @@
 -- `vcf::survey::scan::scan` meets its contract. The loop's invariant, `Scanning`: that many lines are passed, and those left say what the whole
 -- file says. The measure is the number of bytes left.
-use Prim.Native.Nat.{◌-◌, ◌<◌, ◌≤◌}
-use native.Mathlib.Omega.{arith}
-use mathlib.Core.Path.{sym, ◌∙◌}
-use borrow.Author.Rules.{rules}
+use Prim.Native.Nat.{◌-◌}
 use lib.ListN.{length}
 use Rattle.text.specs.Letter.{meant}
-use Rattle.text.proofs.Likes.{meant-length}
-use Rattle.vcf.proofs.Marks.{next-behind}
-use Rattle.vcf.proofs.Scanning.{Scanning, scanning-none, scanning-wrong, scanning-more, scanning-end, scanning-starts}
+use Rattle.vcf.proofs.Scanning.{Scanning}
 use Rattle.vcf.proofs.survey.scan.scan.Given as goal
 
 abbrev pub invariant-loop-at : goal.invariant-loop-at

@@ -1,6 +1,5 @@
 -- `vcf::survey::surveying::survey` meets its contract: each test is one of the definition's, in its order.
 use mathlib.Core.Path.{◌≡◌, sym, ap, ◌∙◌}
-use borrow.Author.Rules.{rules}
 use borrow.Author.Tests.{not-true, not-false}
 use mathlib.Core.Bool.{true}
 use Rattle.text.specs.Compare.{prefix}

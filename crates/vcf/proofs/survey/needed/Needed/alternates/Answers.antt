@@ -1,8 +1,5 @@
-use Prim.Native.Nat.{◌-◌}
 use native.Mathlib.Omega.{arith}
-use borrow.Author.Rules.{rules}
-use lib.ListN.{length}
-use Rattle.vcf.proofs.Tallying.{Behind, behind-none, behind_more, behind-end}
+use Rattle.vcf.proofs.Tallying.{behind-none, behind_more, behind-end}
 use Rattle.vcf.proofs.survey.needed.Needed.alternates.Goals as goal
 
 pub loop-needed-init : goal.loop-needed-init

@@ -1,10 +1,8 @@
 -- `vcf::survey::needed::Needed::alternates` meets its contract. The loop's invariant, `Behind`: k alleles are tallied. The measure is the
 -- number of bytes left.
 use Prim.Native.Nat.{◌-◌}
-use native.Mathlib.Omega.{arith}
-use borrow.Author.Rules.{rules}
 use lib.ListN.{length}
-use Rattle.vcf.proofs.Tallying.{Behind, behind-none, behind_more, behind-end}
+use Rattle.vcf.proofs.Tallying.{Behind}
 use Rattle.vcf.proofs.survey.needed.Needed.alternates.Given as goal
 
 abbrev pub invariant-loop-needed : goal.invariant-loop-needed

@@ -1,5 +1,4 @@
 -- `vcf::survey::needed::Needed::gap` meets its contract.
-use borrow.Author.Rules.{rules}
 use Rattle.vcf.proofs.Tallying.{sane-opened, gap-none, gap-some}
 use Rattle.vcf.proofs.survey.needed.Needed.gap.Goals as goal
 

@@ -1,7 +1,6 @@
 -- `vcf::survey::needed::Needed::open` meets its contract: case by case.
 use native.Mathlib.Omega.{arith}
 use mathlib.Core.Path.{sym, ◌∙◌}
-use borrow.Author.Rules.{rules}
 use borrow.Author.Tests.{not-true, not-false}
 use Rattle.vcf.proofs.Tallying.{fits-sane, open-fits, open-long, repeated-sane, open-repeated, open-repeated-long, open-at-long}
 use Rattle.vcf.proofs.survey.needed.Needed.open.Goals as goal

@@ -1,6 +1,5 @@
 -- `vcf::survey::needed::Needed::record` meets its contract.
 use mathlib.Core.Path.{◌≡◌, sym, ◌∙◌}
-use borrow.Author.Rules.{rules}
 use lib.ListN.{length}
 use mathlib.Core.Bool.{false}
 use Rattle.vcf.specs.Tallies.{Sane, opened, tallied}

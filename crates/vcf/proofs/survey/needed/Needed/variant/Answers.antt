@@ -1,7 +1,6 @@
 -- `vcf::survey::needed::Needed::variant` meets its contract: case by case.
 use native.Mathlib.Omega.{arith}
 use mathlib.Core.Path.{sym, ◌∙◌}
-use borrow.Author.Rules.{rules}
 use borrow.Author.Tests.{not-true, not-false}
 use Rattle.vcf.proofs.Tallying.{fits-sane, repeated-sane, variant-long, variant-again, variant_fits, variant-repeated}
 use Rattle.vcf.proofs.Tallying.{variant-repeated-long, variant-at-long, variant-huge}
