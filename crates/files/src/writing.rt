@@ -1,5 +1,6 @@
 // Files written whole.
-ghost use Rattle.std.specs.Prelude.{◌≤◌, length, IfOk};
+ghost use Rattle.std.specs.Prelude.{IfOk};
+ghost use Rattle.io.specs.Counts.{IsPrefixLen};
 
 use crate::opening::{TRIES, created, path_text};
 use crate::saying::fail;
@@ -9,7 +10,7 @@ use std::{fs, io};
 
 // One write: how many bytes it took.
 fn write_piece<F: io::Write>(file: &mut F, bytes: &[u8]) -> io::Result<usize>
-    ensures { IfOk result (λ n. n ≤ length bytes.now) }
+    ensures { IfOk result (λ n. IsPrefixLen n bytes.now) }
 {
     for _ in 0..TRIES {
         match file.write(bytes) {
