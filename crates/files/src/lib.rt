@@ -14,5 +14,5 @@ pub use given::{given_to_append, given_to_read};
 pub use names::folder;
 pub use reading::{Piece, Read, fill, read_all, read_file, read_piece};
 pub use saying::{fail, say};
-pub use words::{count_words, word};
+pub use words::{WORD, count_words, word};
 pub use writing::{write_all, write_aside, write_new};

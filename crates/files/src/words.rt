@@ -3,6 +3,9 @@ ghost use Rattle.io.specs.Counts.{IsPrefixLen};
 
 use std::env::{Env, FillError};
 
+// Room for a word that names a file: the longest such name has fewer bytes.
+pub const WORD: usize = 4096;
+
 // Puts a word at the start of the buffer. How many bytes it has; 0 where it is missing or has no room.
 pub fn word(rt: &HostRuntime, number: usize, out: &mut [u8]) -> usize
     ensures { IsPrefixLen result out.new }
