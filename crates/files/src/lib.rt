@@ -12,6 +12,7 @@ mod writing;
 
 pub use given::{given_to_append, given_to_read};
 pub use names::folder;
+pub use opening::opened;
 pub use reading::{Piece, Read, fill, read_all, read_file, read_piece};
 pub use saying::{fail, say};
 pub use words::{WORD, count_words, word};
