@@ -77,7 +77,7 @@ fn main(rt: HostRuntime) {
     let word = list_word(&rt);
     if !is_asked(&rt, std::num::wrapping_add_usize(word, 1), count_words(&rt)) {
         say(
-            rt,
+            &rt,
             b"usage: desk [--first] LIST TEXT or desk [--first] LIST --files FILE...\n",
         );
         return;
