@@ -43,8 +43,7 @@ fn is_writable(rt: &HostRuntime, number: u32) -> io::Result<bool> {
 // have left, would keep who opens it for reading waiting: it is open for both as long as that takes.
 pub fn given_to_read(rt: &HostRuntime, number: u32) -> io::Result<File> {
     let name = format!(in rt.alloc(); "/proc/self/fd/{number}")?;
-    let kind = fs::metadata(rt, name.as_str())?.file_type();
-    if kind.is_fifo() {
+    if fs::metadata(rt, name.as_str())?.file_type().is_fifo() {
         let both = OpenOptions::new()
             .read(true)
             .write(true)
@@ -54,8 +53,9 @@ pub fn given_to_read(rt: &HostRuntime, number: u32) -> io::Result<File> {
         return file;
     }
     let mut file = File::open(rt, name.as_str())?;
-    if kind.is_file() {
-        file.seek(SeekFrom::Start(position(rt, number)?))?;
+    let at = position(rt, number)?;
+    if at != 0 {
+        file.seek(SeekFrom::Start(at))?;
     }
     Ok(file)
 }
