@@ -14,7 +14,7 @@ struct Told {
 }
 
 // Prints where the sequence of a line stands. A line that could not be written is not passed.
-fn tell_line(night: Night, list: &[u8], told: Told) -> Told {
+fn tell_line(rt: &HostRuntime, night: Night, list: &[u8], told: Told) -> Told {
     match line_at(list, told.at) {
         Line::Nothing { next } => Told {
             at: next,
@@ -30,7 +30,7 @@ fn tell_line(night: Night, list: &[u8], told: Told) -> Told {
             if MOST <= k {
                 return told;
             }
-            if !tell_standing(label, night.standings[k]) {
+            if !tell_standing(rt, label, night.standings[k]) {
                 return told;
             }
             Told { at: next, k: k + 1 }
@@ -40,11 +40,11 @@ fn tell_line(night: Night, list: &[u8], told: Told) -> Told {
 }
 
 // Prints where each sequence stands. Whether all is written.
-fn tell_standings(night: Night, list: &[u8]) -> bool {
+fn tell_standings(rt: &HostRuntime, night: Night, list: &[u8]) -> bool {
     let mut told = Told { at: 0, k: 0 };
     let mut at = 0;
     while at < list.len() {
-        told = tell_line(night, list, told);
+        told = tell_line(rt, night, list, told);
         if told.at <= at {
             return false;
         }
@@ -98,11 +98,11 @@ fn put_about(night: Night, out: &mut [u8]) -> usize {
 }
 
 // Prints the standings, and what the verdict is about. Whether all is written.
-pub fn tell_about(night: Night, list: &[u8]) -> bool {
-    if !tell_standings(night, list) {
+pub fn tell_about(rt: &HostRuntime, night: Night, list: &[u8]) -> bool {
+    if !tell_standings(rt, night, list) {
         return false;
     }
     let mut out = [0u8; 512];
     let n = put_about(night, &mut out);
-    print(part(&out, 0, n))
+    print(rt, part(&out, 0, n))
 }

@@ -8,17 +8,23 @@ use desk_verdict::said::put_fault;
 const MOST_TOLD: u64 = 20;
 
 // What is wrong with a line of the list.
-fn tell_fault(line: u64, fault: Fault) {
+fn tell_fault(rt: &HostRuntime, line: u64, fault: Fault) {
     let mut out = [0u8; 64];
     let n = put_fault(line, &mut out);
-    say(&out[..n]);
+    say(rt, &out[..n]);
     match fault {
-        Fault::Byte(_) => say(b"it has a byte that is not printable ASCII or a tab\n"),
-        Fault::NoLabel => say(b"it does not begin with a number\n"),
-        Fault::LargeLabel => say(b"its number is over 18446744073709551615\n"),
-        Fault::NoSequence => say(b"no sequence stands after its number, parted by a blank\n"),
-        Fault::Sequence(_) => say(b"its sequence is not 1 to 64 of the letters A, C, G and T\n"),
-        Fault::More => say(b"more than a comment stands after its sequence\n"),
+        Fault::Byte(_) => say(rt, b"it has a byte that is not printable ASCII or a tab\n"),
+        Fault::NoLabel => say(rt, b"it does not begin with a number\n"),
+        Fault::LargeLabel => say(rt, b"its number is over 18446744073709551615\n"),
+        Fault::NoSequence => say(
+            rt,
+            b"no sequence stands after its number, parted by a blank\n",
+        ),
+        Fault::Sequence(_) => say(
+            rt,
+            b"its sequence is not 1 to 64 of the letters A, C, G and T\n",
+        ),
+        Fault::More => say(rt, b"more than a comment stands after its sequence\n"),
     }
 }
 
@@ -31,7 +37,7 @@ struct Looked {
 }
 
 // A line more.
-fn look_on(list: &[u8], before: Looked) -> Looked {
+fn look_on(rt: &HostRuntime, list: &[u8], before: Looked) -> Looked {
     let mut next = before;
     next.line = std::num::wrapping_add_u64(before.line, 1);
     match line_at(list, before.at) {
@@ -47,7 +53,7 @@ fn look_on(list: &[u8], before: Looked) -> Looked {
             next.at = at;
         }
         Line::Wrong { fault, next: at } => {
-            tell_fault(next.line, fault);
+            tell_fault(rt, next.line, fault);
             next.at = at;
             next.told = std::num::wrapping_add_u64(before.told, 1);
         }
@@ -57,7 +63,7 @@ fn look_on(list: &[u8], before: Looked) -> Looked {
 }
 
 // Every faulty line of a list, up to the last that is told.
-fn tell_faults(list: &[u8]) {
+fn tell_faults(rt: &HostRuntime, list: &[u8]) {
     let mut looked = Looked {
         at: 0,
         line: 0,
@@ -65,7 +71,7 @@ fn tell_faults(list: &[u8]) {
     };
     let mut at = 0;
     while at < list.len() {
-        looked = look_on(list, looked);
+        looked = look_on(rt, list, looked);
         if looked.at <= at {
             return;
         }
@@ -77,27 +83,27 @@ fn tell_faults(list: &[u8]) {
 }
 
 // What is wrong with the list. Nothing is printed of it: without a list there is no verdict.
-fn tell_list(list: &[u8], trouble: Trouble) {
+fn tell_list(rt: &HostRuntime, list: &[u8], trouble: Trouble) {
     match trouble {
-        Trouble::List => tell_faults(list),
-        Trouble::Empty => say(b"the list has no sequence\n"),
-        _ => say(b"the list has more than 32 sequences\n"),
+        Trouble::List => tell_faults(rt, list),
+        Trouble::Empty => say(rt, b"the list has no sequence\n"),
+        _ => say(rt, b"the list has more than 32 sequences\n"),
     }
 }
 
 // Whether a trouble is that of a list, which is told.
-pub fn is_of_list(list: &[u8], trouble: Trouble) -> bool {
+pub fn is_of_list(rt: &HostRuntime, list: &[u8], trouble: Trouble) -> bool {
     match trouble {
         Trouble::List => {
-            tell_list(list, trouble);
+            tell_list(rt, list, trouble);
             true
         }
         Trouble::Empty => {
-            tell_list(list, trouble);
+            tell_list(rt, list, trouble);
             true
         }
         Trouble::Many => {
-            tell_list(list, trouble);
+            tell_list(rt, list, trouble);
             true
         }
         _ => false,
@@ -105,37 +111,42 @@ pub fn is_of_list(list: &[u8], trouble: Trouble) -> bool {
 }
 
 // What is wrong with a manifest, by its name.
-fn tell_manifest(word: &[u8], name: &[u8], reason: &[u8]) {
-    say(name);
-    say(reason);
-    tell_named(word, name);
+fn tell_manifest(rt: &HostRuntime, word: &[u8], name: &[u8], reason: &[u8]) {
+    say(rt, name);
+    say(rt, reason);
+    tell_named(rt, word, name);
 }
 
 // What is wrong with the text of this manifest.
-pub fn tell_text(trouble: Trouble, name: &[u8]) {
+pub fn tell_text(rt: &HostRuntime, trouble: Trouble, name: &[u8]) {
     match trouble {
         Trouble::Foreign => tell_manifest(
+            rt,
             b"unsound ",
             name,
             b": this is no manifest of a text: its first line is not '# cerantuh text 1'\n",
         ),
         Trouble::Altered => tell_manifest(
+            rt,
             b"unsound ",
             name,
             b": its last line is not the digest of the lines before it: it was cut or changed\n",
         ),
         Trouble::Line => tell_manifest(
+            rt,
             b"unsound ",
             name,
             b": a line is neither a comment nor a digest, two blanks and a name\n",
         ),
-        Trouble::NoStretch => tell_manifest(b"unsound ", name, b": it lists no stretch\n"),
+        Trouble::NoStretch => tell_manifest(rt, b"unsound ", name, b": it lists no stretch\n"),
         Trouble::Counts => tell_manifest(
+            rt,
             b"unsound ",
             name,
             b": its counts are not those of its stretches\n",
         ),
         Trouble::Missing => tell_manifest(
+            rt,
             b"missing ",
             name,
             b": not all of its stretches were read\n",
@@ -145,16 +156,19 @@ pub fn tell_text(trouble: Trouble, name: &[u8]) {
 }
 
 // What is wrong with the stretch of this file. Whether something is.
-pub fn tell_stretch(trouble: Trouble, name: &[u8]) {
+pub fn tell_stretch(rt: &HostRuntime, trouble: Trouble, name: &[u8]) {
     match trouble {
-        Trouble::Unread => tell_named(b"unread ", name),
+        Trouble::Unread => tell_named(rt, b"unread ", name),
         Trouble::Changed => {
-            say(name);
-            say(b": this is not the stretch whose digest the manifest has\n");
-            tell_named(b"changed ", name);
+            say(rt, name);
+            say(
+                rt,
+                b": this is not the stretch whose digest the manifest has\n",
+            );
+            tell_named(rt, b"changed ", name);
         }
-        Trouble::Added => tell_named(b"added ", name),
-        Trouble::Refused(wrong) => tell_refused(wrong, name),
+        Trouble::Added => tell_named(rt, b"added ", name),
+        Trouble::Refused(wrong) => tell_refused(rt, wrong, name),
         _ => {}
     }
 }

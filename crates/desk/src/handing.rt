@@ -14,12 +14,19 @@ pub struct Handed {
 }
 
 // These bytes, which are the stretch of this file.
-fn hand_bytes(night: Night, list: &[u8], text: &[u8], stretch: &[u8], path: &[u8]) -> Handed {
+fn hand_bytes(
+    rt: &HostRuntime,
+    night: Night,
+    list: &[u8],
+    text: &[u8],
+    stretch: &[u8],
+    path: &[u8],
+) -> Handed {
     let after = night.over(list, text, stretch);
-    let written = tell_stretch_hits(list, night, after, stretch, path);
+    let written = tell_stretch_hits(rt, list, night, after, stretch, path);
     let trouble = after.trouble;
     if written {
-        tell_stretch(trouble, path);
+        tell_stretch(rt, trouble, path);
     }
     Handed {
         night: after,
@@ -28,19 +35,19 @@ fn hand_bytes(night: Night, list: &[u8], text: &[u8], stretch: &[u8], path: &[u8
 }
 
 // The file of this path, as the next stretch of the text. Of one that is too long the first bytes are handed in: they are refused.
-pub fn hand_in(night: Night, list: &[u8], text: &[u8], path: &[u8]) -> Handed {
+pub fn hand_in(rt: &HostRuntime, night: Night, list: &[u8], text: &[u8], path: &[u8]) -> Handed {
     let mut bytes = [0u8; limits::GREATEST_STRETCH + 1];
-    match read_file(path, &mut bytes) {
-        Read::Whole(n) => hand_bytes(night, list, text, part(&bytes, 0, n), path),
+    match read_file(rt, path, &mut bytes) {
+        Read::Whole(n) => hand_bytes(rt, night, list, text, part(&bytes, 0, n), path),
         Read::Full => {
-            say(path);
-            say(b": it has more than 32,768 bytes, and no stretch has\n");
-            hand_bytes(night, list, text, &bytes, path)
+            say(rt, path);
+            say(rt, b": it has more than 32,768 bytes, and no stretch has\n");
+            hand_bytes(rt, night, list, text, &bytes, path)
         }
-        Read::Failed => {
+        Read::Failed(_) => {
             let after = night.missed();
             let trouble = after.trouble;
-            tell_stretch(trouble, path);
+            tell_stretch(rt, trouble, path);
             Handed {
                 night: after,
                 written: true,

@@ -15,19 +15,27 @@ struct Step {
 }
 
 // The segments of a stretch in which a sequence ends, from where it stood before. Whether they are written.
-fn tell_all(label: u64, pattern: &[u8], before: Standing, stretch: &[u8], name: &[u8]) -> bool {
+fn tell_all(
+    rt: &HostRuntime,
+    label: u64,
+    pattern: &[u8],
+    before: Standing,
+    stretch: &[u8],
+    name: &[u8],
+) -> bool {
     let mut marks = [0u8; limits::MOST_IN_STRETCH];
     match pass(pattern, before, stretch, &mut marks) {
         Passed::Refused(_) => true,
         Passed::To {
             segments,
             standing: _,
-        } => tell_hits(label, before.segments, name, part(&marks, 0, segments)),
+        } => tell_hits(rt, label, before.segments, name, part(&marks, 0, segments)),
     }
 }
 
 // What a sequence has come to: nothing more; its first end, which is the last segment that it counts; or the ends of this stretch.
 fn tell_more(
+    rt: &HostRuntime,
     first: bool,
     label: u64,
     pattern: &[u8],
@@ -42,13 +50,14 @@ fn tell_more(
     if first {
         let up_to = std::num::wrapping_sub_u64(after.segments, before.segments);
         let segment = std::num::wrapping_sub_u64(up_to, 1);
-        return tell_hit(label, before.segments, segment, name);
+        return tell_hit(rt, label, before.segments, segment, name);
     }
-    tell_all(label, pattern, before, stretch, name)
+    tell_all(rt, label, pattern, before, stretch, name)
 }
 
 // A line of the list more.
 fn tell_line(
+    rt: &HostRuntime,
     step: Step,
     list: &[u8],
     before: Night,
@@ -77,7 +86,7 @@ fn tell_line(
             let pattern = part(list, start, end);
             next.at = at;
             next.k = k + 1;
-            next.written = tell_more(after.first, label, pattern, from, to, stretch, name);
+            next.written = tell_more(rt, after.first, label, pattern, from, to, stretch, name);
             next
         }
         _ => step,
@@ -86,6 +95,7 @@ fn tell_line(
 
 // Every segment of this stretch in which a sequence ends, by what the night was before it and after. Whether all is written.
 pub fn tell_stretch_hits(
+    rt: &HostRuntime,
     list: &[u8],
     before: Night,
     after: Night,
@@ -99,7 +109,7 @@ pub fn tell_stretch_hits(
     };
     let mut at = 0;
     while at < list.len() {
-        step = tell_line(step, list, before, after, stretch, name);
+        step = tell_line(rt, step, list, before, after, stretch, name);
         if !step.written {
             return false;
         }

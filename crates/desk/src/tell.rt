@@ -2,44 +2,51 @@
 use desk_night::{Verdict, put_verdict};
 use desk_verdict::said::{put_done, put_hit, put_named, put_refused, put_standing};
 use desk_verdict::{Standing, next_marked};
+use files::{given_to_append, write_all};
 use text::{Refusal, part};
 
 // Room for a line with a file's name, the longest of which has 4,096 bytes.
 const LINE: usize = 4352;
 
+// The descriptor that the lines go to that decide.
+const DECIDED: u32 = 3;
+
 // Words on standard error.
-pub fn say(words: &[u8]) {
-    files::write_all(libc::STDERR_FILENO, words);
+pub fn say(rt: &HostRuntime, words: &[u8]) {
+    files::say(rt, words);
 }
 
 // Lines that decide nothing by themselves. Whether they are written.
-pub fn print(lines: &[u8]) -> bool {
-    if files::write_all(libc::STDOUT_FILENO, lines) {
+pub fn print(rt: &HostRuntime, lines: &[u8]) -> bool {
+    if write_all(&mut rt.stdout(), lines) {
         return true;
     }
-    say(b"desk: standard output could not be written\n");
+    say(rt, b"desk: standard output could not be written\n");
     false
 }
 
-// A line that decides: once it is written, on descriptor 3 as well.
-fn decide(line: &[u8]) {
-    if print(line) {
-        files::write_all(3, line);
+// A line that decides: once it is written, on descriptor 3 as well, if the caller opened it.
+fn decide(rt: &HostRuntime, line: &[u8]) {
+    if print(rt, line) {
+        if let Ok(file) = given_to_append(rt, DECIDED) {
+            let mut file = file;
+            write_all(&mut file, line);
+        }
     }
 }
 
 // One segment in which a sequence ends. Whether it is written.
-pub fn tell_hit(label: u64, before: u64, segment: u64, name: &[u8]) -> bool {
+pub fn tell_hit(rt: &HostRuntime, label: u64, before: u64, segment: u64, name: &[u8]) -> bool {
     let mut out = [0u8; LINE];
     let n = put_hit(label, before, segment, name, &mut out);
-    print(&out[..n])
+    print(rt, &out[..n])
 }
 
 // Each marked segment of a file. Whether all is written.
-pub fn tell_hits(label: u64, before: u64, name: &[u8], marks: &[u8]) -> bool {
+pub fn tell_hits(rt: &HostRuntime, label: u64, before: u64, name: &[u8], marks: &[u8]) -> bool {
     let mut j = next_marked(marks, 0);
     while j < marks.len() {
-        if !tell_hit(label, before, j as u64, name) {
+        if !tell_hit(rt, label, before, j as u64, name) {
             return false;
         }
         j = next_marked(marks, j + 1);
@@ -48,44 +55,44 @@ pub fn tell_hits(label: u64, before: u64, name: &[u8], marks: &[u8]) -> bool {
 }
 
 // A word that decides, and the file that it is about.
-pub fn tell_named(word: &[u8], name: &[u8]) {
+pub fn tell_named(rt: &HostRuntime, word: &[u8], name: &[u8]) {
     let mut out = [0u8; LINE];
     let n = put_named(word, name, &mut out, 0);
-    decide(part(&out, 0, n));
+    decide(rt, part(&out, 0, n));
 }
 
 // A file that is refused.
-pub fn tell_refused(wrong: Refusal, name: &[u8]) {
+pub fn tell_refused(rt: &HostRuntime, wrong: Refusal, name: &[u8]) {
     let mut out = [0u8; LINE];
     let n = put_refused(wrong, name, &mut out);
-    decide(&out[..n]);
+    decide(rt, &out[..n]);
 }
 
 // Where a sequence stands after the whole text. Whether it is written.
-pub fn tell_standing(label: u64, standing: Standing) -> bool {
+pub fn tell_standing(rt: &HostRuntime, label: u64, standing: Standing) -> bool {
     let mut out = [0u8; 128];
     let n = put_standing(label, standing, &mut out);
-    print(&out[..n])
+    print(rt, &out[..n])
 }
 
 // Whether the text may go out.
-pub fn tell_verdict(verdict: Verdict) {
+pub fn tell_verdict(rt: &HostRuntime, verdict: Verdict) {
     let mut out = [0u8; 8];
     let n = put_verdict(verdict, &mut out);
-    decide(&out[..n]);
+    decide(rt, &out[..n]);
 }
 
 // That many stretches of all are done.
-fn say_done(done: usize, all: usize) {
+fn say_done(rt: &HostRuntime, done: usize, all: usize) {
     let mut out = [0u8; 64];
     let n = put_done(done as u64, all as u64, &mut out);
-    say(&out[..n]);
+    say(rt, &out[..n]);
 }
 
 // Progress: some twenty times in all, and at the last.
-pub fn tell_done(done: usize, all: usize, last: bool) {
+pub fn tell_done(rt: &HostRuntime, done: usize, all: usize, last: bool) {
     let step = all / 20 + 1;
     if last || done == all || done % step == 0 {
-        say_done(done, all);
+        say_done(rt, done, all);
     }
 }

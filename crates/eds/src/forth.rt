@@ -3,7 +3,7 @@
 use crate::messages::{say, say_wrong};
 use digest::Hashing;
 use eds_notation::{Filled, Place, Step, Tape, cut, finish, read_on, write_closed};
-use files::{Piece, fill};
+use files::{Piece, WORD, fail, fill, word};
 use lines::put_bytes;
 use manifest::put_digest;
 use stretch::Written;
@@ -12,6 +12,9 @@ use text_files::{Built, write_manifest, write_stretch};
 
 // The most variants of a stretch, each of which has a length of two bytes.
 const MOST_VARIANTS: usize = limits::GREATEST_STRETCH / 2;
+
+// How much is read at once.
+const PIECE: usize = 65536;
 
 // The word of the command line that names the text, as its manifest says it.
 const SOURCE: usize = 2;
@@ -43,6 +46,7 @@ fn in_state(text: Text, state: u64) -> Text {
 
 // Writes the closed segments of a tape as the next stretch.
 fn write_next(
+    rt: &HostRuntime,
     text: Text,
     name: &[u8],
     letters: &[u8],
@@ -53,11 +57,11 @@ fn write_next(
     let mut out = [0u8; limits::GREATEST_STRETCH];
     match write_closed(text.tape, letters, lengths, counts, &mut out) {
         Written::Refused(wrong) => {
-            say(b"refused ", wrong.number);
+            say(rt, b"refused ", wrong.number);
             in_state(text, STOPPED)
         }
         Written::Bytes(n) => {
-            let built = write_stretch(name, text.built, part(&out, 0, n), &mut *lines);
+            let built = write_stretch(rt, name, text.built, part(&out, 0, n), &mut *lines);
             let mut next = text;
             next.built = built;
             if !built.whole {
@@ -70,6 +74,7 @@ fn write_next(
 
 // Writes the closed segments as the next stretch, and cuts them off.
 fn flush(
+    rt: &HostRuntime,
     text: Text,
     name: &[u8],
     letters: &mut [u8],
@@ -78,7 +83,7 @@ fn flush(
     lines: &mut [u8],
 ) -> Text {
     let tape = text.tape;
-    let mut next = write_next(text, name, letters, lengths, counts, &mut *lines);
+    let mut next = write_next(rt, text, name, letters, lengths, counts, &mut *lines);
     let rest = cut(tape, &mut *letters, &mut *lengths);
     next.tape = rest;
     next
@@ -86,6 +91,7 @@ fn flush(
 
 // Reads a piece from where it stands, until it ends or a stretch is full.
 fn turn(
+    rt: &HostRuntime,
     text: Text,
     name: &[u8],
     piece: &[u8],
@@ -112,13 +118,14 @@ fn turn(
             in_state(next, READ)
         }
         Filled::Wrong { at, number } => {
-            say_wrong(number, place.behind(piece, at));
+            say_wrong(rt, number, place.behind(piece, at));
             in_state(next, STOPPED)
         }
         Filled::Full { at, tape } => {
             next.tape = tape;
             next.from = at;
             flush(
+                rt,
                 next,
                 name,
                 &mut *letters,
@@ -132,6 +139,7 @@ fn turn(
 
 // One piece more. Nothing counts its turns, so the loop counts down from a number that no run uses up.
 fn take_piece(
+    rt: &HostRuntime,
     text: Text,
     name: &[u8],
     piece: &[u8],
@@ -150,6 +158,7 @@ fn take_piece(
             return held;
         }
         held = turn(
+            rt,
             held,
             name,
             piece,
@@ -164,9 +173,9 @@ fn take_piece(
 }
 
 // Where the text comes from: a comment line of its manifest.
-fn put_about(hashing: Hashing, out: &mut [u8]) -> usize {
-    let mut path = io::buffer();
-    let n = os::arg(SOURCE, &mut path);
+fn put_about(rt: &HostRuntime, hashing: Hashing, out: &mut [u8]) -> usize {
+    let mut path = [0u8; WORD];
+    let n = word(rt, SOURCE, &mut path);
     let from = put_bytes(b"# braces ", &mut *out, 0);
     let end = put_digest(hashing.end(), &mut *out, from);
     let name = put_bytes(b"  ", &mut *out, end);
@@ -175,26 +184,27 @@ fn put_about(hashing: Hashing, out: &mut [u8]) -> usize {
 }
 
 // That all is written, with the number of stretches.
-fn tell_done(done: bool, stretches: u64) {
+fn tell_done(rt: &HostRuntime, done: bool, stretches: u64) {
     if done {
-        say(b"stretches ", stretches);
+        say(rt, b"stretches ", stretches);
     }
 }
 
 // Writes the manifest of a text whose stretches are written.
-fn end_stretches(text: Text, name: &[u8], lines: &mut [u8]) {
+fn end_stretches(rt: &HostRuntime, text: Text, name: &[u8], lines: &mut [u8]) {
     if text.state == STOPPED {
         return;
     }
     let built = text.built;
     let mut about = [0u8; 8192];
-    let end = put_about(text.hashing, &mut about);
-    let done = write_manifest(name, built, part(&about, 0, end), &mut *lines);
-    tell_done(done, built.stretches);
+    let end = put_about(rt, text.hashing, &mut about);
+    let done = write_manifest(rt, name, built, part(&about, 0, end), &mut *lines);
+    tell_done(rt, done, built.stretches);
 }
 
 // Writes the last stretch, and the manifest.
 fn write_last(
+    rt: &HostRuntime,
     text: Text,
     name: &[u8],
     letters: &[u8],
@@ -202,12 +212,13 @@ fn write_last(
     counts: &[u8],
     lines: &mut [u8],
 ) {
-    let all = write_next(text, name, letters, lengths, counts, &mut *lines);
-    end_stretches(all, name, &mut *lines);
+    let all = write_next(rt, text, name, letters, lengths, counts, &mut *lines);
+    end_stretches(rt, all, name, &mut *lines);
 }
 
 // The end of the text. What stands open has room, since each of its letters was put only with room for its end.
 fn end_text(
+    rt: &HostRuntime,
     text: Text,
     name: &[u8],
     letters: &mut [u8],
@@ -218,18 +229,19 @@ fn end_text(
     match finish(text.tape, &mut *letters, &mut *lengths, &mut *counts) {
         Step::Full => {}
         Step::Wrong(number) => {
-            say_wrong(number, text.place);
+            say_wrong(rt, number, text.place);
         }
         Step::Done(tape) => {
             let mut last = text;
             last.tape = tape;
-            write_last(last, name, letters, lengths, counts, &mut *lines);
+            write_last(rt, last, name, letters, lengths, counts, &mut *lines);
         }
     }
 }
 
 // Reads the next piece of standard input, or ends the text.
 fn next_piece(
+    rt: &HostRuntime,
     text: Text,
     name: &[u8],
     letters: &mut [u8],
@@ -237,14 +249,15 @@ fn next_piece(
     counts: &mut [u8],
     lines: &mut [u8],
 ) -> Text {
-    let mut piece = io::large_buffer();
-    match fill(libc::STDIN_FILENO, &mut piece) {
-        Piece::Failed => {
-            os::fail(b"standard input");
+    let mut piece = [0u8; PIECE];
+    match fill(&mut rt.stdin(), &mut piece) {
+        Piece::Failed(error) => {
+            fail(rt, b"standard input", error);
             in_state(text, STOPPED)
         }
         Piece::End => {
             end_text(
+                rt,
                 text,
                 name,
                 &mut *letters,
@@ -255,6 +268,7 @@ fn next_piece(
             in_state(text, STOPPED)
         }
         Piece::Bytes(n) => take_piece(
+            rt,
             text,
             name,
             part(&piece, 0, n),
@@ -268,6 +282,7 @@ fn next_piece(
 
 // Reads standard input to its end. Nothing counts its pieces either.
 fn take_all(
+    rt: &HostRuntime,
     name: &[u8],
     letters: &mut [u8],
     lengths: &mut [u16],
@@ -288,6 +303,7 @@ fn take_all(
             return;
         }
         text = next_piece(
+            rt,
             text,
             name,
             &mut *letters,
@@ -300,10 +316,17 @@ fn take_all(
 }
 
 // Writes the text on standard input to files of this name.
-pub fn convert(name: &[u8]) {
+pub fn convert(rt: &HostRuntime, name: &[u8]) {
     let mut letters = [0u8; limits::GREATEST_STRETCH];
     let mut lengths = [0u16; MOST_VARIANTS];
     let mut counts = [0u8; limits::MOST_IN_STRETCH];
     let mut lines = manifest::room();
-    take_all(name, &mut letters, &mut lengths, &mut counts, &mut lines);
+    take_all(
+        rt,
+        name,
+        &mut letters,
+        &mut lengths,
+        &mut counts,
+        &mut lines,
+    );
 }

@@ -10,15 +10,16 @@ mod messages;
 
 use crate::back::print_braces;
 use crate::forth::convert;
+use files::{WORD, word};
 use text::compare::same;
 use text_files::is_nameable;
 
-fn main() {
-    let mut word = io::buffer();
-    let n = os::arg(1, &mut word);
-    if same(&word[..n], b"-d") {
-        print_braces();
-    } else if is_nameable(&word[..n]) {
-        convert(&word[..n]);
+fn main(rt: HostRuntime) {
+    let mut name = [0u8; WORD];
+    let n = word(&rt, 1, &mut name);
+    if same(&name[..n], b"-d") {
+        print_braces(&rt);
+    } else if is_nameable(&rt, &name[..n]) {
+        convert(&rt, &name[..n]);
     }
 }

@@ -8,10 +8,10 @@ use Rattle.files.specs.declared.reading.Read.{Read}
 abbrev pub PieceInto : List ℕ → Piece → Type 0
 PieceInto bytes (Piece.Bytes n) = (0 < n) × IsPrefixLen n bytes
 PieceInto bytes Piece.End = Unit {0}
-PieceInto bytes Piece.Failed = Unit {0}
+PieceInto bytes (Piece.Failed e) = Unit {0}
 
 -- a file that was read whole stands in the buffer
 abbrev pub ReadInto : List ℕ → Read → Type 0
 ReadInto bytes (Read.Whole n) = IsPrefixLen n bytes
 ReadInto bytes Read.Full = Unit {0}
-ReadInto bytes Read.Failed = Unit {0}
+ReadInto bytes (Read.Failed e) = Unit {0}

@@ -5,12 +5,10 @@ ghost use Rattle.io.specs.Counts.{IsPrefixLen};
 pub fn folder(path: &[u8]) -> usize
     ensures { IsPrefixLen result path.now }
 {
-    let mut i = path.len();
-    while 0 < i {
-        if path[i - 1] == b'/' {
-            return i;
+    for i in (0..path.len()).rev() {
+        if path[i] == b'/' {
+            return i + 1;
         }
-        i -= 1;
     }
     0
 }

@@ -1,29 +1,32 @@
-// Files opened by their names, and calls that a signal interrupted.
+// Files opened by their names.
+use std::fs::{File, OpenOptions};
+use std::io;
+use std::io::{Error, ErrorKind};
 
-// How often a call is made again: so often that it never matters, and so that every loop ends.
+// How often a call is made again that a signal interrupts: so often that it never matters, and so that every loop ends.
 pub const TRIES: u64 = 0xffff_ffff_ffff_ffff;
 
-// Whether the call that just failed was interrupted by a signal.
-pub fn interrupted() -> bool {
-    os::errno() == libc::EINTR
+// A path as text, which std's paths are. One that is not UTF-8 names no file that can be opened.
+pub fn path_text(path: &[u8]) -> io::Result<&str> {
+    match std::str::from_utf8(path) {
+        Ok(text) => Ok(text),
+        Err(_) => Err(Error::new(
+            ErrorKind::InvalidInput,
+            "its name is not UTF-8, and no such file can be opened",
+        )),
+    }
 }
 
-// Opens a file for reading, or makes a new one for writing. A descriptor, or a number below 0.
-pub fn opened(path: &[u8], new: bool) -> i32 {
-    let mut left = TRIES;
-    while 0 < left {
-        let fd = if new {
-            os::create(path)
-        } else {
-            os::open_read(path)
-        };
-        if 0 <= fd {
-            return fd;
-        }
-        if !interrupted() {
-            return fd;
-        }
-        left -= 1;
-    }
-    -1
+// Opens a file for reading.
+pub fn opened(rt: &HostRuntime, path: &[u8]) -> io::Result<File> {
+    File::open(rt, path_text(path)?)
+}
+
+// Makes a new file for writing. One that is there already is a failure.
+pub fn created(rt: &HostRuntime, path: &[u8]) -> io::Result<File> {
+    let text = path_text(path)?;
+    OpenOptions::new()
+        .write(true)
+        .create_new(true)
+        .open(rt, text)
 }

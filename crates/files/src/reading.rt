@@ -1,31 +1,35 @@
 // Files read to their end.
 ghost use Rattle.std.specs.Prelude.{◌≤◌, length};
+ghost use Rattle.io.specs.Counts.{IsPrefixLen};
 ghost use Rattle.files.specs.Reads.{ReadInto, PieceInto};
 
-use crate::opening::{TRIES, interrupted, opened};
+use crate::opening::{TRIES, opened};
+use crate::saying::fail;
+use std::io;
+use std::io::{Error, ErrorKind};
 
-// What one read finds: a number of bytes, at the start of the buffer, and at least one; the end of the file; or it failed.
+// What one read finds: a number of bytes, at the start of the buffer, and at least one; the end of the file; or why it failed.
 #[derive(Clone, Copy)]
 pub enum Piece {
     Bytes(usize),
     End,
-    Failed,
+    Failed(Error),
 }
 
-// What reading a file to its end finds: all its bytes, with their number, at the start of the buffer; more than the buffer holds; or a
-// read failed.
+// What reading a file to its end finds: all its bytes, with their number, at the start of the buffer; more than the buffer holds; or why
+// a read failed.
 #[derive(Clone, Copy)]
 pub enum Read {
     Whole(usize),
     Full,
-    Failed,
+    Failed(Error),
 }
 
 // What a read answered that did not fail.
-fn answered(got: isize, bytes: &[u8]) -> Piece
+fn answered(n: usize, bytes: &[u8]) -> Piece
+    requires { IsPrefixLen n bytes.now }
     ensures { PieceInto bytes.now result }
 {
-    let n = io::count(got, bytes);
     if n == 0 {
         return Piece::End;
     }
@@ -33,24 +37,23 @@ fn answered(got: isize, bytes: &[u8]) -> Piece
 }
 
 // One read. Where the buffer is empty it fails, since nothing could tell the end of the file from no room.
-pub fn read_piece(fd: i32, bytes: &mut [u8]) -> Piece
+pub fn read_piece<F: io::Read>(file: &mut F, bytes: &mut [u8]) -> Piece
     ensures { PieceInto bytes.new result }
 {
     if bytes.len() == 0 {
-        return Piece::Failed;
+        return Piece::Failed(Error::from(ErrorKind::InvalidInput));
     }
-    let mut left = TRIES;
-    while 0 < left {
-        let got = libc::read(fd, &mut *bytes);
-        if 0 <= got {
-            return answered(got, bytes);
+    for _ in 0..TRIES {
+        match file.read(&mut *bytes) {
+            Ok(n) => return answered(n, bytes),
+            Err(error) => {
+                if error.kind() != ErrorKind::Interrupted {
+                    return Piece::Failed(error);
+                }
+            }
         }
-        if !interrupted() {
-            return Piece::Failed;
-        }
-        left -= 1;
     }
-    Piece::Failed
+    Piece::Failed(Error::from(ErrorKind::Interrupted))
 }
 
 // What a buffer was filled with.
@@ -65,61 +68,68 @@ fn filled(at: usize, bytes: &[u8]) -> Piece
 }
 
 // Reads until the buffer is full or the file ends.
-pub fn fill(fd: i32, bytes: &mut [u8]) -> Piece
+pub fn fill<F: io::Read>(file: &mut F, bytes: &mut [u8]) -> Piece
     ensures { PieceInto bytes.new result }
 {
     let mut at = 0;
     while at < bytes.len() {
-        match read_piece(fd, &mut bytes[at..]) {
+        match read_piece(&mut *file, &mut bytes[at..]) {
             Piece::Bytes(n) => at += n,
             Piece::End => return filled(at, bytes),
-            Piece::Failed => return Piece::Failed,
+            Piece::Failed(error) => return Piece::Failed(error),
         }
     }
     filled(at, bytes)
 }
 
 // Whether the file ends here, where the buffer is full.
-fn at_end(fd: i32, bytes: &[u8]) -> Read
+fn at_end<F: io::Read>(file: &mut F, bytes: &[u8]) -> Read
     ensures { ReadInto bytes.now result }
 {
     let mut one = [0u8; 1];
-    match read_piece(fd, &mut one) {
+    match read_piece(&mut *file, &mut one) {
         Piece::Bytes(_) => Read::Full,
         Piece::End => Read::Whole(bytes.len()),
-        Piece::Failed => Read::Failed,
+        Piece::Failed(error) => Read::Failed(error),
     }
 }
 
 // Reads a file to its end. After a full buffer it asks for one byte more, and so knows whether there is any.
-pub fn read_all(fd: i32, bytes: &mut [u8]) -> Read
+pub fn read_all<F: io::Read>(file: &mut F, bytes: &mut [u8]) -> Read
     ensures { ReadInto bytes.new result }
 {
-    match fill(fd, &mut *bytes) {
-        Piece::Failed => Read::Failed,
+    match fill(&mut *file, &mut *bytes) {
+        Piece::Failed(error) => Read::Failed(error),
         Piece::End => Read::Whole(0),
         Piece::Bytes(n) => {
             if n < bytes.len() {
                 return Read::Whole(n);
             }
-            at_end(fd, bytes)
+            at_end(&mut *file, bytes)
         }
     }
 }
 
-// Reads a file to its end, by its name. Where that fails, the reason is said on standard error.
-pub fn read_file(path: &[u8], bytes: &mut [u8]) -> Read
+// Opens a file by its name, and reads it to its end.
+fn read_named(rt: &HostRuntime, path: &[u8], bytes: &mut [u8]) -> Read
     ensures { ReadInto bytes.new result }
 {
-    let fd = opened(path, false);
-    if fd < 0 {
-        os::fail(path);
-        return Read::Failed;
+    match opened(rt, path) {
+        Ok(file) => {
+            let mut file = file;
+            read_all(&mut file, &mut *bytes)
+        }
+        Err(error) => Read::Failed(error),
     }
-    let read = read_all(fd, &mut *bytes);
-    if let Read::Failed = read {
-        os::fail(path);
+}
+
+// Reads a file to its end, by its name. Where that fails, the reason is said on standard error.
+pub fn read_file(rt: &HostRuntime, path: &[u8], bytes: &mut [u8]) -> Read
+    ensures { ReadInto bytes.new result }
+{
+    let read = read_named(rt, path, &mut *bytes);
+    if let Read::Failed(error) = read {
+        fail(rt, path, error);
     }
-    libc::close(fd);
     read
 }

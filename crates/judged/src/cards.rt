@@ -20,18 +20,25 @@ pub fn of(line: &[u8]) -> Made {
 }
 
 // A card is to have the rows of another.
-pub fn rows(tally: Tally, group: usize, made: Made, wanted: Made) -> Tally {
+pub fn rows(rt: &HostRuntime, tally: Tally, group: usize, made: Made, wanted: Made) -> Tally {
     let mut t = tally;
     let mut q = 0;
     while q < Card::GREATEST_PATTERN {
-        t = t.compare(group, row(made, q), row(wanted, q));
+        t = t.compare(rt, group, row(made, q), row(wanted, q));
         q += 1;
     }
     t
 }
 
 // A card that is to be refused, and all zeros.
-fn refused(tally: Tally, group: usize, made: Made, number: u64, place: usize) -> Tally {
+fn refused(
+    rt: &HostRuntime,
+    tally: Tally,
+    group: usize,
+    made: Made,
+    number: u64,
+    place: usize,
+) -> Tally {
     let none = Card {
         pattern: [0; Card::GREATEST_PATTERN],
         m: 0,
@@ -47,7 +54,8 @@ fn refused(tally: Tally, group: usize, made: Made, number: u64, place: usize) ->
         &[0; Card::GREATEST_PATTERN],
     );
     rows(
-        tally.compare(group, named, Answer::told(0, 0, 0)),
+        rt,
+        tally.compare(rt, group, named, Answer::told(0, 0, 0)),
         group,
         made,
         Made {
@@ -58,11 +66,18 @@ fn refused(tally: Tally, group: usize, made: Made, number: u64, place: usize) ->
 }
 
 // A card whose row q is to be so, or that is to be refused.
-pub fn compare(tally: Tally, group: usize, made: Made, q: usize, wanted: Answer) -> Tally {
+pub fn compare(
+    rt: &HostRuntime,
+    tally: Tally,
+    group: usize,
+    made: Made,
+    q: usize,
+    wanted: Answer,
+) -> Tally {
     if wanted.number != 0 {
-        return refused(tally, group, made, wanted.number, wanted.place);
+        return refused(rt, tally, group, made, wanted.number, wanted.place);
     }
-    tally.compare(group, row(made, q), wanted)
+    tally.compare(rt, group, row(made, q), wanted)
 }
 
 // What a card makes of the state of these bits.
@@ -72,13 +87,13 @@ pub fn ask(card: Card, bits: usize) -> Answer {
 
 // broken: the right card is malformed. It is refused on the right of a join, on the left, on both sides, and asked; the left one
 // is refused first, and a state that is none is not asked for.
-pub fn broken(tally: Tally, group: usize, sound: Card, card: Card) -> Tally {
-    let right = refused(tally, group, sound.join(card), 11, 1);
-    let left = refused(right, group, card.join(sound), 11, 0);
-    let both = refused(left, group, card.join(card), 11, 0);
+pub fn broken(rt: &HostRuntime, tally: Tally, group: usize, sound: Card, card: Card) -> Tally {
+    let right = refused(rt, tally, group, sound.join(card), 11, 1);
+    let left = refused(rt, right, group, card.join(sound), 11, 0);
+    let both = refused(rt, left, group, card.join(card), 11, 0);
     let wanted = Answer::refused(11, 0);
-    let state = both.compare(group, ask(card, 1), wanted);
-    state.compare(group, ask(card, 0), wanted)
+    let state = both.compare(rt, group, ask(card, 1), wanted);
+    state.compare(rt, group, ask(card, 0), wanted)
 }
 
 // put m segments COUNT, put base i BASE, put row q exit first: the card with other fields.

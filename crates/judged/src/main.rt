@@ -10,6 +10,7 @@ mod stretches;
 mod writes;
 
 use card::{Card, Made};
+use files::{Piece, fill};
 use test_examples::notation::number;
 use test_examples::{ExampleLine, call, tell, wanted};
 use test_reference::places::part;
@@ -29,28 +30,42 @@ fn answer(call: usize, line: &[u8]) -> Answer {
 }
 
 // What a line counts. A search and a read are done both ways.
-fn compare(tally: Tally, group: usize, call: usize, line: &[u8]) -> Tally {
+fn compare(rt: &HostRuntime, tally: Tally, group: usize, call: usize, line: &[u8]) -> Tally {
     let wanted = wanted(line);
-    let t = tally.compare(group, answer(call, line), wanted);
+    let t = tally.compare(rt, group, answer(call, line), wanted);
     match call {
-        115 => t.compare(group, answer(83, line), wanted),
-        114 => t.compare(group, answer(82, line), wanted),
+        115 => t.compare(rt, group, answer(83, line), wanted),
+        114 => t.compare(rt, group, answer(82, line), wanted),
         _ => t,
     }
 }
 
 // What a line counts where the cards on the left and on the right are these: ask, broken, equal, join and make speak of them.
-fn judge(tally: Tally, group: usize, left: Card, right: Made, line: &[u8]) -> Tally {
+fn judge(
+    rt: &HostRuntime,
+    tally: Tally,
+    group: usize,
+    left: Card,
+    right: Made,
+    line: &[u8],
+) -> Tally {
     let card = right.card;
     let call = call(line);
     match call {
         0 | 112 => tally,
-        97 => tally.compare(group, cards::ask(card, number(line, 1)), wanted(line)),
-        98 => cards::broken(tally, group, left, card),
-        101 => cards::rows(tally, group, left.join(card), cards::of(line)),
-        106 => cards::compare(tally, group, left.join(card), number(line, 1), wanted(line)),
-        109 => cards::compare(tally, group, right, number(line, 3), wanted(line)),
-        _ => compare(tally, group, call, line),
+        97 => tally.compare(rt, group, cards::ask(card, number(line, 1)), wanted(line)),
+        98 => cards::broken(rt, tally, group, left, card),
+        101 => cards::rows(rt, tally, group, left.join(card), cards::of(line)),
+        106 => cards::compare(
+            rt,
+            tally,
+            group,
+            left.join(card),
+            number(line, 1),
+            wanted(line),
+        ),
+        109 => cards::compare(rt, tally, group, right, number(line, 3), wanted(line)),
+        _ => compare(rt, tally, group, call, line),
     }
 }
 
@@ -65,7 +80,7 @@ fn changed(right: Made, line: &[u8]) -> Made {
 }
 
 // Every line of the input, known by its number from 1 on. `make` puts what was on the right on the left.
-fn judged(input: &[u8]) -> Tally {
+fn judged(rt: &HostRuntime, input: &[u8]) -> Tally {
     let mut tally = Tally::NONE;
     let mut right = Card::empty(b"A", Strand::Given);
     let mut left = right.card;
@@ -79,14 +94,22 @@ fn judged(input: &[u8]) -> Tally {
             left = right.card;
         }
         right = changed(right, bytes);
-        tally = judge(tally.next(k as u64), line.group, left, right, bytes);
+        tally = judge(rt, tally.next(k as u64), line.group, left, right, bytes);
     }
     tally
 }
 
-fn main() {
-    let mut input = io::large_buffer();
-    let n = io::read_full(0, &mut input);
+// Reads standard input to its end, or as much of it as there is room for. How many bytes that were; none where a read failed.
+fn read(rt: &HostRuntime, input: &mut [u8]) -> usize {
+    match fill(&mut rt.stdin(), &mut *input) {
+        Piece::Bytes(n) => n,
+        _ => 0,
+    }
+}
+
+fn main(rt: HostRuntime) {
+    let mut input = [0u8; 65536];
+    let n = read(&rt, &mut input);
     let examples = part(&input, 0, n);
-    tell(judged(examples), examples);
+    tell(&rt, judged(&rt, examples), examples);
 }

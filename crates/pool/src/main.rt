@@ -16,34 +16,38 @@ mod walk;
 mod words;
 
 use chromosome::pool;
+use files::{WORD, count_words};
 use text::compare::same;
 use text_files::is_nameable;
 use words::{CHROMOSOME, TEXT, UNENDED, say};
 
 // Whether a last line without a line feed is taken as it is.
-fn is_unended() -> bool {
-    let mut word = io::buffer();
-    let n = os::arg(UNENDED, &mut word);
+fn is_unended(rt: &HostRuntime) -> bool {
+    let mut word = [0u8; WORD];
+    let n = files::word(rt, UNENDED, &mut word);
     same(&word[..n], b"--unended")
 }
 
 // Whether the command line has the words that it needs.
-fn is_asked() -> bool {
-    let words = os::arg_count();
-    words == 5 || words == 6 && is_unended()
+fn is_asked(rt: &HostRuntime) -> bool {
+    let words = count_words(rt);
+    words == 5 || words == 6 && is_unended(rt)
 }
 
-fn main() {
-    if !is_asked() {
-        say(b"usage: pool REFERENCE.fa CHROMOSOME FILE.vcf OUT [--unended]\n");
+fn main(rt: HostRuntime) {
+    if !is_asked(&rt) {
+        say(
+            &rt,
+            b"usage: pool REFERENCE.fa CHROMOSOME FILE.vcf OUT [--unended]\n",
+        );
         return;
     }
-    let mut out = io::buffer();
-    let m = os::arg(TEXT, &mut out);
-    if !is_nameable(&out[..m]) {
+    let mut out = [0u8; WORD];
+    let m = files::word(&rt, TEXT, &mut out);
+    if !is_nameable(&rt, &out[..m]) {
         return;
     }
-    let mut name = io::buffer();
-    let n = os::arg(CHROMOSOME, &mut name);
-    pool(&name[..n], is_unended());
+    let mut name = [0u8; WORD];
+    let n = files::word(&rt, CHROMOSOME, &mut name);
+    pool(&rt, &name[..n], is_unended(&rt));
 }

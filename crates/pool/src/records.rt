@@ -4,6 +4,7 @@ use crate::source::{ENDED, FAILED, Source, next_piece};
 use crate::words::{VARIANTS, tell, tell_line};
 use lines::put_bytes;
 use pool_files::{Come, ShortLine, read_line};
+use std::fs::File;
 use text::compare::prefix;
 use text::part;
 use vcf::records::heading;
@@ -63,14 +64,16 @@ pub fn put_heading(out: &mut [u8], at: usize) -> usize {
 }
 
 // What is wrong with a file that does not begin as a variant file does.
-fn tell_heading(piece: &[u8]) {
+fn tell_heading(rt: &HostRuntime, piece: &[u8]) {
     if prefix(&[0x1F, 0x8B], piece) {
         tell(
+            rt,
             VARIANTS,
             b"it is compressed; unpack it into a file first, by gunzip",
         );
     } else {
         tell(
+            rt,
             VARIANTS,
             b"this is no file in Variant Call Format 4: it does not begin with ##fileformat=VCFv4.",
         );
@@ -78,14 +81,14 @@ fn tell_heading(piece: &[u8]) {
 }
 
 // Reads the first piece of a variant file. One that does not begin as such a file is said, and not taken.
-pub fn begin(source: Source, piece: &mut [u8]) -> Source {
-    let mut next = next_piece(source, &mut *piece);
+pub fn begin(rt: &HostRuntime, source: Source, file: &mut File, piece: &mut [u8]) -> Source {
+    let mut next = next_piece(rt, source, &mut *file, &mut *piece);
     let first = part(piece, 0, next.end);
     if next.state == ENDED {
-        tell(VARIANTS, b"the file is empty");
+        tell(rt, VARIANTS, b"the file is empty");
         next.state = FAILED;
     } else if next.state != FAILED && !heading::is_headed(first) {
-        tell_heading(first);
+        tell_heading(rt, first);
         next.state = FAILED;
     }
     next
@@ -99,8 +102,8 @@ fn came(records: Records, got: u64) -> Records {
 }
 
 // A line that is wrong.
-fn fault(records: Records, reason: &[u8]) -> Records {
-    tell_line(records.number, reason);
+fn fault(rt: &HostRuntime, records: Records, reason: &[u8]) -> Records {
+    tell_line(rt, records.number, reason);
     came(records, FAULT)
 }
 
@@ -119,16 +122,23 @@ fn after_comment(records: Records, columns: usize, name: &[u8], kept: &[u8]) -> 
 }
 
 // After a record's line: one with fewer columns than the others may have been cut.
-fn after_record(records: Records, line: ShortLine, columns: usize, name: &[u8]) -> Records {
+fn after_record(
+    rt: &HostRuntime,
+    records: Records,
+    line: ShortLine,
+    columns: usize,
+    name: &[u8],
+) -> Records {
     let mut next = records;
     if !line.has_fields() {
-        return fault(next, b"it has fewer than eight fields, parted by tabs");
+        return fault(rt, next, b"it has fewer than eight fields, parted by tabs");
     }
     if next.columns == 0 {
         next.columns = columns;
     }
     if columns != next.columns {
         return fault(
+            rt,
             next,
             b"it does not have as many columns as the #CHROM line, or as the first record where there is none",
         );
@@ -139,6 +149,7 @@ fn after_record(records: Records, line: ShortLine, columns: usize, name: &[u8]) 
     }
     if !line.whole {
         return fault(
+            rt,
             next,
             b"the record is too long: alone it needs a stretch of more than 32,768 bytes",
         );
@@ -149,7 +160,7 @@ fn after_record(records: Records, line: ShortLine, columns: usize, name: &[u8]) 
 }
 
 // After a line that has ended.
-fn after_line(name: &[u8], records: Records, short: &[u8]) -> Records {
+fn after_line(rt: &HostRuntime, name: &[u8], records: Records, short: &[u8]) -> Records {
     let line = records.line;
     let mut next = records;
     next.line = ShortLine::at(0);
@@ -158,11 +169,11 @@ fn after_line(name: &[u8], records: Records, short: &[u8]) -> Records {
     if line.is_comment() {
         return after_comment(next, columns, name, part(short, 0, line.behind));
     }
-    after_record(next, line, columns, name)
+    after_record(rt, next, line, columns, name)
 }
 
 // The file has ended, perhaps in a line: the next turn ends the work.
-fn at_end(name: &[u8], records: Records, short: &[u8]) -> Records {
+fn at_end(rt: &HostRuntime, name: &[u8], records: Records, short: &[u8]) -> Records {
     let line = records.line;
     let source = records.source;
     if line.is_new() {
@@ -173,29 +184,44 @@ fn at_end(name: &[u8], records: Records, short: &[u8]) -> Records {
         next.number = std::num::wrapping_add_u64(records.number, 1);
         next.line = ShortLine::at(0);
         return fault(
+            rt,
             next,
             b"it does not end with a line feed: the file may have been cut (--unended takes it as it is)",
         );
     }
-    after_line(name, records, short)
+    after_line(rt, name, records, short)
 }
 
 // The next piece, after one that is used up.
-fn turn_page(name: &[u8], records: Records, piece: &mut [u8], short: &[u8]) -> Records {
+fn turn_page(
+    rt: &HostRuntime,
+    file: &mut File,
+    name: &[u8],
+    records: Records,
+    piece: &mut [u8],
+    short: &[u8],
+) -> Records {
     let before = records.source;
-    let source = next_piece(before, &mut *piece);
+    let source = next_piece(rt, before, &mut *file, &mut *piece);
     let mut next = records;
     next.source = source;
     let state = source.state;
     match state {
-        ENDED => at_end(name, next, short),
+        ENDED => at_end(rt, name, next, short),
         FAILED => came(next, STOP),
         _ => came(next, NOTHING),
     }
 }
 
 // Reads on to the end of the line or of the piece. The line in short is put into the buffer.
-pub fn read_on(name: &[u8], records: Records, piece: &mut [u8], short: &mut [u8]) -> Records {
+pub fn read_on(
+    rt: &HostRuntime,
+    file: &mut File,
+    name: &[u8],
+    records: Records,
+    piece: &mut [u8],
+    short: &mut [u8],
+) -> Records {
     let mut next = records;
     let mut source = records.source;
     let held = part(piece, 0, source.end);
@@ -204,13 +230,13 @@ pub fn read_on(name: &[u8], records: Records, piece: &mut [u8], short: &mut [u8]
             source.at = source.end;
             next.line = line;
             next.source = source;
-            turn_page(name, next, &mut *piece, short)
+            turn_page(rt, &mut *file, name, next, &mut *piece, short)
         }
         Come::End { line, next: at } => {
             source.at = at;
             next.line = line;
             next.source = source;
-            after_line(name, next, short)
+            after_line(rt, name, next, short)
         }
     }
 }

@@ -1,5 +1,5 @@
 // The bases of the chromosome, taken from the reference as they are wanted.
-use crate::source::{ENDED, FAILED, next_piece};
+use crate::source::{ENDED, FAILED, Inputs, next_piece};
 use crate::walk::{INSIDE, OVER, Walk, stop};
 use crate::words::{REFERENCE, tell, tell_byte};
 use eds_notation::Place;
@@ -15,22 +15,24 @@ pub struct Spot {
 }
 
 // What is wrong with a file that does not begin as a reference does.
-fn tell_first(piece: &[u8]) {
+fn tell_first(rt: &HostRuntime, piece: &[u8]) {
     if prefix(&[0x1F], piece) {
         tell(
+            rt,
             REFERENCE,
             b"it is compressed; unpack it into a file first, by gunzip",
         );
     } else {
         tell(
+            rt,
             REFERENCE,
             b"this is no reference in FASTA format: it does not begin with >",
         );
     }
 }
 
-fn tell_missing() {
-    tell(REFERENCE, b"no sequence in it has that name");
+fn tell_missing(rt: &HostRuntime) {
+    tell(rt, REFERENCE, b"no sequence in it has that name");
 }
 
 // The last base was taken.
@@ -41,13 +43,14 @@ fn over(walk: Walk) -> Walk {
 }
 
 // The file has ended in the sequence: one that does not end with a line feed may have been cut.
-fn at_last_base(walk: Walk) -> Walk {
+fn at_last_base(rt: &HostRuntime, walk: Walk) -> Walk {
     let records = walk.records;
     let reference = walk.reference;
     if reference.feed || records.unended {
         return over(walk);
     }
     tell(
+        rt,
         REFERENCE,
         b"its last line does not end with a line feed: the file may have been cut (--unended takes it as it is)",
     );
@@ -55,34 +58,35 @@ fn at_last_base(walk: Walk) -> Walk {
 }
 
 // The file has ended: the sequence with it, if it was found.
-fn at_end(walk: Walk) -> Walk {
+fn at_end(rt: &HostRuntime, walk: Walk) -> Walk {
     let spot = walk.spot;
     let reading = spot.reading;
     match reading {
-        Reading::Start => tell_first(b""),
-        Reading::Before => tell_missing(),
-        Reading::Passing => tell_missing(),
-        Reading::Word(_) => tell_missing(),
+        Reading::Start => tell_first(rt, b""),
+        Reading::Before => tell_missing(rt),
+        Reading::Passing => tell_missing(rt),
+        Reading::Word(_) => tell_missing(rt),
         _ => {
-            return at_last_base(walk);
+            return at_last_base(rt, walk);
         }
     }
     stop(walk)
 }
 
 // The next piece, after one that is used up.
-pub fn turn_page(walk: Walk, piece: &mut [u8]) -> Walk {
+pub fn turn_page(inputs: &mut Inputs, walk: Walk, piece: &mut [u8]) -> Walk {
+    let rt = inputs.rt;
     let before = walk.reference;
     let spot = walk.spot;
     let reading = spot.reading;
     let place = spot.place;
     let there = place.behind(part(piece, 0, before.end), before.end);
-    let reference = next_piece(before, &mut *piece);
+    let reference = next_piece(&rt, before, &mut inputs.reference, &mut *piece);
     let mut next = walk;
     next.reference = reference;
     let state = reference.state;
     match state {
-        ENDED => at_end(next),
+        ENDED => at_end(&rt, next),
         FAILED => stop(next),
         _ => {
             let begun = Spot {
@@ -103,14 +107,15 @@ fn is_start(reading: Reading) -> bool {
 }
 
 // What is wrong with the byte at a place of the piece: the first of the file, or one of the sequence.
-fn tell_wrong(spot: Spot, piece: &[u8], at: usize) {
+fn tell_wrong(rt: &HostRuntime, spot: Spot, piece: &[u8], at: usize) {
     let reading = spot.reading;
     let place = spot.place;
     if is_start(reading) && at == 0 {
-        tell_first(piece);
+        tell_first(rt, piece);
     } else {
         let there = place.behind(piece, at);
         tell_byte(
+            rt,
             there.line as u64,
             there.column as u64,
             b"this byte is no letter: it is not A, C, G, T or N",
@@ -131,7 +136,14 @@ fn with_bases(walk: Walk, n: usize) -> Held {
 }
 
 // Takes n bases of the sequence of this name into the window, for which there is room, or as many of them as the piece has.
-pub fn take_bases(name: &[u8], walk: Walk, n: usize, piece: &[u8], window: &mut [u8]) -> Walk {
+pub fn take_bases(
+    rt: &HostRuntime,
+    name: &[u8],
+    walk: Walk,
+    n: usize,
+    piece: &[u8],
+    window: &mut [u8],
+) -> Walk {
     let spot = walk.spot;
     let before = spot.reading;
     let place = spot.place;
@@ -160,7 +172,7 @@ pub fn take_bases(name: &[u8], walk: Walk, n: usize, piece: &[u8], window: &mut 
     match reading {
         Reading::Over => over(next),
         Reading::Wrong => {
-            tell_wrong(spot, held_piece, got.at);
+            tell_wrong(rt, spot, held_piece, got.at);
             stop(next)
         }
         _ => next,

@@ -1,7 +1,12 @@
 // A file that is read in pieces, from front to end, with the digest of all that was read.
 use digest::Hashing;
-use files::{Piece, fill};
+use files::{Piece, WORD, fail, fill, opened};
+use std::fs::File;
+use std::io::Error;
 use text::part;
+
+// How much is read at once.
+pub const PIECE: usize = 65536;
 
 // There may be more of it; it has ended; or it could not be read, which is said.
 pub const OPEN: u64 = 0;
@@ -10,11 +15,10 @@ pub const ENDED: u64 = 1;
 
 pub const FAILED: u64 = 2;
 
-// A file, the word of the command line that names it, how far the piece that is held is read, its length, whether the file so far ends with
+// The word of the command line that names a file, how far the piece that is held is read, its length, whether the file so far ends with
 // a line feed, and what comes next.
 #[derive(Clone, Copy)]
 pub struct Source {
-    pub fd: i32,
     pub word: usize,
     pub at: usize,
     pub end: usize,
@@ -23,24 +27,36 @@ pub struct Source {
     pub hashing: Hashing,
 }
 
+// The files that are read, and what the program reads, writes and says by.
+#[derive(Drop)]
+pub struct Inputs {
+    pub rt: HostRuntime,
+    pub reference: File,
+    pub variants: File,
+}
+
 // Opens the file that this word names, or says why not.
-pub fn open(word: usize) -> Source {
-    let mut path = io::buffer();
-    let n = os::arg(word, &mut path);
-    let fd = os::open_read(&path[..n]);
-    let mut state = OPEN;
-    if fd < 0 {
-        os::fail(&path[..n]);
-        state = FAILED;
+pub fn open(rt: &HostRuntime, word: usize) -> Option<File> {
+    let mut path = [0u8; WORD];
+    let n = files::word(rt, word, &mut path);
+    match opened(rt, &path[..n]) {
+        Ok(file) => Some(file),
+        Err(error) => {
+            fail(rt, &path[..n], error);
+            None
+        }
     }
+}
+
+// The file that this word names, of which nothing is read yet.
+pub fn unread(word: usize) -> Source {
     let hashing = Hashing::new();
     Source {
-        fd,
         word,
         at: 0,
         end: 0,
         feed: true,
-        state,
+        state: OPEN,
         hashing,
     }
 }
@@ -65,21 +81,26 @@ fn with_piece(source: Source, piece: &[u8]) -> Source {
     next
 }
 
-// Reads the next piece. The name is asked for before, since asking for it hides why a read fails.
-pub fn next_piece(source: Source, piece: &mut [u8]) -> Source {
-    let mut path = io::buffer();
-    let m = os::arg(source.word, &mut path);
+// Says why the file that this word names could not be read.
+fn tell_failed(rt: &HostRuntime, word: usize, error: Error) {
+    let mut path = [0u8; WORD];
+    let n = files::word(rt, word, &mut path);
+    fail(rt, &path[..n], error);
+}
+
+// Reads the next piece.
+pub fn next_piece(rt: &HostRuntime, source: Source, file: &mut File, piece: &mut [u8]) -> Source {
     let mut next = source;
     next.at = 0;
     next.end = 0;
-    match fill(source.fd, &mut *piece) {
+    match fill(&mut *file, &mut *piece) {
         Piece::Bytes(n) => with_piece(next, part(piece, 0, n)),
         Piece::End => {
             next.state = ENDED;
             next
         }
-        Piece::Failed => {
-            os::fail(&path[..m]);
+        Piece::Failed(error) => {
+            tell_failed(rt, source.word, error);
             next.state = FAILED;
             next
         }
@@ -87,14 +108,14 @@ pub fn next_piece(source: Source, piece: &mut [u8]) -> Source {
 }
 
 // Reads a file to its end, for its digest. Nothing counts the pieces, so the loop counts down from a number that no run uses up.
-pub fn to_end(source: Source, piece: &mut [u8]) -> Source {
+pub fn to_end(rt: &HostRuntime, source: Source, file: &mut File, piece: &mut [u8]) -> Source {
     let mut now = source;
     let mut turns = u64::MAX;
     while 0 < turns {
         if now.state != OPEN {
             return now;
         }
-        now = next_piece(now, &mut *piece);
+        now = next_piece(rt, now, &mut *file, &mut *piece);
         turns -= 1;
     }
     now

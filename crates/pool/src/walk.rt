@@ -3,9 +3,10 @@
 // from then on nothing more is built or written, and the rest is only looked through.
 use crate::records::{HEADING, Records};
 use crate::sequence::{Spot, take_bases, turn_page};
-use crate::source::Source;
+use crate::source::{Inputs, Source};
 use crate::words::{REFERENCE, TEXT, say, say_number, tell};
 use eds_notation::Place;
+use files::WORD;
 use pool_files::{Held, Reading};
 use stretch::Written;
 use text::numbers::least;
@@ -97,12 +98,12 @@ pub fn stop(walk: Walk) -> Walk {
 }
 
 // A fault was told: the walk goes on to the next record, up to the last fault that is told.
-pub fn with_fault(walk: Walk) -> Walk {
+pub fn with_fault(rt: &HostRuntime, walk: Walk) -> Walk {
     let mut next = walk;
     next.aim = NEXT;
     next.faults = std::num::wrapping_add_u64(walk.faults, 1);
     if next.faults == MOST_FAULTS {
-        say(b"pool: 20 faults; the rest is not looked at\n");
+        say(rt, b"pool: 20 faults; the rest is not looked at\n");
         return stop(next);
     }
     next
@@ -114,51 +115,52 @@ pub fn next_position(walk: Walk) -> usize {
 }
 
 // Why a window could not be built.
-fn tell_window(wrong: Refusal) {
-    tell(REFERENCE, b"a window could not be built");
-    say_number(b"refused ", wrong.number);
-    say_number(b" at ", wrong.place as u64);
-    say(b"\n");
+fn tell_window(rt: &HostRuntime, wrong: Refusal) {
+    tell(rt, REFERENCE, b"a window could not be built");
+    say_number(rt, b"refused ", wrong.number);
+    say_number(rt, b" at ", wrong.place as u64);
+    say(rt, b"\n");
 }
 
 // Progress, each hundred stretches.
-fn tell_done(walk: Walk) {
+fn tell_done(rt: &HostRuntime, walk: Walk) {
     let built = walk.built;
     if built.stretches % 100 == 0 {
-        say_number(b"", built.stretches);
+        say_number(rt, b"", built.stretches);
         say_number(
+            rt,
             b" stretches, ",
             std::num::wrapping_sub_usize(next_position(walk), 1) as u64,
         );
-        say(b" bases\n");
+        say(rt, b" bases\n");
     }
 }
 
 // Writes the window's stretch.
-fn write_window(walk: Walk, stretch: &[u8], text: &mut [u8]) -> Walk {
-    let mut name = io::buffer();
-    let n = os::arg(TEXT, &mut name);
-    let built = write_stretch(&name[..n], walk.built, stretch, &mut *text);
+fn write_window(rt: &HostRuntime, walk: Walk, stretch: &[u8], text: &mut [u8]) -> Walk {
+    let mut name = [0u8; WORD];
+    let n = files::word(rt, TEXT, &mut name);
+    let built = write_stretch(rt, &name[..n], walk.built, stretch, &mut *text);
     let mut next = walk;
     next.built = built;
     if !built.whole {
         return stop(next);
     }
-    tell_done(next);
+    tell_done(rt, next);
     next
 }
 
 // The window's stretch, built and written.
-fn build_window(walk: Walk, window: &[u8], text: &mut [u8]) -> Walk {
+fn build_window(rt: &HostRuntime, walk: Walk, window: &[u8], text: &mut [u8]) -> Walk {
     let mut out = [0u8; limits::GREATEST_STRETCH];
     let lines = part(window, LINES, walk.lines);
     let bases = part(window, 0, walk.count);
     match build(lines, bases, walk.first, b"", &mut out) {
         Written::Refused(wrong) => {
-            tell_window(wrong);
+            tell_window(rt, wrong);
             stop(walk)
         }
-        Written::Bytes(n) => write_window(walk, part(&out, 0, n), &mut *text),
+        Written::Bytes(n) => write_window(rt, walk, part(&out, 0, n), &mut *text),
     }
 }
 
@@ -174,11 +176,11 @@ fn next_window(walk: Walk) -> Walk {
 }
 
 // Builds the window's stretch and writes it, unless something is wrong, and the next window begins.
-pub fn cut_window(walk: Walk, window: &[u8], text: &mut [u8]) -> Walk {
+pub fn cut_window(rt: &HostRuntime, walk: Walk, window: &[u8], text: &mut [u8]) -> Walk {
     if walk.faults != 0 {
         return next_window(walk);
     }
-    let written = build_window(walk, window, &mut *text);
+    let written = build_window(rt, walk, window, &mut *text);
     next_window(written)
 }
 
@@ -193,15 +195,23 @@ fn room(walk: Walk) -> usize {
 
 // One step towards the position that is aimed at: a cut where there is no room, the next piece after one that is used up, or bases of the
 // one that is held.
-pub fn step(name: &[u8], walk: Walk, piece: &mut [u8], window: &mut [u8], text: &mut [u8]) -> Walk {
+pub fn step(
+    inputs: &mut Inputs,
+    name: &[u8],
+    walk: Walk,
+    piece: &mut [u8],
+    window: &mut [u8],
+    text: &mut [u8],
+) -> Walk {
+    let rt = &inputs.rt;
     let reference = walk.reference;
     let most = room(walk);
     if most == 0 {
-        cut_window(walk, window, &mut *text)
+        cut_window(rt, walk, window, &mut *text)
     } else if reference.at == reference.end {
-        turn_page(walk, &mut *piece)
+        turn_page(&mut *inputs, walk, &mut *piece)
     } else {
         let wanted = std::num::wrapping_sub_usize(walk.until, next_position(walk));
-        take_bases(name, walk, least(wanted, most), piece, &mut *window)
+        take_bases(rt, name, walk, least(wanted, most), piece, &mut *window)
     }
 }

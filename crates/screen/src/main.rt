@@ -10,13 +10,15 @@ ghost use Rattle.lines.specs.Input.{most_read};
 ghost use Rattle.lines.specs.Answer.{most_bytes};
 ghost use Rattle.screen.specs.Screened.{Screened};
 
-use files::{Read, read_all};
+use files::{Read, given_to_read, read_all, word};
 use lines::strands::{Named, Strands, by_word};
+use std::io;
+use std::io::Error;
 use text::compare::same;
 use text::strand::Strand;
 
 // The descriptor of a stretch that comes apart from the pattern.
-const STRETCH_FILENO: i32 = 7;
+const STRETCH: u32 = 7;
 
 // Puts the lines of an input into `out` and tells how many bytes they are. The first n of `bytes` are all of the input or, since no
 // line depends on what lies after them, as much as there is room for.
@@ -28,20 +30,20 @@ fn screen(strands: Strands, bytes: &[u8], n: usize, out: &mut [u8]) -> usize
 }
 
 // The strands that the command line names.
-fn strands_asked() -> Named {
-    if os::arg_count() < 2 {
+fn strands_asked(rt: &HostRuntime) -> Named {
+    if files::count_words(rt) < 2 {
         return Named::Are(Strands::One(Strand::Given));
     }
-    let mut word = [0u8; 9];
-    let n = os::arg(1, &mut word);
-    by_word(&word[..n])
+    let mut strands = [0u8; 9];
+    let n = word(rt, 1, &mut strands);
+    by_word(&strands[..n])
 }
 
 // Whether the stretch is on descriptor 7.
-fn is_apart() -> bool {
-    let mut word = [0u8; 6];
-    let n = os::arg(2, &mut word);
-    same(&word[..n], b"apart")
+fn is_apart(rt: &HostRuntime) -> bool {
+    let mut way = [0u8; 6];
+    let n = word(rt, 2, &mut way);
+    same(&way[..n], b"apart")
 }
 
 // How many bytes of an input were read, and whether nothing failed.
@@ -61,27 +63,41 @@ fn bounded(n: usize, bytes: &[u8]) -> usize
     0
 }
 
+// That not all could be read, which is said.
+fn failed(rt: &HostRuntime, error: Error) -> Input {
+    files::fail(rt, b"screen: the input", error);
+    Input { n: 0, whole: false }
+}
+
 // Reads a file to its end, or as much of it as there is room for. What fails is said.
-fn read(fd: i32, bytes: &mut [u8]) -> Input {
-    match read_all(fd, &mut *bytes) {
+fn read<F: io::Read>(rt: &HostRuntime, file: &mut F, bytes: &mut [u8]) -> Input {
+    match read_all(&mut *file, &mut *bytes) {
         Read::Whole(n) => Input { n, whole: true },
         Read::Full => Input {
             n: bytes.len(),
             whole: true,
         },
-        Read::Failed => {
-            os::fail(b"screen: the input");
-            Input { n: 0, whole: false }
+        Read::Failed(error) => failed(rt, error),
+    }
+}
+
+// Reads the stretch that is on a descriptor of its own.
+fn read_stretch(rt: &HostRuntime, bytes: &mut [u8]) -> Input {
+    match given_to_read(rt, STRETCH) {
+        Ok(file) => {
+            let mut file = file;
+            read(rt, &mut file, &mut *bytes)
         }
+        Err(error) => failed(rt, error),
     }
 }
 
 // Reads the stretch after a pattern of n bytes.
-fn read_apart(bytes: &mut [u8], n: usize) -> Input {
+fn read_apart(rt: &HostRuntime, bytes: &mut [u8], n: usize) -> Input {
     if bytes.len() < n {
         return Input { n, whole: false };
     }
-    let rest = read(STRETCH_FILENO, &mut bytes[n..]);
+    let rest = read_stretch(rt, &mut bytes[n..]);
     Input {
         n: std::num::wrapping_add_usize(n, rest.n),
         whole: rest.whole,
@@ -89,28 +105,28 @@ fn read_apart(bytes: &mut [u8], n: usize) -> Input {
 }
 
 // Reads the input, of which the stretch may come apart.
-fn read_input(bytes: &mut [u8]) -> Input {
-    let front = read(libc::STDIN_FILENO, &mut *bytes);
+fn read_input(rt: &HostRuntime, bytes: &mut [u8]) -> Input {
+    let front = read(rt, &mut rt.stdin(), &mut *bytes);
     if !front.whole {
         return front;
     }
-    if !is_apart() {
+    if !is_apart(rt) {
         return front;
     }
-    read_apart(&mut *bytes, front.n)
+    read_apart(rt, &mut *bytes, front.n)
 }
 
-fn main() {
-    match strands_asked() {
+fn main(rt: HostRuntime) {
+    match strands_asked(&rt) {
         Named::Unknown => {}
         Named::Are(strands) => {
             let mut bytes = [0u8; lines::input::MOST_READ];
             let mut out = [0u8; lines::MOST_BYTES];
-            let got = read_input(&mut bytes);
+            let got = read_input(&rt, &mut bytes);
             if got.whole {
                 let n = bounded(got.n, &bytes);
                 let end = screen(strands, &bytes, n, &mut out);
-                files::write_all(libc::STDOUT_FILENO, &out[..end]);
+                files::write_all(&mut rt.stdout(), &out[..end]);
             }
         }
     }

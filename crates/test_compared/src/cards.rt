@@ -9,7 +9,7 @@ use test_reference::places::part;
 use test_tally::{Tally, report};
 
 // The case of a tally's number. A text that is accepted is cut on the given strand.
-fn case(tally: Tally) -> Tally {
+fn case(rt: &HostRuntime, tally: Tally) -> Tally {
     let case = Case::of(tally.at);
     let verdict = case.verdict;
     let strand = case.strand;
@@ -19,30 +19,30 @@ fn case(tally: Tally) -> Tally {
     let bases = case.read;
     let read = part(&bases, 0, case.m);
     let made = Card::of(part(&given, 0, case.m), strand, stretch);
-    let t = cards::compare(tally, cards::CARDS, read, stretch, verdict, made);
+    let t = cards::compare(rt, tally, cards::CARDS, read, stretch, verdict, made);
     if STRETCHES <= tally.at {
         return t;
     }
     if verdict.number != 0 {
         return t;
     }
-    joins::compare(t, read, stretch, verdict)
+    joins::compare(rt, t, read, stretch, verdict)
 }
 
 // All cases.
-fn all() -> Tally {
+fn all(rt: &HostRuntime) -> Tally {
     let mut tally = Tally::NONE;
     let mut number = 0;
     while number < CASES {
-        tally = case(tally.next(number));
+        tally = case(rt, tally.next(number));
         number += 1;
     }
     tally
 }
 
-pub fn tell() {
+pub fn tell(rt: &HostRuntime) {
     let mut out = [0u8; 4096];
     let names = b"cards, row by row\njoins of two parts, and what cards tell of states\n";
-    let end = report(all(), names, b" comparisons, ", &mut out);
-    io::write_all(1, part(&out, 0, end));
+    let end = report(all(rt), names, b" comparisons, ", &mut out);
+    let _ = rt.write_all(part(&out, 0, end));
 }

@@ -9,11 +9,11 @@ mod states;
 mod strands;
 mod stretches;
 
-fn main() {
-    searches::tell();
-    strands::tell();
-    states::tell();
-    cards::tell();
-    stretches::tell();
-    lists::tell();
+fn main(rt: HostRuntime) {
+    searches::tell(&rt);
+    strands::tell(&rt);
+    states::tell(&rt);
+    cards::tell(&rt);
+    stretches::tell(&rt);
+    lists::tell(&rt);
 }

@@ -21,7 +21,7 @@ fn seen(tally: Tally, verdict: Verdict, found: Ran) -> Tally {
 }
 
 // The case of a tally's number, searched on its strand. What was seen is counted on the given one.
-fn case(tally: Tally) -> Tally {
+fn case(rt: &HostRuntime, tally: Tally) -> Tally {
     let case = Case::of(tally.at);
     let verdict = case.verdict;
     let strand = case.strand;
@@ -31,8 +31,8 @@ fn case(tally: Tally) -> Tally {
     let p = part(&given, 0, case.m);
     let read = case.read;
     let found = run(part(&read, 0, case.m), stretch, verdict, 1);
-    let bits = searches::compare(tally, true, p, strand, stretch, verdict, found);
-    let t = searches::compare(bits, false, p, strand, stretch, verdict, found);
+    let bits = searches::compare(rt, tally, true, p, strand, stretch, verdict, found);
+    let t = searches::compare(rt, bits, false, p, strand, stretch, verdict, found);
     if STRETCHES <= tally.at {
         return t;
     }
@@ -40,20 +40,20 @@ fn case(tally: Tally) -> Tally {
 }
 
 // All cases.
-fn all() -> Tally {
+fn all(rt: &HostRuntime) -> Tally {
     let mut tally = Tally::NONE;
     let mut number = 0;
     while number < CASES {
-        tally = case(tally.next(number));
+        tally = case(rt, tally.next(number));
         number += 1;
     }
     tally
 }
 
-pub fn tell() {
+pub fn tell(rt: &HostRuntime) {
     let mut out = [0u8; 4096];
     let end = report(
-        all(),
+        all(rt),
         b"random texts accepted\n\n\n\n\n\n\n\nrandom texts refused with 8\n\n\n\n\n\n\n\n\n\nsegments of random texts\n\
           marked ones of them\n\n\n\n\n\n\n\n\n\n\n\n\ndamaged stretches accepted\ndamaged stretches refused with 1\n\
           damaged stretches refused with 2\ndamaged stretches refused with 3\n\ndamaged stretches refused with 5\n\
@@ -63,5 +63,5 @@ pub fn tell() {
         b" comparisons, ",
         &mut out,
     );
-    io::write_all(1, part(&out, 0, end));
+    let _ = rt.write_all(part(&out, 0, end));
 }

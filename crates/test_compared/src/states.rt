@@ -9,7 +9,7 @@ use test_reference::run;
 use test_tally::{Tally, report};
 
 // The case of a tally's number. Only a text that is accepted is cut.
-fn case(tally: Tally) -> Tally {
+fn case(rt: &HostRuntime, tally: Tally) -> Tally {
     let case = Case::of(tally.at);
     let verdict = case.verdict;
     let strand = case.strand;
@@ -19,11 +19,12 @@ fn case(tally: Tally) -> Tally {
     let p = part(&given, 0, case.m);
     let bases = case.read;
     let read = part(&bases, 0, case.m);
-    let fed = feeds::compare(tally, read, p, strand, stretch, verdict);
+    let fed = feeds::compare(rt, tally, read, p, strand, stretch, verdict);
     if verdict.number != 0 {
         return fed;
     }
     cuts::compare(
+        rt,
         fed,
         p,
         strand,
@@ -34,19 +35,19 @@ fn case(tally: Tally) -> Tally {
 }
 
 // All cases.
-fn all() -> Tally {
+fn all(rt: &HostRuntime) -> Tally {
     let mut tally = Tally::NONE;
     let mut number = 0;
     while number < CASES {
-        tally = case(tally.next(number));
+        tally = case(rt, tally.next(number));
         number += 1;
     }
     tally
 }
 
-pub fn tell() {
+pub fn tell(rt: &HostRuntime) {
     let mut out = [0u8; 4096];
     let names = b"feeds, segment by segment\nsearches from a state, cut at every segment\n";
-    let end = report(all(), names, b" comparisons, ", &mut out);
-    io::write_all(1, part(&out, 0, end));
+    let end = report(all(rt), names, b" comparisons, ", &mut out);
+    let _ = rt.write_all(part(&out, 0, end));
 }

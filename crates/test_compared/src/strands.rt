@@ -12,7 +12,7 @@ use test_tally::{Tally, report};
 pub const EITHER: usize = 0;
 
 // The case of a tally's number, whose pattern is read on the opposite strand and as it is given.
-fn case(tally: Tally) -> Tally {
+fn case(rt: &HostRuntime, tally: Tally) -> Tally {
     let case = Case::of(tally.at);
     let verdict = case.verdict;
     let bytes = case.bytes;
@@ -22,6 +22,7 @@ fn case(tally: Tally) -> Tally {
     let read = case.read;
     let opposite = run(part(&read, 0, case.m), stretch, verdict, 1);
     both::compare(
+        rt,
         tally,
         p,
         stretch,
@@ -32,23 +33,23 @@ fn case(tally: Tally) -> Tally {
 }
 
 // The cases on the opposite strand.
-fn all() -> Tally {
+fn all(rt: &HostRuntime) -> Tally {
     let mut tally = Tally::NONE;
     let mut number = STRETCHES;
     while number < CASES {
-        tally = case(tally.next(number));
+        tally = case(rt, tally.next(number));
         number += 1;
     }
     tally
 }
 
-pub fn tell() {
+pub fn tell(rt: &HostRuntime) {
     let mut out = [0u8; 4096];
     let end = report(
-        all(),
+        all(rt),
         b"searches on both strands\n",
         b" comparisons, ",
         &mut out,
     );
-    io::write_all(1, part(&out, 0, end));
+    let _ = rt.write_all(part(&out, 0, end));
 }

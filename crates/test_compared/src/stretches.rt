@@ -12,7 +12,7 @@ use test_tally::{Answer, Tally, checked, report};
 const CHECKS: usize = 0;
 
 // A stretch, checked and read; and written again, but for a damaged one that is refused.
-fn compare(tally: Tally, bytes: &[u8], verdict: Verdict) -> Tally {
+fn compare(rt: &HostRuntime, tally: Tally, bytes: &[u8], verdict: Verdict) -> Tally {
     let wanted = Answer {
         number: verdict.number,
         place: verdict.place,
@@ -20,38 +20,38 @@ fn compare(tally: Tally, bytes: &[u8], verdict: Verdict) -> Tally {
         second: verdict.size,
         third: 0,
     };
-    let t = tally.compare(CHECKS, checked(stretch::check(bytes)), wanted);
-    let read = reads::compare(t, bytes, verdict);
+    let t = tally.compare(rt, CHECKS, checked(stretch::check(bytes)), wanted);
+    let read = reads::compare(rt, t, bytes, verdict);
     if is_damaged(tally.at) {
         if verdict.number != 0 {
             return read;
         }
     }
-    writes::compare(read, bytes, verdict)
+    writes::compare(rt, read, bytes, verdict)
 }
 
 // The stretch of a tally's number.
-fn case(tally: Tally) -> Tally {
+fn case(rt: &HostRuntime, tally: Tally) -> Tally {
     let case = Case::of(tally.at);
     let bytes = case.bytes;
     let stretch = part(&bytes, 0, case.n);
-    compare(tally, stretch, test_reference::stretch(stretch))
+    compare(rt, tally, stretch, test_reference::stretch(stretch))
 }
 
 // All stretches.
-fn all() -> Tally {
+fn all(rt: &HostRuntime) -> Tally {
     let mut tally = Tally::NONE;
     let mut number = 0;
     while number < STRETCHES {
-        tally = case(tally.next(number));
+        tally = case(rt, tally.next(number));
         number += 1;
     }
     tally
 }
 
-pub fn tell() {
+pub fn tell(rt: &HostRuntime) {
     let mut out = [0u8; 4096];
     let names = b"checks\nreads, at every variant\nwrites\n";
-    let end = report(all(), names, b" comparisons, ", &mut out);
-    io::write_all(1, part(&out, 0, end));
+    let end = report(all(rt), names, b" comparisons, ", &mut out);
+    let _ = rt.write_all(part(&out, 0, end));
 }

@@ -3,8 +3,10 @@
 // that takes the bytes in pieces.
 #![tactic(auto)]
 
+ghost use Rattle.io.specs.Counts.{IsPrefixLen};
+
 use digest::{Hashing, digest};
-use libc::{STDIN_FILENO, STDOUT_FILENO};
+use files::{Piece, fill};
 
 // The digest of the bytes in pieces: of none, of one, of two and so on, and of what is left.
 fn in_pieces(bytes: &[u8]) -> [u8; 32] {
@@ -30,28 +32,28 @@ fn digit(n: u8) -> u8 {
     n % 16 + 87
 }
 
-fn tell(digest: [u8; 32]) {
+fn tell(rt: &HostRuntime, digest: [u8; 32]) {
     let mut line = [b'\n'; 65];
     for i in 0..32 {
         line[i * 2] = digit(digest[i] / 16);
         line[i * 2 + 1] = digit(digest[i] % 16);
     }
-    io::write_all(STDOUT_FILENO, &line);
+    let _ = rt.write_all(&line);
 }
 
-fn tell_both(bytes: &[u8]) {
-    tell(digest(bytes));
-    tell(in_pieces(bytes));
+fn tell_both(rt: &HostRuntime, bytes: &[u8]) {
+    tell(rt, digest(bytes));
+    tell(rt, in_pieces(bytes));
 }
 
-fn tell_firsts(bytes: &[u8]) {
+fn tell_firsts(rt: &HostRuntime, bytes: &[u8]) {
     let len = bytes.len();
     let mut n = 0;
     while n <= 300 {
         if len < n {
             return;
         }
-        tell_both(&bytes[..n]);
+        tell_both(rt, &bytes[..n]);
         n += 1;
     }
 }
@@ -60,9 +62,19 @@ fn room() -> [u8; 2000000] {
     [0u8; 2000000]
 }
 
-fn main() {
+// Reads standard input to its end, or as much of it as there is room for. How many bytes that were; none where a read failed.
+fn read(rt: &HostRuntime, input: &mut [u8]) -> usize
+    ensures { IsPrefixLen result input.new }
+{
+    match fill(&mut rt.stdin(), &mut *input) {
+        Piece::Bytes(n) => n,
+        _ => 0,
+    }
+}
+
+fn main(rt: HostRuntime) {
     let mut input = room();
-    let n = io::read_full(STDIN_FILENO, &mut input);
-    tell_firsts(&input[..n]);
-    tell_both(&input[..n]);
+    let n = read(&rt, &mut input);
+    tell_firsts(&rt, &input[..n]);
+    tell_both(&rt, &input[..n]);
 }

@@ -71,10 +71,10 @@ fn put_names(out: &mut [u8], input: &[u8]) {
 }
 
 // Prints how many examples there were of each group, and the counts.
-pub fn tell(tally: Tally, input: &[u8]) {
+pub fn tell(rt: &HostRuntime, tally: Tally, input: &[u8]) {
     let mut names = [0u8; 1024];
     put_names(&mut names, input);
     let mut out = [0u8; 4096];
     let end = report(tally, &names, b" examples, ", &mut out);
-    io::write_all(1, part(&out, 0, end));
+    let _ = rt.write_all(part(&out, 0, end));
 }

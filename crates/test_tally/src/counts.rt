@@ -43,7 +43,7 @@ impl Tally {
     }
 
     // One answer more in a group, which is to be the wanted one. The first that differs is printed.
-    pub fn compare(self, group: usize, got: Answer, wanted: Answer) -> Tally
+    pub fn compare(self, rt: &HostRuntime, group: usize, got: Answer, wanted: Answer) -> Tally
         ensures { result ≡ compared_in self group got wanted }
     {
         let counted = self.more(group, 1);
@@ -60,7 +60,7 @@ impl Tally {
             };
         }
         if differ == 0 {
-            difference(group, at, got, wanted);
+            difference(rt, group, at, got, wanted);
         }
         Tally {
             at,

@@ -4,6 +4,7 @@
 
 mod windows;
 
+use files::{Piece, fill};
 use test_examples::{ExampleLine, call, tell, wanted};
 use test_reference::places::part;
 use test_tally::{Answer, Tally};
@@ -17,30 +18,38 @@ fn answer(call: usize, line: &[u8]) -> Answer {
 }
 
 // What a line counts.
-fn judge(tally: Tally, group: usize, line: &[u8]) -> Tally {
+fn judge(rt: &HostRuntime, tally: Tally, group: usize, line: &[u8]) -> Tally {
     let call = call(line);
     if call == 0 {
         return tally;
     }
-    tally.compare(group, answer(call, line), wanted(line))
+    tally.compare(rt, group, answer(call, line), wanted(line))
 }
 
 // Every line of the input, known by its number from 1 on.
-fn judged(input: &[u8]) -> Tally {
+fn judged(rt: &HostRuntime, input: &[u8]) -> Tally {
     let mut tally = Tally::NONE;
     let mut line = ExampleLine::NONE;
     let mut k = 0;
     while k < input.len() {
         line = line.next(input);
         k += 1;
-        tally = judge(tally.next(k as u64), line.group, line.of(input));
+        tally = judge(rt, tally.next(k as u64), line.group, line.of(input));
     }
     tally
 }
 
-fn main() {
+// Reads standard input to its end, or as much of it as there is room for. How many bytes that were; none where a read failed.
+fn read(rt: &HostRuntime, input: &mut [u8]) -> usize {
+    match fill(&mut rt.stdin(), &mut *input) {
+        Piece::Bytes(n) => n,
+        _ => 0,
+    }
+}
+
+fn main(rt: HostRuntime) {
     let mut input = [0u8; 1000000];
-    let n = io::read_full(0, &mut input);
+    let n = read(&rt, &mut input);
     let examples = part(&input, 0, n);
-    tell(judged(examples), examples);
+    tell(&rt, judged(&rt, examples), examples);
 }

@@ -39,18 +39,19 @@ impl Built {
 }
 
 // Says why a text cannot be written.
-fn say(path: &[u8], reason: &[u8]) {
-    files::write_all(libc::STDERR_FILENO, path);
-    files::write_all(libc::STDERR_FILENO, reason);
+fn say(rt: &HostRuntime, path: &[u8], reason: &[u8]) {
+    files::say(rt, path);
+    files::say(rt, reason);
 }
 
 // Whether a manifest can name the stretches of a text of this name; else it is said.
-pub fn is_nameable(out: &[u8]) -> bool {
+pub fn is_nameable(rt: &HostRuntime, out: &[u8]) -> bool {
     let from = folder(out);
     if manifest::is_name(&out[from..]) {
         return true;
     }
     say(
+        rt,
         out,
         b": a manifest cannot name it: it is empty, or has a backslash or a control character\n",
     );
@@ -84,31 +85,44 @@ fn is_full(text: &[u8], at: usize, name: &[u8]) -> bool {
 }
 
 // Writes the stretch of this path, and puts its line.
-fn write_named(built: Built, path: &[u8], stretch: &[u8], text: &mut [u8]) -> Built {
+fn write_named(
+    rt: &HostRuntime,
+    built: Built,
+    path: &[u8],
+    stretch: &[u8],
+    text: &mut [u8],
+) -> Built {
     let from = folder(path);
     if is_full(text, built.end, &path[from..]) {
         say(
+            rt,
             path,
             b": the text has more stretches than a manifest lists\n",
         );
         return broken(built);
     }
-    if !write_new(path, stretch) {
+    if !write_new(rt, path, stretch) {
         return broken(built);
     }
     with_line(built, stretch, &path[from..], &mut *text)
 }
 
 // Writes one stretch more of the text of this name.
-pub fn write_stretch(out: &[u8], built: Built, stretch: &[u8], text: &mut [u8]) -> Built {
+pub fn write_stretch(
+    rt: &HostRuntime,
+    out: &[u8],
+    built: Built,
+    stretch: &[u8],
+    text: &mut [u8],
+) -> Built {
     let number = std::num::wrapping_add_u64(built.stretches, 1);
     if !is_numbered(number) {
-        say(out, b": the text needs more than 99999 stretches\n");
+        say(rt, out, b": the text needs more than 99999 stretches\n");
         return broken(built);
     }
     let mut path = [0u8; PATH];
     let end = put_numbered(out, number, &mut path, 0);
-    write_named(built, part(&path, 0, end), stretch, &mut *text)
+    write_named(rt, built, part(&path, 0, end), stretch, &mut *text)
 }
 
 // Puts the head in front of the lines. Where it begins.
@@ -122,16 +136,22 @@ fn put_front(about: &[u8], text: &mut [u8]) -> usize {
 }
 
 // Writes the bytes of a manifest under another name, and then gives it its own: half of it is never taken for all.
-fn write_whole(out: &[u8], bytes: &[u8]) -> bool {
+fn write_whole(rt: &HostRuntime, out: &[u8], bytes: &[u8]) -> bool {
     let mut half = [0u8; PATH];
     let end = put_bytes(out, &mut half, 0);
     let after = put_bytes(b".part", &mut half, end);
-    write_aside(part(&half, 0, after), out, bytes)
+    write_aside(rt, part(&half, 0, after), out, bytes)
 }
 
 // Writes the manifest of a text whose stretches are written, after which the text is there. `about` are comment lines on its making. Whether
 // that was done.
-pub fn write_manifest(out: &[u8], built: Built, about: &[u8], text: &mut [u8]) -> bool {
+pub fn write_manifest(
+    rt: &HostRuntime,
+    out: &[u8],
+    built: Built,
+    about: &[u8],
+    text: &mut [u8],
+) -> bool {
     let start = put_front(about, &mut *text);
     if text.len() < start {
         return false;
@@ -145,5 +165,5 @@ pub fn write_manifest(out: &[u8], built: Built, about: &[u8], text: &mut [u8]) -
         &mut *lines,
         at,
     );
-    write_whole(out, part(lines, 0, end))
+    write_whole(rt, out, part(lines, 0, end))
 }

@@ -1,5 +1,4 @@
 -- `screen::bounded` meets its contract.
-use Rattle.std.proofs.Common.{rules}
 use Rattle.io.proofs.Counting.{prefix_len_of_le}
 use Rattle.screen.proofs.bounded.Goals as goal
 

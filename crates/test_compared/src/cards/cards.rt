@@ -22,6 +22,7 @@ fn wanted(p: &[u8], bytes: &[u8], verdict: Verdict, q: usize) -> Answer {
 
 // A card is to have the pattern P, after it 0, and the rows of a text.
 pub fn compare(
+    rt: &HostRuntime,
     tally: Tally,
     group: usize,
     p: &[u8],
@@ -35,10 +36,10 @@ pub fn compare(
     let card = made.card;
     let pattern = card.pattern;
     let named = held(Answer::told(card.m as usize, 0, 0), &pattern, &padded);
-    let mut t = tally.compare(group, named, Answer::told(name.len(), 0, 0));
+    let mut t = tally.compare(rt, group, named, Answer::told(name.len(), 0, 0));
     let mut q = 0;
     while q < Card::GREATEST_PATTERN {
-        t = t.compare(group, row(made, q), wanted(p, bytes, verdict, q));
+        t = t.compare(rt, group, row(made, q), wanted(p, bytes, verdict, q));
         q += 1;
     }
     t

@@ -83,7 +83,15 @@ fn marked(first: Answer, n: usize, room: usize) -> Answer {
 }
 
 // Both calls: that is to be found, and these marks are to be left, or nothing where they are refused.
-fn both(tally: Tally, list: List, bytes: &[u8], seed: u64, first: Answer, ones: &[u8]) -> Tally {
+fn both(
+    rt: &HostRuntime,
+    tally: Tally,
+    list: List,
+    bytes: &[u8],
+    seed: u64,
+    first: Answer,
+    ones: &[u8],
+) -> Tally {
     let room = if below(seed, 803, 4) == 0 {
         below(seed, 804, 41)
     } else {
@@ -95,12 +103,12 @@ fn both(tally: Tally, list: List, bytes: &[u8], seed: u64, first: Answer, ones: 
     put_part(&mut left, 0, part(ones, 0, n));
     let mut marks = [7u8; 40];
     let answer = listed(list.mark(bytes, &mut marks, room));
-    let t = tally.compare(LISTS, found(list.first(bytes)), first);
-    t.compare(LISTS, held(answer, &marks, &left), wanted)
+    let t = tally.compare(rt, LISTS, found(list.first(bytes)), first);
+    t.compare(rt, LISTS, held(answer, &marks, &left), wanted)
 }
 
 // A list of patterns for a text, on that text or on what it is damaged to.
-pub fn compare(tally: Tally, text: &[u8], bytes: &[u8], seed: u64) -> Tally {
+pub fn compare(rt: &HostRuntime, tally: Tally, text: &[u8], bytes: &[u8], seed: u64) -> Tally {
     let alone = test_reference::stretch(bytes);
     let n = records(seed);
     let mut first = none(n, alone);
@@ -115,5 +123,5 @@ pub fn compare(tally: Tally, text: &[u8], bytes: &[u8], seed: u64) -> Tally {
         first = with(first, k, p, bytes, alone, &mut ones);
         k += 1;
     }
-    both(tally, list, bytes, seed, first, &ones)
+    both(rt, tally, list, bytes, seed, first, &ones)
 }

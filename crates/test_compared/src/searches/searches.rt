@@ -16,6 +16,7 @@ fn search_into(marks: &mut [u8], bits: bool, p: &[u8], strand: Strand, bytes: &[
 
 // A search of a text is to mark what is found, and to leave what stood after.
 pub fn compare(
+    rt: &HostRuntime,
     tally: Tally,
     bits: bool,
     p: &[u8],
@@ -36,5 +37,5 @@ pub fn compare(
         second: verdict.size,
         third: found.ends,
     };
-    tally.compare(SEARCHES, held(answer, &marks, &left), wanted)
+    tally.compare(rt, SEARCHES, held(answer, &marks, &left), wanted)
 }

@@ -61,6 +61,7 @@ fn parted(
 
 // A text cut after each of its segments, and before the first, compared with what is found in the whole.
 pub fn compare(
+    rt: &HostRuntime,
     tally: Tally,
     p: &[u8],
     strand: Strand,
@@ -77,7 +78,12 @@ pub fn compare(
     let mut t = tally;
     let mut cut = 0;
     while cut < cuts {
-        t = t.compare(CUTS, parted(p, strand, bytes, segments, cut, &left), wanted);
+        t = t.compare(
+            rt,
+            CUTS,
+            parted(p, strand, bytes, segments, cut, &left),
+            wanted,
+        );
         cut += 1;
     }
     t

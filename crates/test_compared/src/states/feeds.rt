@@ -11,6 +11,7 @@ const FEEDS: usize = 0;
 
 // Each segment of a text, alone, is to lead to the state that is found. The strand reads `given` as P.
 pub fn compare(
+    rt: &HostRuntime,
     tally: Tally,
     p: &[u8],
     given: &[u8],
@@ -27,7 +28,7 @@ pub fn compare(
         let step = through(p, bytes, segment_at(bytes, j), bits);
         let lone = segments(bytes, j, next);
         let wanted = Answer::told(step.bits as usize, step.ends as usize, 0);
-        t = t.compare(FEEDS, fed(state.feed(given, strand, lone)), wanted);
+        t = t.compare(rt, FEEDS, fed(state.feed(given, strand, lone)), wanted);
         bits = step.bits;
         j = next;
     }

@@ -7,6 +7,7 @@ use test_tally::{Answer, Tally, held, searched};
 
 // The whole text is to have that many ends, and to leave these marks.
 fn whole(
+    rt: &HostRuntime,
     tally: Tally,
     p: &[u8],
     bytes: &[u8],
@@ -23,11 +24,12 @@ fn whole(
         second: verdict.size,
         third: ends,
     };
-    tally.compare(EITHER, held(answer, &marks, left), wanted)
+    tally.compare(rt, EITHER, held(answer, &marks, left), wanted)
 }
 
 // A text in which that is found on each strand.
 pub fn compare(
+    rt: &HostRuntime,
     tally: Tally,
     p: &[u8],
     bytes: &[u8],
@@ -41,7 +43,7 @@ pub fn compare(
     let segments = verdict.segments;
     let mut left = [7u8; 40];
     put_part(&mut left, 0, part(&ones, 0, segments));
-    let t = whole(tally, p, bytes, verdict, ends, &left);
+    let t = whole(rt, tally, p, bytes, verdict, ends, &left);
     if verdict.number != 0 {
         return t;
     }
@@ -49,5 +51,5 @@ pub fn compare(
         given: given.bits,
         opposite: opposite.bits,
     };
-    pairs::compare(t, p, bytes, segments, states, &left)
+    pairs::compare(rt, t, p, bytes, segments, states, &left)
 }

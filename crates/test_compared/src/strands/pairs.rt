@@ -33,6 +33,7 @@ fn onward(before: Answer, p: &[u8], stretch: &[u8], marks: &mut [u8]) -> Answer 
 
 // A text cut in its middle is to tell these states, and to leave these marks.
 pub fn compare(
+    rt: &HostRuntime,
     tally: Tally,
     p: &[u8],
     bytes: &[u8],
@@ -49,5 +50,5 @@ pub fn compare(
     let first = onward(Answer::told(0, 1, 1), p, part(&front, 0, n), &mut marks);
     let both = onward(first, p, part(&back, 0, m), &mut marks);
     let wanted = Answer::told(segments, states.given as usize, states.opposite as usize);
-    tally.compare(EITHER, held(both, &marks, left), wanted)
+    tally.compare(rt, EITHER, held(both, &marks, left), wanted)
 }

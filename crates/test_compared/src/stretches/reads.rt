@@ -9,22 +9,30 @@ use test_tally::{Answer, Tally, got, held};
 const READS: usize = 1;
 
 // Both reads from a place are to find these letters and to answer so.
-fn from(tally: Tally, bytes: &[u8], place: Place, part: &[u8], wanted: Answer) -> Tally {
+fn from(
+    rt: &HostRuntime,
+    tally: Tally,
+    bytes: &[u8],
+    place: Place,
+    part: &[u8],
+    wanted: Answer,
+) -> Tally {
     let segment = place.segment;
     let variant = place.variant;
     let plain = got(read(bytes, segment, variant), part.len());
     let kept = got(read_from(bytes, segment, variant), part.len());
     let t = tally.compare(
+        rt,
         READS,
         held(plain, letters(bytes, segment, variant), part),
         wanted,
     );
-    t.compare(READS, kept, wanted)
+    t.compare(rt, READS, kept, wanted)
 }
 
 // From the place after the last variant, or the start where the stretch is refused: no letters, and the same place. From the place of
 // each variant: its letters, and the place after it.
-pub fn compare(tally: Tally, bytes: &[u8], verdict: Verdict) -> Tally {
+pub fn compare(rt: &HostRuntime, tally: Tally, bytes: &[u8], verdict: Verdict) -> Tally {
     let last = place_of(bytes, verdict.segments, verdict.variants);
     let end = Answer {
         number: verdict.number,
@@ -33,14 +41,14 @@ pub fn compare(tally: Tally, bytes: &[u8], verdict: Verdict) -> Tally {
         second: last.segment,
         third: last.variant,
     };
-    let mut t = from(tally, bytes, last, &bytes[..0], end);
+    let mut t = from(rt, tally, bytes, last, &bytes[..0], end);
     let mut k = 0;
     while k < verdict.variants {
         let place = place_of(bytes, verdict.segments, k);
         k += 1;
         let start = wrapping_add_usize(place.at, 2);
         let wanted = Answer::told(start, place.segment, wrapping_add_usize(place.variant, 1));
-        t = from(t, bytes, place, letters_at(bytes, place.at), wanted);
+        t = from(rt, t, bytes, place, letters_at(bytes, place.at), wanted);
     }
     t
 }

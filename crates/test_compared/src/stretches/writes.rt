@@ -37,7 +37,7 @@ fn again(bytes: &[u8], wanted: &[u8]) -> Answer {
 
 // A text that is accepted, and written as it was with its letters in upper case; or refused for a variant that is repeated, at its
 // number.
-pub fn compare(tally: Tally, bytes: &[u8], verdict: Verdict) -> Tally {
+pub fn compare(rt: &HostRuntime, tally: Tally, bytes: &[u8], verdict: Verdict) -> Tally {
     let mut raised = [0u8; 2048];
     let n = test_reference::places::raised(
         &mut raised,
@@ -52,5 +52,5 @@ pub fn compare(tally: Tally, bytes: &[u8], verdict: Verdict) -> Tally {
         second: 0,
         third: 0,
     };
-    tally.compare(WRITES, again(bytes, part(&raised, 0, n)), answer)
+    tally.compare(rt, WRITES, again(bytes, part(&raised, 0, n)), answer)
 }

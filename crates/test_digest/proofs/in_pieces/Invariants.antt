@@ -1,6 +1,5 @@
 -- `test_digest::in_pieces` meets its contract: a piece ends within the bytes, and pieces grow.
 use Prim.Native.Nat.{◌-◌, ◌≤◌}
-use borrow.Author.Rules.{rules}
 use Rattle.test_digest.proofs.in_pieces.Given as goal
 
 abbrev pub invariant-loop-n : goal.invariant-loop-n

@@ -1,7 +1,5 @@
-use Prim.Native.Nat.{◌-◌, ◌≤◌}
 use native.Mathlib.Omega.{arith}
 use lib.ListN.{length-take}
-use borrow.Author.Rules.{rules}
 use Rattle.test_digest.proofs.tell_firsts.Goals as goal
 
 pub slice_bounds-tell_both-end : goal.slice_bounds-tell_both-end

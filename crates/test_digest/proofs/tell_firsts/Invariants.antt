@@ -1,8 +1,5 @@
 -- `test_digest::tell_firsts` meets its contract: what is told of is a part of the bytes.
 use Prim.Native.Nat.{◌-◌, ◌≤◌}
-use native.Mathlib.Omega.{arith}
-use lib.ListN.{length-take}
-use borrow.Author.Rules.{rules}
 use Rattle.test_digest.proofs.tell_firsts.Given as goal
 
 abbrev pub invariant-loop-n : goal.invariant-loop-n

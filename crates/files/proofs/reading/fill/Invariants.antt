@@ -1,14 +1,10 @@
--- `files::reading::fill` meets its contract. The measure is the number of bytes for which there is room.
-use Prim.Native.Nat.{◌-◌, ◌≤◌}
-use native.Mathlib.Omega.{arith}
-use mathlib.Core.Path.{◌≡◌, ◌∙◌}
-use lib.ListN.{length}
-use Rattle.files.proofs.Counting.{piece-ends}
-use borrow.Author.Rules.{rules}
+-- The loop of `fill`: the buffer keeps its length, and what was read so far stands in it. The measure is the number of bytes for which
+-- there is room.
+use Rattle.std.proofs.Common.{length, ◌-◌, ◌≤◌, ◌≡◌}
 use Rattle.files.proofs.reading.fill.Given as goal
 
 abbrev pub invariant-loop-at : goal.invariant-loop-at
-invariant-loop-at l = (l.at ≤ length l.bytes) × (length l.bytes ≡ length l.initial.bytes)
+invariant-loop-at g l = (l.at ≤ length l.bytes) × (length l.bytes ≡ length l.initial.bytes)
 
 abbrev pub decreases-loop-at : goal.decreases-loop-at
-decreases-loop-at l = length l.bytes - l.at
+decreases-loop-at g l = length l.initial.bytes - l.at

@@ -1,7 +1,8 @@
-use Rattle.std.proofs.Common.{◌-◌, length, ⊎_elim, arith, rules}
+use Rattle.std.proofs.Common.{◌-◌, length, arith, rules}
 use Rattle.lines.proofs.Putting.{put-length}
 use Rattle.test_tally.proofs.Reports.{Reporting, reporting-none, reporting-named, reporting-on, reporting-end}
 use Rattle.test_tally.proofs.reporting.put_groups.Goals as goal
+use Rattle.test_tally.proofs.reporting.put_groups.Goals.{then-names-i-eq10, else-names-i-eq10}
 
 pub loop-i-init : goal.loop-i-init
 loop-i-init c = reporting-none _ _ _
@@ -10,10 +11,13 @@ pub loop-i-preserved : goal.loop-i-preserved
 loop-i-preserved c =
     let i = c.loop-i.invariant in
     let l = c.loop-i-test.true in
-    ⊎_elim
-    (λ w. rw (w.7, w.8, w.9, w.10) (reporting-named i l w.0.taken w.1.ensures w.4.ensures))
-    (λ w. rw (w.1, w.2, w.3, w.4) (reporting-on i l w.0.left))
-    c.if-names-i-eq10.branch
+    elim c.if-names-i-eq10.branch [
+      | then-names-i-eq10 w ↦
+          rw (w.out-is, w.next-is, w.number-is, w.start-is)
+          (reporting-named i l w.if-names-i-eq10.true w.of-count.ensures w.put_group-next.ensures)
+      | else-names-i-eq10 w ↦
+          rw (w.out-is, w.next-is, w.number-is, w.start-is) (reporting-on i l w.if-names-i-eq10.false)
+    ]
 
 pub shape_of-out : goal.shape_of-out
 shape_of-out c = put-length c.loop-i.invariant.put
