@@ -1,5 +1,5 @@
 -- `desk::about::tell_standings` ends.
-use Rattle.std.proofs.Common.{◌-◌, length, rules}
+use Rattle.std.proofs.Common.{◌-◌, length}
 use Rattle.desk.proofs.about.tell_standings.Given as goal
 
 abbrev pub invariant-loop-at : goal.invariant-loop-at

@@ -1,5 +1,5 @@
 -- `desk::faults::tell_faults` ends.
-use Rattle.std.proofs.Common.{◌-◌, length, rules}
+use Rattle.std.proofs.Common.{◌-◌, length}
 use Rattle.desk.proofs.faults.tell_faults.Given as goal
 
 abbrev pub invariant-loop-at : goal.invariant-loop-at

@@ -1,5 +1,5 @@
 -- `desk::hits::tell_stretch_hits` ends.
-use Rattle.std.proofs.Common.{◌-◌, length, rules}
+use Rattle.std.proofs.Common.{◌-◌, length}
 use Rattle.desk.proofs.hits.tell_stretch_hits.Given as goal
 
 abbrev pub invariant-loop-at : goal.invariant-loop-at

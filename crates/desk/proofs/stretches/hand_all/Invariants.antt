@@ -1,5 +1,5 @@
 -- `desk::stretches::hand_all` ends.
-use Rattle.std.proofs.Common.{◌-◌, rules}
+use Rattle.std.proofs.Common.{◌-◌}
 use Rattle.desk.proofs.stretches.hand_all.Given as goal
 
 abbrev pub invariant-loop-i : goal.invariant-loop-i

@@ -1,5 +1,5 @@
 -- `desk::tell::tell_hits` ends.
-use Rattle.std.proofs.Common.{◌-◌, length, rules}
+use Rattle.std.proofs.Common.{◌-◌, length}
 use Rattle.desk.proofs.tell.tell_hits.Given as goal
 
 abbrev pub invariant-loop-j : goal.invariant-loop-j

@@ -1,9 +1,7 @@
 -- `eds::forth::take_piece` is safe and ends.
 -- The loop's invariant: the buffers are as long as they were. The measure is the number of turns left.
-use native.Mathlib.Omega.{arith}
-use mathlib.Core.Path.{◌≡◌, refl, ◌∙◌}
+use mathlib.Core.Path.{◌≡◌}
 use lib.ListN.{length}
-use borrow.Author.Rules.{rules}
 use Rattle.eds.proofs.forth.take_piece.Given as goal
 
 abbrev pub invariant-loop-turns : goal.invariant-loop-turns

@@ -1,6 +1,5 @@
 -- `eds::forth::turn` is safe and ends.
 use mathlib.Core.Path.{◌∙◌}
-use borrow.Author.Rules.{rules}
 use Rattle.eds.proofs.forth.turn.Goals as goal
 
 pub shape_of-letters-in-Full : goal.shape_of-letters-in-Full

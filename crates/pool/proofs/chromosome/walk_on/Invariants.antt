@@ -1,6 +1,6 @@
 -- `pool::chromosome::walk_on` is safe and ends.
 -- The loop's invariant: the buffers are as long as they were. The measure is the number of turns left.
-use Rattle.std.proofs.Common.{◌≡◌, length, refl, ◌∙◌, rules}
+use Rattle.std.proofs.Common.{◌≡◌, length}
 use Rattle.pool.proofs.chromosome.walk_on.Given as goal
 
 abbrev pub invariant-loop-turns : goal.invariant-loop-turns

@@ -1,5 +1,5 @@
 -- `pool::contig::length_said` is safe and ends: the measure is the number of bytes left.
-use Rattle.std.proofs.Common.{◌-◌, length, rules}
+use Rattle.std.proofs.Common.{◌-◌, length}
 use Rattle.pool.proofs.contig.length_said.Given as goal
 
 abbrev pub invariant-loop-i : goal.invariant-loop-i

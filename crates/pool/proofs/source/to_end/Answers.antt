@@ -1,4 +1,4 @@
-use Rattle.std.proofs.Common.{◌≡◌, length, refl, ◌∙◌, rules}
+use Rattle.std.proofs.Common.{refl}
 use Rattle.pool.proofs.source.to_end.Goals as goal
 
 pub loop-turns-init : goal.loop-turns-init

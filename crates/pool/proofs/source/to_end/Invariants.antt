@@ -1,6 +1,6 @@
 -- `pool::source::to_end` is safe and ends.
 -- The loop's invariant: the buffer is as long as it was. The measure is the number of turns left.
-use Rattle.std.proofs.Common.{◌≡◌, length, refl, ◌∙◌, rules}
+use Rattle.std.proofs.Common.{◌≡◌, length}
 use Rattle.pool.proofs.source.to_end.Given as goal
 
 abbrev pub invariant-loop-turns : goal.invariant-loop-turns

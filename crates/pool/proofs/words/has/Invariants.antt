@@ -1,5 +1,5 @@
 -- `pool::words::has` ends: the measure is the number of bytes left.
-use Rattle.std.proofs.Common.{◌-◌, length, rules}
+use Rattle.std.proofs.Common.{◌-◌, length}
 use Rattle.pool.proofs.words.has.Given as goal
 
 abbrev pub invariant-loop-i : goal.invariant-loop-i
