@@ -12,8 +12,8 @@ made n = sym (length-replicate n 0)
 kept : (n : ℕ) (s : List ℕ) → length s ≡ length {A = ℕ} (replicate n 0) → n ≡ length s
 kept n s e = made n ∙ sym e
 
-pub slice_bounds-read_full-end : goal.slice_bounds-read_full-end
-slice_bounds-read_full-end c = made 1000000
+pub slice_bounds-read-end : goal.slice_bounds-read-end
+slice_bounds-read-end c = made 1000000
 
 pub slice_bounds-part-end : goal.slice_bounds-part-end
-slice_bounds-part-end c = kept 1000000 c.read_full-n.new.buf c.read_full-n.auto.buf
+slice_bounds-part-end c = kept 1000000 c.read-n.new.input c.read-n.auto.input

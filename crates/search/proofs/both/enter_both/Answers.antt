@@ -1,5 +1,4 @@
 -- `search::both::enter_both` meets its contract: what `enter` asks of the strand as given, then the state of the opposite one.
-use borrow.Author.Tests.{not-true, not-false}
 use mathlib.Core.Path.{sym, ap, ◌∙◌}
 use Rattle.text.specs.Refusal.{told_verdict}
 use Rattle.search.proofs.Entries.{Entered, entered}
@@ -17,8 +16,8 @@ returns-in-Refused c = sym (both-refused _ _ _ _ _ _ (sym c.enter.ensures ∙ ap
 
 pub returns-then-not-is_state : goal.returns-then-not-is_state
 returns-then-not-is_state c =
-    sym (both-wrong _ _ _ _ (entry (goal.at.returns-then-not-is_state c).In_default) (sym c.is_state.ensures ∙ not-true _ c.if-not-is_state.true-raw) _)
+    sym (both-wrong _ _ _ _ (entry (goal.at.returns-then-not-is_state c).In_default) (sym c.is_state.ensures ∙ c.if-not-is_state.true) _)
 
 pub returns : goal.returns
 returns c =
-    sym (both-sound _ _ _ _ (entry (goal.at.returns c).In_default) (sym c.is_state.ensures ∙ not-false _ c.if-not-is_state.false-raw) _)
+    sym (both-sound _ _ _ _ (entry (goal.at.returns c).In_default) (sym c.is_state.ensures ∙ c.if-not-is_state.false) _)

@@ -1,5 +1,4 @@
 -- `search::entry::enter` meets its contract: each refusal is a law of `entering`, from the answer that led to it.
-use borrow.Author.Tests.{not-true, not-false}
 use mathlib.Core.Path.{sym, ap, ◌∙◌}
 use Rattle.text.specs.Refusal.{told_verdict, SoundPattern}
 use Rattle.text.proofs.Patterns.{pattern-sound}
@@ -22,11 +21,11 @@ returns-in-Refused-fits c =
 
 pub returns-then-not-is_state : goal.returns-then-not-is_state
 returns-then-not-is_state c =
-    let wrong = sym c.is_state.ensures ∙ not-true _ c.if-not-is_state.true-raw in
+    let wrong = sym c.is_state.ensures ∙ c.if-not-is_state.true in
     sym (entering-wrong _ _ _ (sound (goal.at.returns-then-not-is_state c).In_default) (fits-met _ c.fits.ensures c.in_default-fits.is) wrong _)
 
 pub returns : goal.returns
 returns c =
-    let state = sym c.is_state.ensures ∙ not-false _ c.if-not-is_state.false-raw in
+    let state = sym c.is_state.ensures ∙ c.if-not-is_state.false in
     let short = fits-met _ c.fits.ensures c.in_default-fits.is in
     sym (entering-sound _ _ _ (record { sound = sound (goal.at.returns c).In_default; short = short; state = state }) _)

@@ -9,10 +9,10 @@ use Rattle.search.proofs.Eithers.{passed-not, passed-own, passed-turned}
 use Rattle.search.proofs.Eithers.{uniting-none, uniting-own, uniting-turned, uniting-room, uniting-more, uniting-refused}
 use Rattle.search.proofs.Eithers.{uniting-left, uniting-sound}
 use Rattle.search.proofs.both.run.run_both.Goals as goal
-use Rattle.search.proofs.both.run.run_both.Goals.{After-past-walked, After-slice_known-1, In-To, In-loop-walked}
+use Rattle.search.proofs.both.run.run_both.Goals.{After-past-walked, In-To, In-loop-walked}
 
 -- the stretch is no longer than a number can say
-narrow : (c : After-slice_known-1) → length c.args.stretch.now < 2 ^ 64
+narrow : (c : In-loop-walked) → length c.args.stretch.now < 2 ^ 64
 narrow c = omega arith
 
 -- a segment is left
@@ -44,14 +44,14 @@ bounds-marks-k c =
 
 pub loop-walked-smaller : goal.loop-walked-smaller
 loop-walked-smaller c =
-    going_less c.loop-walked.invariant.0.walk.go (ahead (goal.at.loop-walked-smaller c).In-loop-walked) (narrow (goal.at.loop-walked-smaller c).After-slice_known-1) _ _ c.past-walked.ensures
+    going_less c.loop-walked.invariant.0.walk.go (ahead (goal.at.loop-walked-smaller c).In-loop-walked) (narrow (goal.at.loop-walked-smaller c).In-loop-walked) _ _ c.past-walked.ensures
 
 pub loop-walked-preserved : goal.loop-walked-preserved
 loop-walked-preserved c =
     let own = passed-own c.over.ensures.result_value c.over.ensures.result_value_2 c.in-To.is in
     let turned = passed-turned c.over.ensures.result_value c.over.ensures.result_value_2 c.in-To.is in
     let mark = byte-mark (c.in-To.given || c.in-To.opposite) in (
-      uniting-more c.loop-walked.invariant.0 own turned (ahead (goal.at.loop-walked-preserved c).In-loop-walked) _ mark (bounds-marks-k (goal.at.loop-walked-preserved c).In-To) (narrow (goal.at.loop-walked-preserved c).After-slice_known-1) c.past-walked.ensures,
+      uniting-more c.loop-walked.invariant.0 own turned (ahead (goal.at.loop-walked-preserved c).In-loop-walked) _ mark (bounds-marks-k (goal.at.loop-walked-preserved c).In-To) (narrow (goal.at.loop-walked-preserved c).In-loop-walked) c.past-walked.ensures,
       length-set c.loop-walked.marks c.loop-walked.walked.passed _ ∙ c.loop-walked.invariant.1,
     )
 
