@@ -1,6 +1,5 @@
 // Files read to their end.
 ghost use Rattle.std.specs.Prelude.{◌≤◌, length};
-ghost use Rattle.io.specs.Counts.{IsPrefixLen};
 ghost use Rattle.files.specs.Reads.{ReadInto, PieceInto};
 
 use crate::opening::{TRIES, opened};
@@ -26,10 +25,10 @@ pub enum Read {
 }
 
 // What a read answered that did not fail.
-fn answered(n: usize, bytes: &[u8]) -> Piece
-    requires { IsPrefixLen n bytes.now }
+fn answered(got: usize, bytes: &[u8]) -> Piece
     ensures { PieceInto bytes.now result }
 {
+    let n = got.min(bytes.len());
     if n == 0 {
         return Piece::End;
     }
