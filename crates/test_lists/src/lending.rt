@@ -1,4 +1,4 @@
-// Of an array's records the first n are lent. A function that lends structs is proved by hand, so these do no more.
+// Of an array's records the first n are lent.
 ghost use Rattle.std.specs.Prelude.{◌≡◌, ◌≤◌, length, take};
 ghost use Rattle.layout.specs.Bytes.{left_by};
 ghost use Rattle.watch.specs.Watching.{watching, told_found, marking, told_listed, accepted, marks_of};

@@ -1,5 +1,5 @@
-// The calls over a list of records. A function that is lent a list of structs is proved by hand, so these are thin: one reads a
-// record, one goes over the list, and what is done of a record is a step of round.rt.
+// The calls over a list of records. They are thin: one reads a record, one goes over the list, and what is done of a record is a step of
+// round.rt.
 ghost use Rattle.std.specs.Prelude.{◌≡◌, ◌<◌, length, get_or};
 ghost use Rattle.layout.specs.Bytes.{left_by};
 ghost use Rattle.watch.specs.Watching.{watching, told_found};
