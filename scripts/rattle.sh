@@ -66,12 +66,12 @@ help_or_version() {
 }
 
 # Ends what rt has started, all of it, and then the script. rt starts provers that a Ctrl-C does not reach, so it has a group of its own.
-prover=''
+prover='' proves=''
 end_prover() {
     trap '' HUP INT TERM
     [ -z "$prover" ] || kill -- "-$prover" 2>/dev/null || kill "$prover" 2>/dev/null
     wait
-    rm -f "$began"
+    put_back "$proves"
     exit 2
 }
 
@@ -79,6 +79,7 @@ end_prover() {
 # then: with no words and no input it makes no file. The shell waits, and waits alone: a signal ends a wait, and no command.
 check_program() {
     : >"$2"
+    proves=$1
     trap end_prover HUP INT TERM
     # shellcheck disable=SC2046,SC2016
     $(command -v setsid) sh -c 'cd "crates/$0" && exec rt run' "$1" >"$2" 2>&1 </dev/null &
@@ -101,32 +102,48 @@ alone() {
     }
 }
 
-# Whether a program is proved and built, and what it runs with is there.
+# Whether a program is proved and built, is what was built then, and what it runs with is there.
 is_built() {
-    is_new "$(program_of "$1")" && [ -x "$(program_of "$1")" ] && [ -x "$runtime/ld-linux-x86-64.so.2" ]
+    is_new "target/$1.done" && [ -x "$(program_of "$1")" ] && [ "$(cksum <"$(program_of "$1")")" = "$(cat "target/$1.done")" ] &&
+        [ -x "$runtime/ld-linux-x86-64.so.2" ]
 }
 
-# Proves and builds a program, unless rt ci has; from nothing where an earlier run left it half built. Where that fails too, what was built
-# before stays. The program's time becomes that of the moment before, so that what changes meanwhile is newer.
+# note_built NAME BEGAN: a program was proved and built since the time of a file. What changed meanwhile is newer than the note.
+note_built() {
+    cksum <"$(program_of "$1")" >"target/$1.done.new" && touch -r "$2" "target/$1.done.new" && mv "target/$1.done.new" "target/$1.done"
+}
+
+# Keeps a copy of what was built before, and puts it back where nothing new was built.
+keep_built() {
+    rm -f "target/$1.kept"
+    [ ! -x "$(program_of "$1")" ] || cp -p "$(program_of "$1")" "target/$1.kept"
+}
+put_back() {
+    rm -f "target/$1.new"
+    [ ! -f "target/$1.kept" ] || mv "target/$1.kept" "$(program_of "$1")"
+}
+
+# Proves and builds a program, from nothing where an earlier run left it half built; where that fails too, what was built before stays.
 build_program() {
     began=target/$1.new log=target/$1.log
+    echo "The program $1 is being proved and built: some minutes on the first call, nothing on later ones." >&2
     if ! : >"$began" || ! keep_runtime; then
         echo "${0##*/}: the toolchain's files that programs run with could not be copied to $runtime" >&2
         return 1
     fi
-    is_built "$1" && rm -f "$began" && return
-    echo "The program $1 is being proved and built: some minutes on the first call, nothing on later ones." >&2
+    keep_built "$1"
     rm -f "$(program_of "$1").stamp"
     check_program "$1" "$log" || {
         echo 'It was not built; once more, from nothing.' >&2
         rm -rf crates/*/out/rlib crates/*/out/incremental
         check_program "$1" "$log"
     } || {
-        rm -f "$began"
+        put_back "$1"
         echo "${0##*/}: the program $1 could not be proved and built; $log says why" >&2
         return 1
     }
-    touch -r "$began" "$(program_of "$1")" && rm -f "$began"
+    note_built "$1" "$began"
+    rm -f "target/$1.kept" "$began"
 }
 
 # Proves and builds a program, unless that is done.

@@ -1,8 +1,8 @@
 // The release desk's night: screens a text for a list of withheld sequences, on both strands, and prints what crate desk_night decides. The
 // words after the program's name are `--first`, if each sequence is to be searched to its first end alone, the list's file, then the file
 // of the text's manifest, or `--files` and the files of stretches in order, for which nobody vouches. Each file is read once. The lines that
-// decide go to descriptor 3 as well, once all that stands before them is written: a program has no status, and who reads there need not
-// read what may be long.
+// decide go to descriptor 3 as well, once all that stands before them is written: the status is read off them, and who reads there need
+// not read what may be long.
 #![tactic(auto)]
 
 mod about;

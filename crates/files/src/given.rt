@@ -5,10 +5,17 @@ use std::io::{Error, ErrorKind, Seek, SeekFrom};
 use std::os::unix::fs::FileTypeExt;
 use std::{fs, io};
 
+// The system's number for a descriptor that is not open, or not for what is asked of it.
+const EBADF: i32 = 9;
+
 // What the system says of a descriptor: the lines of its file in /proc/self/fdinfo.
 fn facts(rt: &HostRuntime, number: u32) -> io::Result<String> {
     let name = format!(in rt.alloc(); "/proc/self/fdinfo/{number}")?;
-    fs::read_to_string(rt, name)
+    match fs::read_to_string(rt, name) {
+        Ok(text) => Ok(text),
+        Err(error) if error.kind() == ErrorKind::NotFound => Err(Error::from_raw_os_error(EBADF)),
+        Err(error) => Err(error),
+    }
 }
 
 // What stands after a word at the start of a line.
@@ -30,18 +37,20 @@ fn position(rt: &HostRuntime, number: u32) -> io::Result<u64> {
     }
 }
 
-// Whether the descriptor is open for writing, by the last digit of its flags: 1 for writing alone, 2 for reading too.
-fn is_writable(rt: &HostRuntime, number: u32) -> io::Result<bool> {
+// Fails if the last digit of the descriptor's flags is not one of two: 0 for reading alone, 1 for writing alone, 2 for both.
+fn is_open_for(rt: &HostRuntime, number: u32, alone: u8) -> io::Result<()> {
     let text = facts(rt, number)?;
     match fact(text.as_str(), "flags:")?.as_bytes().last() {
-        Some(b'1' | b'2') => Ok(true),
-        _ => Ok(false),
+        Some(digit) if *digit == alone || *digit == b'2' => Ok(()),
+        _ => Err(Error::from_raw_os_error(EBADF)),
     }
 }
 
 // The file of the descriptor of this number for reading, from where the descriptor stands. A pipe that has a name, and that its writers
-// have left, would keep who opens it for reading waiting: it is open for both as long as that takes.
+// have left, would keep who opens it for reading waiting: it is open for both as long as that takes. A descriptor that is open for writing
+// alone is none.
 pub fn given_to_read(rt: &HostRuntime, number: u32) -> io::Result<File> {
+    is_open_for(rt, number, b'0')?;
     let name = format!(in rt.alloc(); "/proc/self/fd/{number}")?;
     if fs::metadata(rt, name.as_str())?.file_type().is_fifo() {
         let both = OpenOptions::new()
@@ -63,9 +72,7 @@ pub fn given_to_read(rt: &HostRuntime, number: u32) -> io::Result<File> {
 // The file of the descriptor of this number for writing, at its end. A descriptor that is open for reading alone is none. A pipe is opened
 // for both, since who opens it for writing alone may be kept waiting.
 pub fn given_to_append(rt: &HostRuntime, number: u32) -> io::Result<File> {
-    if !is_writable(rt, number)? {
-        return Err(Error::from(ErrorKind::PermissionDenied));
-    }
+    is_open_for(rt, number, b'1')?;
     let name = format!(in rt.alloc(); "/proc/self/fd/{number}")?;
     let is_pipe = fs::metadata(rt, name.as_str())?.file_type().is_fifo();
     OpenOptions::new()
