@@ -51,10 +51,8 @@ pub extern "C" fn bench_join(pattern: &[u8], stretch: &[u8]) -> u64 {
 // A watch list of that many records, all of one pattern.
 fn watched(pattern: &[u8], n: usize) -> List {
     let mut list = List::empty();
-    let mut k = 0;
-    while k < n {
-        list = list.with(pattern, 0);
-        k += 1;
+    for _ in 0..n {
+        list.push(pattern, 0);
     }
     list
 }

@@ -1,14 +1,15 @@
 -- What the calls on cards answer, from the tests that lead there.
 use Prim.Native.Nat.{ℕ, ◌-◌, ◌^◌, ◌<◌, ◌≤◌, ◌+◌}
 use native.Mathlib.Omega.{arith}
-use mathlib.Core.Path.{◌≡◌, ap, ◌∙◌}
+use mathlib.Core.Path.{◌≡◌, refl, ap, ◌∙◌}
 use mathlib.Core.Bool.{true, false}
 use borrow.Author.Tests.{le-leb, lt-leb, eq-eqb, ne_eqb, ltb-true}
 use lib.Dec.{ltb}
 use Rattle.text.specs.Bits.{bit}
 use Rattle.text.specs.State.{is_state}
 use Rattle.text.specs.Compare.{same}
-use Rattle.text.specs.Refusal.{ok, refused}
+use Rattle.text.specs.Refusal.{Outcome, ok, refused}
+use Rattle.card.specs.Answers.{made, made_of, held}
 use Rattle.text.specs.Card.{Row, Card, most_segments, follow, well_formed, same_pattern, joined, join, ask}
 use Rattle.text.proofs.Truth.{and_right}
 use Rattle.text.proofs.Cards.Formed.{WellFormed, well}
@@ -71,3 +72,8 @@ module _ (a : Card) (st : ℕ) where
         let w : WellFormed a = (well a).0 e in
         let small : st < 2 ^ a.m = ltb-true st (2 ^ a.m) (and_right (bit st 0) (ltb st (2 ^ a.m)) state) in
         rw (e, state) (ap ok (h ∙ follow-short a.m a.rows st w.short small (exit_small a w)))
+
+-- what comes of two cards, of a stretch or of no segments is told as the definitions say
+pub made-held : (o : Outcome Card) → made_of (held o) ≡ made o
+made-held (ok c) = refl
+made-held (refused n p) = refl

@@ -16,9 +16,14 @@ use Rattle.text.proofs.Rows.{rows_of-from}
 use Rattle.text.proofs.TextCards.{row-text}
 use Rattle.layout.specs.Reading.{stretch_of}
 use Rattle.layout.proofs.Refusals.{stretch-low}
-use Rattle.card.specs.declared.rows.passes.Rows.{Rows}
+use Rattle.card.specs.declared.rows.start.Rows.{Rows}
+use Rattle.card.specs.declared.rows.passes.Summed.{Summed}
+use Rattle.std.specs.Result.{IsOk, is_ok}
+use Rattle.std.proofs.Common.{Ok}
+use mathlib.Core.Bool.{false≢true}
+use Rattle.card.specs.Answers.{made}
 use Rattle.card.specs.Held.{rows_in}
-use Rattle.card.specs.Rows.{carding, rowed}
+use Rattle.card.specs.Rows.{carding, summed, rowed}
 use Rattle.card.proofs.Numbers.{Numbered, demand-numbered}
 use Rattle.card.proofs.RowsHeld.{rows_out}
 
@@ -45,7 +50,7 @@ module _ (P s : List ℕ) where
   unfolding carding
   carded-text c = sound-pattern P c.sound (after (stretch_of s) (λ t. ok (card_of P t))) ∙ rw c.read
 
-  pub carded : (rowed (carding P s)).refusal.number ≡ 0 → Carded
+  pub carded : (made (carding P s)).refusal.number ≡ 0 → Carded
   unfolding carding
   carded z = either (carding P s) refl carding-numbered z
     where
@@ -56,25 +61,30 @@ module _ (P s : List ℕ) where
           let (t, h, _) = after-met (stretch_of s) (λ t. ok (card_of P t)) c g in
           record { sound = pattern-sound P f; text = t; read = h }
 
-      either : (o : Outcome Card) → carding P s ≡ o → Numbered o → (rowed o).refusal.number ≡ 0 → Carded
+      either : (o : Outcome Card) → carding P s ≡ o → Numbered o → (made o).refusal.number ≡ 0 → Carded
       either (ok c) e k z = met c e
       either (refused n p) e k z = absurd (k z)
 
-  pub told-accepts : (rowed (carding P s)).refusal.number ≡ 0 ↔ Carded
-  told-accepts = (carded, λ c. ap (λ (o : Outcome Card). (rowed o).refusal.number) (carded-text c))
+  pub told-accepts : IsOk (rowed (carding P s)) ↔ Carded
+  told-accepts = (λ k. carded (numbered (carding P s) k), λ c. ap (λ (o : Outcome Card). is_ok (rowed o)) (carded-text c))
+    where
+      numbered : (o : Outcome Card) → IsOk (rowed o) → (made o).refusal.number ≡ 0
+      numbered (ok c) k = refl
+      numbered (refused n p) k = absurd (false≢true k)
 
 -- the rows that are told of a text
 module _ (P s : List ℕ) (T : Text) (sound : SoundPattern P) (e : stretch_of s ≡ ok T) where
-  same : rowed (carding P s) ≡ rowed (ok (card_of P T))
+  same : rowed (carding P s) ≡ Ok (summed (card_of P T))
   same = ap rowed (carded-text P s (record { sound = sound; text = T; read = e }))
 
-  held : (q : ℕ) → let r : Rows = rowed (carding P s) in row (rows_in r.exits r.firsts) q ≡ row (card_of P T).rows q
-  held q =
-      ap (λ (r : Rows). row (rows_in r.exits r.firsts) q) same ∙ ap (λ (rows : List Row). row rows q) (rows_out (card_of P T).rows)
+  held : (q : ℕ) → let r : Rows = (summed (card_of P T)).rows in row (rows_in r.exits r.firsts) q ≡ row (card_of P T).rows q
+  held q = ap (λ (rows : List Row). row rows q) (rows_out (card_of P T).rows)
 
-  pub told-row : (q : ℕ) → q < length P → let r : Rows = rowed (carding P s) in row (rows_in r.exits r.firsts) q ≡ ran P (2 ^ q) T
-  told-row q l = held q ∙ row-text P T sound.some sound.short q l
+  pub told-row : (q : ℕ) → q < length P
+      → (x : Summed) × (rowed (carding P s) ≡ Ok x) × (row (rows_in x.rows.exits x.rows.firsts) q ≡ ran P (2 ^ q) T)
+  told-row q l = (summed (card_of P T), same, held q ∙ row-text P T sound.some sound.short q l)
 
-  pub told-idle : (q : ℕ) → length P ≤ q → let r : Rows = rowed (carding P s) in row (rows_in r.exits r.firsts) q ≡ dead
+  pub told-idle : (q : ℕ) → length P ≤ q
+      → (x : Summed) × (rowed (carding P s) ≡ Ok x) × (row (rows_in x.rows.exits x.rows.firsts) q ≡ dead)
   unfolding card_of
-  told-idle q far = held q ∙ rows_of-from (length P) (λ q. ran P (2 ^ q) T) q far
+  told-idle q far = (summed (card_of P T), same, held q ∙ rows_of-from (length P) (λ q. ran P (2 ^ q) T) q far)

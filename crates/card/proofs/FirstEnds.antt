@@ -1,52 +1,43 @@
--- The first mark that is 1, as a loop looks for it.
-use Prim.Native.Nat.{ℕ, suc, ◌+◌, ◌≤◌, ◌<◌}
-use native.Mathlib.Numerals.{add-one}
-use native.Mathlib.Omega.{arith}
-use mathlib.Core.Path.{◌≡◌, sym, ap, ◌∙◌}
-use mathlib.Core.Bool.{Bool, cond}
-use mathlib.Core.List.{List}
-use borrow.Author.Tests.{eq-eqb, ne_eqb}
-use lib.Dec.{eqb}
-use lib.ListN.{length, drop, get_or, drop_of_length-le}
-use lib.Seq.{drop-cons}
+-- The first mark that is 1, as std looks for it.
+use Rattle.std.proofs.Common.{◌≡◌, suc, not, refl, sym, ap, ◌∙◌, ℕ, ◌+◌, ◌<◌, ◌≤◌, Bool, true, false, cond, List, [], ◌∷◌, length, Option, Some, None, arith}
+use lib.Dec.{eqb, ltb}
+use native.Mathlib.Decide.{dec_lt}
+use mathlib.Core.Logic.{by_cases}
+use borrow.Author.Tests.{lt-ltb, le-ltb}
+use Rattle.std.specs.List.{position_or_len}
+use Rattle.std.specs.Option.{unwrap_or}
 use Rattle.text.specs.Card.{none, most_segments, later, first_end}
-use Rattle.text.proofs.Ends.{first_end-le, later-none, later-zero, later-add}
 
--- none of the first k marks is 1: the first end is the one among the others, counted from k marks earlier
-pub record Looking (marks : List ℕ) (k : ℕ) : Type 0 where
-  pub inside : k ≤ length marks
-  pub rest : first_end marks ≡ later k (first_end (drop k marks))
+abbrev pub is_one : ℕ → Bool
+is_one mark = eqb mark 1
 
-pub looking-none : (marks : List ℕ) → Looking marks 0
-looking-none marks = record { inside = omega arith; rest = sym (later-zero (first_end marks) (first_end-le marks)) }
+-- the place of a mark among so many, or "none"
+place : ℕ → ℕ → ℕ
+place k n = cond (ltb k n) k none
 
-module _ (marks : List ℕ) (k : ℕ) (s : Looking marks k) where
-  module _ (l : k < length marks) where
-    after : Bool → ℕ
-    after b = later k (cond b 0 (later 1 (first_end (drop (suc k) marks))))
+-- what comes of a further mark before them
+next : (b : Bool) (k n : ℕ) → n < most_segments → cond b 0 (later 1 (place k n)) ≡ place (cond (not b) (1 + k) 0) (suc n)
+unfolding later place
+next true k n few = rw (lt-ltb 0 (suc n) (omega arith)) refl
+next false k n few =
+    by_cases (dec_lt k n)
+    (λ (l : k < n). rw (lt-ltb k n l, lt-ltb (1 + k) (suc n) (omega arith)) (omega arith))
+    (λ (l : ¬ (k < n)). let far : n ≤ k = omega arith in rw (le-ltb k n far, le-ltb (1 + k) (suc n) (omega arith)) refl)
 
-    this : first_end marks ≡ after (eqb (get_or marks k 0) 1)
-    unfolding first_end after
-    this = s.rest ∙ rw (drop-cons marks k 0 l)
+first-place : (marks : List ℕ) → length marks ≤ most_segments → first_end marks ≡ place (position_or_len is_one marks) (length marks)
+unfolding first_end place
+first-place [] few = refl
+first-place (mark ∷ marks) few =
+    ap (λ (e : ℕ). cond (is_one mark) 0 (later 1 e)) (first-place marks (omega arith))
+    ∙ next (is_one mark) (position_or_len is_one marks) (length marks) (omega arith)
 
-    pub looking-found : length marks ≤ most_segments → get_or marks k 0 ≡ 1 → k ≡ first_end marks
-    unfolding later after
-    looking-found few e =
-        let here : first_end marks ≡ later k 0 = this ∙ ap after (eq-eqb (get_or marks k 0) 1 e) in
-        omega arith
-
-    pub looking-more : (get_or marks k 0 ≡ 1 → ⊥) → Looking marks (k + 1)
-    unfolding after
-    looking-more ne =
-        record {
-          inside = omega arith;
-          rest =
-              this
-              ∙ ap after (ne_eqb (get_or marks k 0) 1 ne)
-              ∙ sym (later-add k 1 (first_end (drop (suc k) marks)))
-              ∙ rw add-one;
-        }
-
-  pub looking-end : length marks ≤ k → none ≡ first_end marks
-  unfolding first_end
-  looking-end l = sym (s.rest ∙ ap (λ (t : List ℕ). later k (first_end t)) (drop_of_length-le marks l) ∙ later-none k)
+pub first-position : (marks : List ℕ) (found : Option ℕ) → length marks ≤ most_segments
+    → found ≡ cond (ltb (position_or_len is_one marks) (length marks)) (Some (position_or_len is_one marks)) None
+    → unwrap_or found none ≡ first_end marks
+unfolding place
+first-position marks found few is =
+    ap (λ (o : Option ℕ). unwrap_or o none) is ∙ each (ltb (position_or_len is_one marks) (length marks)) _ ∙ sym (first-place marks few)
+  where
+    each : (b : Bool) (k : ℕ) → unwrap_or (cond b (Some k) None) none ≡ cond b k none
+    each true k = refl
+    each false k = refl

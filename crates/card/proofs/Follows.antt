@@ -20,7 +20,7 @@ use Rattle.text.proofs.Ends.{earliest-le}
 use Rattle.text.proofs.Rows.{union-cong, earliest-cong}
 use Rattle.card.specs.Held.{row_of, rows_in, Full}
 use Rattle.card.proofs.RowsHeld.{rows_row}
-use Rattle.card.proofs.Gathered.{gathered, gathered-union, gathered-all, earliest-all}
+use Rattle.card.proofs.Gathered.{gathered, gathered-small, gathered-union, gathered-all, earliest-all}
 
 -- the bits of st below q are followed: `exit` and `first` are what they gave, and `rest` has the others
 pub record Following (es fs : List ℕ) (st exit first rest q : ℕ) : Type 0 where
@@ -74,7 +74,7 @@ module _ (es fs : List ℕ) (st : ℕ) where
           more false exit' first' (this-bit ∙ ne_eqb (rest % 2) 1 e) l (p ∙ sym (or_zero_r exit)) stays
 
     -- no bit is left
-    pub following-all : Full es fs → ((p : ℕ) → get_or es p 0 < 2 ^ 64) → rest ≡ 0
+    pub following-all : Full es fs → exit < 2 ^ 64 → rest ≡ 0
         → row_of exit first ≡ follow 64 (rows_in es fs) st
     unfolding follow
     following-all full small e = λ i. record { exit = states i; first = ends i }
@@ -82,11 +82,13 @@ module _ (es fs : List ℕ) (st : ℕ) where
         none_left : st / 2 ^ q ≡ 0
         none_left = sym h.left ∙ e
 
+        all : exit ≡ gathered st (λ p. get_or es p 0) 64
+        all = h.states ∙ sym (gathered-all st (λ p. get_or es p 0) q 64 h.inside none_left)
+
         states : exit ≡ union st (λ p. (row (rows_in es fs) p).exit) 64
         states =
-            h.states
-            ∙ sym (gathered-all st (λ p. get_or es p 0) q 64 h.inside none_left)
-            ∙ gathered-union st (λ p. get_or es p 0) 64 (λ p l. small p)
+            all
+            ∙ gathered-small st (λ p. get_or es p 0) 64 (rw all at small)
             ∙ union-cong st _ _ 64 (λ p l. ap (λ (r : Row). r.exit) (sym (rows_row full p l)))
 
         ends : first ≡ earliest st (λ p. (row (rows_in es fs) p).first) 64

@@ -4,7 +4,7 @@ use native.Mathlib.Numerals.{add-one}
 use native.Mathlib.Omega.{arith}
 use mathlib.Core.Path.{◌≡◌, refl, sym, ap, subst, ◌∙◌}
 use mathlib.Core.Logic.Iff
-use mathlib.Core.Bool.{Bool, true, false, ◌&&◌, ◌||◌, beq}
+use mathlib.Core.Bool.{Bool, true, false, ◌&&◌, ◌||◌, beq, true≢false, false≢true}
 use mathlib.Core.List.{List}
 use borrow.Author.Tests.{lt-ltb, le-ltb, le-leb, lt-leb}
 use lib.Dec.{eqb, ltb, leb}
@@ -13,12 +13,15 @@ use lib.Seq.{drop-cons, length-take-le}
 use Rattle.text.specs.Letter.{base, every}
 use Rattle.text.specs.Compare.{same}
 use Rattle.text.specs.Bits.{low}
-use Rattle.text.specs.Refusal.{ok, refused, pattern, SoundPattern}
+use Rattle.text.specs.Refusal.{ok, refused, pattern, outcome, SoundPattern}
 use Rattle.text.specs.Card.{Row, none, most_segments, dead, padded, is_row, are_rows, well_formed}
 use Rattle.text.proofs.Truth.{and-true, and-false, and_assoc, not-true-false}
 use Rattle.text.proofs.Tests.{and-test, lt_test, le_test, same_test}
 use Rattle.text.proofs.Outcomes.{refused-ok}
-use Rattle.text.proofs.Patterns.{sound-pattern}
+use Rattle.text.specs.declared.refusal.Refusal.{Refusal}
+use Rattle.std.proofs.Common.{Result, Ok, Err}
+use Rattle.std.specs.Result.{is_ok}
+use Rattle.text.proofs.Patterns.{sound-pattern, pattern-sound}
 use Rattle.text.proofs.Bits.{bit-first}
 use Rattle.text.proofs.States.{within_low}
 use Rattle.card.specs.declared.cards.Card.{Card as Held}
@@ -100,6 +103,21 @@ module _ (bytes : List ℕ) (m : ℕ) (full : length bytes ≡ 64) (short : m �
   padded-right s =
       let some : 0 < m = omega (arith, s.some, head-long) in
       rw (lt-ltb 0 m some, le-leb m 64 short, s.bases) (sym (and-true _))
+
+  module _ (r : Result (Unit {0}) Refusal) (e : outcome r ≡ pattern (take m bytes) (ok (tt {0}))) where
+    pub padded-checked : is_ok r ≡ true → same bytes (padded (take m bytes)) ≡ is_padded bytes m
+    padded-checked k = padded-right (go r e k)
+      where
+        go : (r : Result (Unit {0}) Refusal) → outcome r ≡ pattern (take m bytes) (ok (tt {0})) → is_ok r ≡ true → SoundPattern (take m bytes)
+        go (Ok u) e k = pattern-sound (take m bytes) (sym e)
+        go (Err f) e k = absurd (false≢true k)
+
+    pub padded-unchecked : is_ok r ≡ false → false ≡ is_padded bytes m
+    padded-unchecked k = go r e k
+      where
+        go : (r : Result (Unit {0}) Refusal) → outcome r ≡ pattern (take m bytes) (ok (tt {0})) → is_ok r ≡ false → false ≡ is_padded bytes m
+        go (Ok u) e k = absurd (true≢false k)
+        go (Err f) e k = padded-wrong f.number f.place (sym e)
 
 module _ (c : Held) where
   formed-is : well_formed (card_in c)

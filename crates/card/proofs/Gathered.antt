@@ -39,10 +39,12 @@ gathered-lt st f (suc n) k h =
     or_lt k _ _ (gathered-lt st f n k (λ q l. h q (omega arith))) (cond-lt (bit st n) (f n) k (h n (omega arith)))
 
 -- what is gathered is the union
+pub gathered-small : (st : ℕ) (f : ℕ → ℕ) (n : ℕ) → gathered st f n < 2 ^ n → gathered st f n ≡ union st f n
+gathered-small st f n small =
+    bit-ext n (gathered st f n) (union st f n) small (union-lt st f n) (λ r l. gathered-bit st f n r ∙ sym (union-bit st f n r l))
+
 pub gathered-union : (st : ℕ) (f : ℕ → ℕ) (n : ℕ) → ((q : ℕ) → q < n → f q < 2 ^ n) → gathered st f n ≡ union st f n
-gathered-union st f n h =
-    bit-ext n (gathered st f n) (union st f n) (gathered-lt st f n n h) (union-lt st f n)
-    (λ r l. gathered-bit st f n r ∙ sym (union-bit st f n r l))
+gathered-union st f n h = gathered-small st f n (gathered-lt st f n n h)
 
 -- no bit from q up
 no_more : (st q d : ℕ) → st / 2 ^ q ≡ 0 → bit st (q + d) ≡ false

@@ -26,9 +26,11 @@ use Rattle.layout.proofs.Frames.{stretch-whole}
 use Rattle.layout.proofs.Stretches.{stretch-most}
 use Rattle.search.specs.Answers.{Seen, seen_from, into, stretch_into, searching, seeking}
 use Rattle.search.proofs.Searches.{fresh-searching}
-use Rattle.card.specs.declared.rows.passes.Rows.{Rows}
+use Rattle.std.proofs.Common.{Ok}
+use Rattle.card.specs.declared.rows.start.Rows.{Rows}
+use Rattle.card.specs.declared.rows.passes.Summed.{Summed}
 use Rattle.card.specs.Held.{Bases, Full, row_of, rows_in, exits_of, firsts_of, lones}
-use Rattle.card.specs.Rows.{carding, rowed, Rowed, RowsOf, RowZero, AreOver}
+use Rattle.card.specs.Rows.{carding, summed, rowed, Rowed, RowsOf, RowZero, AreOver}
 use Rattle.card.proofs.RowsHeld.{rows_out, rows-set, exits-in, firsts-in, even, full-set, rows-length}
 use Rattle.card.proofs.Lones.{exits-lone, firsts-lone}
 
@@ -39,10 +41,10 @@ rowed-text P t b =
     record { each = λ q pos l. row-text P t b.some b.short q l; idle = rows_of-from (length P) (λ q. ran P (2 ^ q) t) }
 
 -- lone exits and no first ends are the rows of no segments
-pub rowed-none : (P : List ℕ) → Bases (length P) → (exits : List ℕ) → exits ≡ lones (length P)
-    → Rowed P [] (rows_in exits (replicate 64 none))
+pub rowed-none : (P : List ℕ) → Bases (length P) → (rows : Rows) → rows ≡ record { exits = lones (length P); firsts = replicate 64 none }
+    → Rowed P [] (rows_in rows.exits rows.firsts)
 unfolding empty_card
-rowed-none P b exits e =
+rowed-none P b rows e =
     let none-taken : Rowed P [] (empty_card P).rows = subst (λ (c : Card). Rowed P [] c.rows) (sym (empty-text P)) (rowed-text P [] b) in
     rw (e, ← exits-lone (length P), ← firsts-lone (length P), rows_out (empty_card P).rows) none-taken
 
@@ -79,33 +81,25 @@ module _ (P : List ℕ) (t : Text) (exits firsts : List ℕ) (full : Full exits 
       ∙ ext_get_or dead rows (card_of P t).rows (long ∙ sym (length-rows_of (length P) (λ q. ran P (2 ^ q) t))) (λ q l. each q)
 
   pub rows_told : (segments : ℕ) → length t ≡ segments
-      → record {
-        refusal = record { number = 0; place = 0 };
-        segments = segments;
-        exits = set exits 0 exit;
-        firsts = set firsts 0 first;
-      }
-      ≡ rowed (ok (card_of P t))
+      → record { segments = segments; rows = record { exits = set exits 0 exit; firsts = set firsts 0 first } }
+      ≡ summed (card_of P t)
   unfolding card_of
   rows_told segments count =
       λ i.
       record {
-        refusal = record { number = 0; place = 0 };
         segments = sym count i;
-        exits = (sym (exits-in (set exits 0 exit) (set firsts 0 first) even-set) ∙ ap exits_of rows_are) i;
-        firsts = (sym (firsts-in (set exits 0 exit) (set firsts 0 first) even-set) ∙ ap firsts_of rows_are) i;
+        rows =
+            record {
+              exits = (sym (exits-in (set exits 0 exit) (set firsts 0 first) even-set) ∙ ap exits_of rows_are) i;
+              firsts = (sym (firsts-in (set exits 0 exit) (set firsts 0 first) even-set) ∙ ap firsts_of rows_are) i;
+            };
       }
 
 module _ (P s : List ℕ) (segments exit first : ℕ) (z : RowZero P s segments (row_of exit first))
     (exits firsts : List ℕ) (full : Full exits firsts) (w : RowsOf P s (rows_in exits firsts)) where
   pub all-over :
       AreOver P s
-      (record {
-        refusal = record { number = 0; place = 0 };
-        segments = segments;
-        exits = set exits 0 exit;
-        firsts = set firsts 0 first;
-      })
+      (record { segments = segments; rows = record { exits = set exits 0 exit; firsts = set firsts 0 first } })
   all-over t h =
       let same : z.sound.text ≡ t = ok-inj (sym z.sound.read ∙ h) in
       rows_told P t exits firsts full (w t h) z.bases exit first (z.is ∙ ap (ran P fresh) same)
@@ -171,10 +165,10 @@ module _ (P s out : List ℕ) (room : length out ≡ most_in_stretch) where
     pub of-few : segments ≤ most_in_stretch
     of-few = omega (arith, stretch-most s a.text a.read, a.count)
 
-    pub of-told : (r : Rows) → AreOver P s r → r ≡ rowed (carding P s)
+    pub of-told : (r : Summed) → AreOver P s r → Ok r ≡ rowed (carding P s)
     of-told r h =
         let told : carding P s ≡ ok (card_of P a.text) = carding-is ∙ rw a.found in
-        h a.text (stretch-whole s a.text a.read).1 ∙ ap rowed (sym told)
+        ap Ok (h a.text (stretch-whole s a.text a.read).1) ∙ ap rowed (sym told)
 
     -- the marks that are left in the buffer, and row 0
     module _ (left : List ℕ) (is : left ≡ left_by (marks_from P fresh) (seeking P fresh s (length out)) out) where

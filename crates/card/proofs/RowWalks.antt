@@ -11,7 +11,7 @@ use lib.Pow.{pow_pos, pow-lt}
 use Rattle.text.specs.Text.{Segment, Text}
 use Rattle.text.specs.Bits.{bit, low}
 use Rattle.text.specs.State.{ends, run, marks_from}
-use Rattle.text.specs.Refusal.{ok}
+use Rattle.text.specs.Refusal.{ok, outcome}
 use Rattle.text.specs.declared.refusal.Refusal.{Refusal}
 use Rattle.text.specs.Card.{Row, none, dead, row, later, first_end, ran, onward}
 use Rattle.text.proofs.Truth.{not-true-false}
@@ -27,9 +27,9 @@ use Rattle.text.proofs.TextCards.{ran_append}
 use Rattle.layout.specs.Pieces.{most_in_stretch}
 use Rattle.layout.specs.Bytes.{word}
 use Rattle.layout.specs.Reading.{segment_at, whole_stretch, Readable}
-use Rattle.layout.specs.Walk.{opened_at, passed_to, told_walk}
+use Rattle.layout.specs.Walk.{opened_at, passed_to}
 use Rattle.layout.specs.declared.walk.Walk.{Walk}
-use Rattle.layout.specs.declared.walk.Opened.{Opened}
+use Rattle.std.proofs.Common.{Result, Err}
 use Rattle.layout.proofs.Rows as Read
 use Rattle.layout.proofs.Decoding.{whole-read}
 use Rattle.layout.proofs.Stretches.{whole-most}
@@ -87,7 +87,7 @@ pub sound-states : (s : List ℕ) (n : ℕ) → Sound s n → Sound s (word s 0)
 sound-states s n w = record { text = w.text; read = w.read; count = sym (whole-read s w.text w.read).count }
 
 -- and opens
-pub sound-opens : (s : List ℕ) (n : ℕ) → Sound s n → {r : Opened} → told_walk r ≡ opened_at s → {f : Refusal} → r ≡ Opened.Refused f → ⊥
+pub sound-opens : (s : List ℕ) (n : ℕ) → Sound s n → {r : Result Walk Refusal} → outcome r ≡ opened_at s → {f : Refusal} → r ≡ Err f → ⊥
 sound-opens s n w told {f} is =
     refused-ok f.number f.place w.text (sym (open-not s told is).1 ∙ w.read)
 

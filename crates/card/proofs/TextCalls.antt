@@ -37,7 +37,7 @@ use Rattle.search.proofs.Entries.{fresh-state}
 use Rattle.search.proofs.Chains.{steps, feeds-steps, steps-marks, steps-states}
 use Rattle.card.specs.Held.{row_of}
 use Rattle.card.specs.Cards.{card_out}
-use Rattle.card.specs.Rows.{carding, rowed}
+use Rattle.card.specs.Rows.{carding}
 use Rattle.card.proofs.Carded.{Carded, carded}
 use Rattle.card.specs.Answers.{accepted, made}
 use Rattle.card.proofs.Held.{in-out}
@@ -57,16 +57,16 @@ asking-text P T s st l e = rw (in-out (card_of P T)) (ask-text P T s st l e)
 -- a stretch, of the pattern as a strand reads it
 module _ (P : List ℕ) (strand : Strand) (s : List ℕ) where
   -- the strand says which card is made, and not whether one is
-  alike : (making P strand s).refusal ≡ (rowed (carding P s)).refusal
+  alike : (making P strand s).refusal ≡ (made (carding P s)).refusal
   unfolding carding
   alike =
       ap (λ (o : Outcome Card). (made o).refusal) (carding-strand P strand s ∙ pattern-after P _)
       ∙ each (pattern P (ok (tt {0}))) (stretch_of s)
-      ∙ sym (ap (λ (o : Outcome Card). (rowed o).refusal) (pattern-after P _))
+      ∙ sym (ap (λ (o : Outcome Card). (made o).refusal) (pattern-after P _))
     where
       each : (a : Outcome (Unit {0})) (o : Outcome Text)
           → (made (after a (λ _. after o (λ t. ok (card_of (on_strand strand P) t))))).refusal
-          ≡ (rowed (after a (λ _. after o (λ t. ok (card_of P t))))).refusal
+          ≡ (made (after a (λ _. after o (λ t. ok (card_of P t))))).refusal
       each (ok u) (ok t) = refl
       each (ok u) (refused n p) = refl
       each (refused n p) o = refl

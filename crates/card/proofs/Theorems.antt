@@ -22,7 +22,9 @@ use Rattle.layout.proofs.Stands.{Bytes}
 use Rattle.layout.specs.Pieces.{most_in_stretch}
 use Rattle.search.specs.Chain.{segments_text, stretches_text, Trail, seeks}
 use Rattle.text.specs.declared.strand.Strand.{Strand}
-use Rattle.card.specs.declared.rows.passes.Rows.{Rows}
+use Rattle.std.specs.Result.{IsOk}
+use Rattle.std.proofs.Common.{Ok}
+use Rattle.card.specs.declared.rows.passes.Summed.{Summed}
 use Rattle.card.specs.declared.cards.Card.{Card as Held}
 use Rattle.card.specs.Held.{row_of, rows_in, Full}
 use Rattle.card.specs.Rows.{carding, rowed}
@@ -41,17 +43,19 @@ use Rattle.card.proofs.Groupings.{Together}
 use Rattle.card.proofs.Neutral
 
 -- `over` accepts exactly a sound pattern with a sound stretch
-pub over-accepts : (P s : List ℕ) → (rowed (carding P s)).refusal.number ≡ 0 ↔ Carded P s
+pub over-accepts : (P s : List ℕ) → IsOk (rowed (carding P s)) ↔ Carded P s
 over-accepts = Carded.told-accepts
 
 -- row q below m is then what running the text from a lone q gives, row 0 from nothing carried in
 pub over-row : (P s : List ℕ) (T : Text) → SoundPattern P → stretch_of s ≡ ok T
-    → (q : ℕ) → q < length P → let r : Rows = rowed (carding P s) in row (rows_in r.exits r.firsts) q ≡ ran P (2 ^ q) T
+    → (q : ℕ) → q < length P
+    → (x : Summed) × (rowed (carding P s) ≡ Ok x) × (row (rows_in x.rows.exits x.rows.firsts) q ≡ ran P (2 ^ q) T)
 over-row = Carded.told-row
 
 -- and from m up nothing leaves, and nothing ends
 pub over-idle : (P s : List ℕ) (T : Text) → SoundPattern P → stretch_of s ≡ ok T
-    → (q : ℕ) → length P ≤ q → let r : Rows = rowed (carding P s) in row (rows_in r.exits r.firsts) q ≡ dead
+    → (q : ℕ) → length P ≤ q
+    → (x : Summed) × (rowed (carding P s) ≡ Ok x) × (row (rows_in x.rows.exits x.rows.firsts) q ≡ dead)
 over-idle = Carded.told-idle
 
 -- the card on a strand, whatever is given: 1, 2, 3 of the pattern as given, then the card of the pattern that the strand reads

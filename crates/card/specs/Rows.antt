@@ -1,33 +1,26 @@
 -- The rows of the card of a stretch: what is told of them, rows 1 to m - 1 over its segments, and row 0 as the search tells it.
-use Rattle.std.specs.Prelude.{ℕ, ◌^◌, ◌<◌, ◌≤◌, ◌≡◌, List, length, replicate}
+use Rattle.std.specs.Prelude.{ℕ, ◌^◌, ◌<◌, ◌≤◌, ◌≡◌, List, length, Result, Ok, Err}
 use Rattle.text.specs.Text.{Text}
 use Rattle.text.specs.State.{fresh}
-use Rattle.text.specs.Refusal.{Outcome, ok, refused, after, pattern, greatest_pattern}
+use Rattle.text.specs.Refusal.{Outcome, ok, refused, after, pattern}
 use Rattle.text.specs.Card.{Row, Card, dead, row, ran, card_of}
 use Rattle.layout.specs.Reading.{whole_stretch, stretch_of}
-use Rattle.card.specs.declared.rows.passes.Rows.{Rows}
+use Rattle.text.specs.declared.refusal.Refusal.{Refusal}
+use Rattle.card.specs.declared.rows.passes.Summed.{Summed}
 use Rattle.card.specs.Held.{exits_of, firsts_of, Bases}
 
 -- the card of a stretch: 1, 2, 3, then those of the stretch
 unfoldable pub carding : List ℕ → List ℕ → Outcome Card
 carding P s = pattern P (after (stretch_of s) λ t. ok (card_of P t))
 
--- the one answer for each outcome: 0 at 0 and the card's rows, or the number, the place and zeros
-abbrev pub rowed : Outcome Card → Rows
-rowed (ok c) =
-    record {
-      refusal = record { number = 0; place = 0 };
-      segments = c.segments;
-      exits = exits_of c.rows;
-      firsts = firsts_of c.rows;
-    }
-rowed (refused n p) =
-    record {
-      refusal = record { number = n; place = p };
-      segments = 0;
-      exits = replicate greatest_pattern 0;
-      firsts = replicate greatest_pattern 0;
-    }
+-- the segments and the rows of a card, as they are held
+abbrev pub summed : Card → Summed
+summed c = record { segments = c.segments; rows = record { exits = exits_of c.rows; firsts = firsts_of c.rows } }
+
+-- the one answer for each outcome: what the card has, or the refusal
+abbrev pub rowed : Outcome Card → Result Summed Refusal
+rowed (ok c) = Ok (summed c)
+rowed (refused n p) = Err (record { number = n; place = p })
 
 -- bytes that are accepted as a stretch of n segments, their length apart
 pub record Sound (s : List ℕ) (n : ℕ) : Type 0 where
@@ -51,5 +44,5 @@ pub record RowZero (P s : List ℕ) (segments : ℕ) (r : Row) : Type 0 where
   pub is : r ≡ ran P fresh sound.text
 
 -- the rows of the card of the text of s
-abbrev pub AreOver : List ℕ → List ℕ → Rows → Type 0
-AreOver P s r = (t : Text) → whole_stretch s ≡ ok t → r ≡ rowed (ok (card_of P t))
+abbrev pub AreOver : List ℕ → List ℕ → Summed → Type 0
+AreOver P s r = (t : Text) → whole_stretch s ≡ ok t → r ≡ summed (card_of P t)

@@ -5,8 +5,6 @@ ghost use Rattle.text.specs.Card.{later, join, joined};
 ghost use Rattle.card.specs.Cards.{card_in, card_out};
 
 use crate::cards::Card;
-use crate::follow::follow;
-use crate::rows::earlier;
 
 // An end counted from `count` segments earlier; "none" stays "none". The sum of an end and a count is never cut off in a card that
 // has at most 4294967294 segments.
@@ -21,32 +19,26 @@ fn later(count: u32, first: u32) -> u32
     }
 }
 
-// The card of two neighbours that can be joined: each row of the left goes on with what the right makes of its exit.
-pub fn joined(left: Card, right: Card) -> Card
-    requires { join (card_in left) (card_in right) ≡ ok (joined (card_in left) (card_in right)) }
-    ensures { result ≡ card_out (joined (card_in left) (card_in right)) }
-{
-    let pattern = left.pattern;
-    let count = left.segments;
-    let mut exits = left.exits;
-    let mut firsts = left.firsts;
-    let next = right.exits;
-    let ends = right.firsts;
-    let mut q = 0;
-    while q < Card::GREATEST_PATTERN {
-        let exit = exits[q];
-        let first = firsts[q];
-        let row = follow(&next, &ends, exit);
-        exits[q] = row.exit;
-        firsts[q] = earlier(first, later(count, row.first));
-        q += 1;
-    }
-    let segments = count + right.segments;
-    Card {
-        pattern,
-        m: left.m,
-        segments,
-        exits,
-        firsts,
+impl Card {
+    // The card of two neighbours that can be joined: each row of the left goes on with what the right makes of its exit.
+    pub(crate) fn joined(&self, right: &Card) -> Card
+        requires { join (card_in self.now) (card_in right.now) ≡ ok (joined (card_in self.now) (card_in right.now)) }
+        ensures { result ≡ card_out (joined (card_in self.now) (card_in right.now)) }
+    {
+        let count = self.segments;
+        let mut exits = self.exits;
+        let mut firsts = self.firsts;
+        for q in 0..Card::GREATEST_PATTERN {
+            let row = right.follow(exits[q]);
+            exits[q] = row.exit;
+            firsts[q] = firsts[q].min(later(count, row.first));
+        }
+        let segments = count + right.segments;
+        Card {
+            segments,
+            exits,
+            firsts,
+            ..*self
+        }
     }
 }

@@ -5,6 +5,5 @@ mod passes;
 mod segment;
 mod start;
 
-pub use ends::earlier;
-pub use passes::{Rows, over};
-pub use start::lone;
+pub use passes::{Summed, over};
+pub use start::Rows;

@@ -1,11 +1,10 @@
 -- Numbers put into a block, 8 bytes each, low byte first.
-use Prim.Native.Nat.{ℕ, zero, suc, ◌+◌, ◌-◌, ◌/◌, ◌%◌, ◌≤◌, ◌<◌}
-use native.Mathlib.Omega.{arith}
-use mathlib.Core.Path.{◌≡◌, refl, ap, ◌∙◌}
-use mathlib.Core.List.{List, [], ◌∷◌, ◌++◌}
-use lib.ListN.{length, set, length-append}
+use Rattle.std.proofs.Common.{◌≡◌, ℕ, zero, suc, ◌+◌, ◌-◌, ◌/◌, ◌%◌, ◌^◌, ◌≤◌, List, ◌∷◌, ◌++◌, length, take, drop, refl, sym, ap, ap₂, ◌∙◌, arith, length-append, drop-drop}
+use Rattle.std.proofs.Math.Nat.{div-div-eq-div-mul, div-one, pow-zero, pow-suc}
+use Rattle.std.specs.Int.{w64, byte_at, bytes_low_first, to_le_bytes}
+use borrow.Rule.Slice.PartMut.{put_mid}
 use Rattle.layout.specs.Bytes.{over}
-use Rattle.layout.proofs.Overs.{over-set, over-over, Emitted, emitted-none, emitted-more, emitted-room, emitted-length, emitted-end}
+use Rattle.layout.proofs.Overs.{over-over}
 use Rattle.cerantuh.specs.Forms.{low_first}
 
 pub length-low : (k n : ℕ) → length (low_first k n) ≡ k
@@ -13,40 +12,28 @@ unfolding low_first
 length-low zero n = refl
 length-low (suc k) n = ap suc (length-low k (n / 256))
 
--- one number: i of its bytes are put, and `rest` is what comes next
-pub record Putting (d : List ℕ) (at number : ℕ) (out : List ℕ) (rest i : ℕ) : Type 0 where
-  pub few : i ≤ 8
-  pub emitted : Emitted d at (low_first 8 number) out (at + i) (low_first (8 - i) rest)
+-- std's bytes of a number from byte i on
+low-bytes : (k i n : ℕ) → bytes_low_first i k n ≡ low_first k (n / 256 ^ i)
+unfolding low_first
+low-bytes zero i n = refl
+low-bytes (suc k) i n =
+    let next : n / 256 ^ suc i ≡ n / 256 ^ i / 256 = ap (λ (x : ℕ). n / x) (pow-suc 256 i) ∙ sym (div-div-eq-div-mul n (256 ^ i) 256) in
+    ap₂ (λ (x : ℕ) (l : List ℕ). x ∷ l) (byte i) (low-bytes k (suc i) n ∙ ap (low_first k) next)
+  where
+    byte : (i : ℕ) → byte_at i n ≡ n / 256 ^ i % 256
+    byte zero = ap (λ (x : ℕ). x % 256) (sym (ap (λ (x : ℕ). n / x) (pow-zero 256) ∙ div-one n))
+    byte (suc i) = refl
 
-pub putting-none : (d : List ℕ) (at number : ℕ) → at + 8 ≤ length d → Putting d at number d number 0
-putting-none d at number l =
-    let e : at + 0 ≡ at = omega arith in
-    let room : at + length (low_first 8 number) ≤ length d = omega (arith, length-low 8 number) in
-    record { few = omega arith; emitted = rw e (emitted-none d at (low_first 8 number) room) }
-
-module _ {d : List ℕ} {at number : ℕ} {out : List ℕ} {rest i : ℕ} (p : Putting d at number out rest i) where
-  pub putting-room : i < 8 → at + i < length out
-  putting-room l = omega (arith, emitted-room p.emitted, length-low (8 - i) rest)
-
-  pub putting-length : length out ≡ length d
-  putting-length = emitted-length p.emitted
-
-  pub putting-more : i < 8 → Putting d at number (set out (at + i) (rest % 256)) (rest / 256) (i + 1)
-  unfolding low_first
-  putting-more l =
-      let left : 8 - i ≡ suc (8 - (i + 1)) = omega arith in
-      let next : low_first (8 - i) rest ≡ (rest % 256 ∷ []) ++ low_first (8 - (i + 1)) (rest / 256) = rw left in
-      let place : at + (i + 1) ≡ at + i + 1 = omega arith in
-      record {
-        few = omega arith;
-        emitted =
-            emitted-more p.emitted (rest % 256 ∷ []) (low_first (8 - (i + 1)) (rest / 256)) next
-            (over-set out (at + i) (rest % 256) (putting-room l)) place;
-      }
-
-  pub putting-end : 8 ≤ i → out ≡ over d at (low_first 8 number)
-  unfolding low_first
-  putting-end l = let none : 8 - i ≡ 0 = omega arith in emitted-end p.emitted (ap (λ (k : ℕ). low_first k rest) none)
+-- one number put
+pub number-put : (d : List ℕ) (at number : ℕ) (ys : List ℕ) → ys ≡ to_le_bytes w64 number
+    → put_mid at (at + 8 - at) d ys ≡ over d at (low_first 8 number)
+unfolding over
+number-put d at number ys e =
+    let low : ys ≡ low_first 8 number =
+    e ∙ low-bytes 8 0 number ∙ ap (low_first 8) (ap (λ (x : ℕ). number / x) (pow-zero 256) ∙ div-one number) in
+    let eight : at + 8 - at ≡ 8 = omega arith in
+    ap (λ (k : ℕ). put_mid at k d ys) eight
+    ∙ ap₂ (λ (a b : List ℕ). take at d ++ (a ++ b)) low (drop-drop 8 at d ∙ ap (λ (k : ℕ). drop (at + k) d) (sym (length-low 8 number)))
 
 -- bytes put right after the first ones
 put-behind :

@@ -13,7 +13,8 @@ use Rattle.text.proofs.Outcomes.{told-met, told-refused}
 use Rattle.text.proofs.Patterns.{pattern-after, pattern-refused, pattern-sound, sound-pattern}
 use Rattle.layout.specs.Bytes.{over}
 use Rattle.layout.specs.Reading.{stretch_of}
-use Rattle.stretch.specs.Answers.{Sum, checking}
+use Rattle.stretch.specs.Answers.{checking}
+use Rattle.stretch.specs.declared.checking.Sum.{Sum}
 use Rattle.layout.specs.Bytes.{left_by}
 use Rattle.search.specs.Answers.{entering, into, searching, seeking}
 use Rattle.search.proofs.Entries.{entering-after}

@@ -6,81 +6,108 @@
 #![tactic(auto)]
 
 mod about;
-mod ending;
 mod faults;
-mod handing;
-mod hits;
-mod named;
-mod stretches;
+mod listed;
+mod screening;
 mod tell;
-mod whole;
 
-use files::{Read, WORD, count_words, read_file};
-use named::screen_files;
-use tell::say;
-use text::compare::same;
-use text::part;
-use whole::screen_text;
+use desk_night::{Night, Trouble};
+use files::{Told, WORD, count_words, read_file, word};
+use screening::{Named, Screening};
+use tell::{tell_named, tell_verdict};
 
 // The most bytes of a list.
 const MOST_BYTES: usize = 65536;
 
 // Whether a word of the command line is this one.
-fn is_word(rt: &HostRuntime, at: usize, wanted: &[u8]) -> bool {
-    let mut word = [0u8; WORD];
-    let n = files::word(rt, at, &mut word);
-    same(&word[..n], wanted)
+fn is_word(rt: &HostRuntime, number: usize, wanted: &[u8]) -> bool {
+    let mut path = [0u8; WORD];
+    word(rt, number, &mut path) == wanted
 }
 
-// The word of the command line that names the list: the second, or the one after `--first`.
-fn list_word(rt: &HostRuntime) -> usize {
-    if is_word(rt, 1, b"--first") {
-        return 2;
+// Screens the text whose manifest this word of the command line names. One that cannot be read is held.
+fn screen_text<'a>(
+    rt: &'a HostRuntime,
+    list: &'a [u8],
+    first: bool,
+    number: usize,
+) -> Result<(), Told> {
+    let mut path = [0u8; WORD];
+    let path = word(rt, number, &mut path);
+    let mut text = manifest::room();
+    let read = read_file(rt, path, &mut text).and_then(|text| {
+        text.ok_or_else(|| {
+            files::tell(
+                rt,
+                path,
+                "it has more than 524,288 bytes, and no manifest has",
+            )
+        })
+    });
+    let Ok(text) = read else {
+        tell_named(rt, b"unread ", path);
+        tell_verdict(rt, Err(Trouble::Unread));
+        return Err(Told);
+    };
+    let night = Night::begin(list, text, first);
+    let mut screening = Screening {
+        rt,
+        list,
+        text,
+        named: Named::Listed(path),
+        night,
+    };
+    screening.run(manifest::check(text).unwrap_or(0))
+}
+
+// Screens the files that the command line names from this word on.
+fn screen_files<'a>(
+    rt: &'a HostRuntime,
+    list: &'a [u8],
+    first: bool,
+    number: usize,
+) -> Result<(), Told> {
+    let mut screening = Screening {
+        rt,
+        list,
+        text: b"",
+        named: Named::Words(number),
+        night: Night::begin_files(list, first),
+    };
+    screening.run(count_words(rt).saturating_sub(number))
+}
+
+// Reads the list that this word names, and screens what the command line names after it.
+fn screen(rt: &HostRuntime, first: bool, number: usize) -> Result<(), Told> {
+    let mut path = [0u8; WORD];
+    let mut bytes = [0u8; MOST_BYTES];
+    let Some(list) = read_file(rt, word(rt, number, &mut path), &mut bytes)? else {
+        let _ = eprintln!(rt; "the list has more than 65536 bytes");
+        return Err(Told);
+    };
+    let next = number.saturating_add(1);
+    if is_word(rt, next, b"--files") {
+        screen_files(rt, list, first, next.saturating_add(1))
+    } else {
+        screen_text(rt, list, first, next)
     }
-    1
 }
 
 // Whether the words after the list's are the manifest alone, or `--files` and one file at least.
-fn is_asked(rt: &HostRuntime, next: usize, words: usize) -> bool {
-    if is_word(rt, next, b"--files") {
-        return std::num::wrapping_add_usize(next, 1) < words;
-    }
-    std::num::wrapping_add_usize(next, 1) == words
-}
-
-// Screens what the command line names after the list's word for the sequences of this list.
-fn screen_for(rt: &HostRuntime, list: &[u8], word: usize) {
-    let next = std::num::wrapping_add_usize(word, 1);
-    let first = word == 2;
-    if is_word(rt, next, b"--files") {
-        screen_files(rt, list, first, std::num::wrapping_add_usize(next, 1));
-    } else {
-        screen_text(rt, list, first, next);
-    }
-}
-
-// Reads the list that this word names, and screens.
-fn screen_by(rt: &HostRuntime, word: usize) {
-    let mut bytes = [0u8; MOST_BYTES];
-    let mut name = [0u8; WORD];
-    let n = files::word(rt, word, &mut name);
-    match read_file(rt, &name[..n], &mut bytes) {
-        Read::Failed(_) => {}
-        Read::Full => {
-            say(rt, b"the list has more than 65536 bytes\n");
-        }
-        Read::Whole(count) => screen_for(rt, part(&bytes, 0, count), word),
-    }
+fn is_asked(rt: &HostRuntime, next: usize) -> bool {
+    let more = count_words(rt).saturating_sub(next);
+    more == 1 && !is_word(rt, next, b"--files") || 1 < more && is_word(rt, next, b"--files")
 }
 
 fn main(rt: HostRuntime) {
-    let word = list_word(&rt);
-    if !is_asked(&rt, std::num::wrapping_add_usize(word, 1), count_words(&rt)) {
-        say(
-            &rt,
-            b"usage: desk [--first] LIST TEXT or desk [--first] LIST --files FILE...\n",
+    let first = is_word(&rt, 1, b"--first");
+    let number = if first { 2 } else { 1 };
+    if is_asked(&rt, number + 1) {
+        // What failed has been said, and the script reads the verdict off the last line.
+        let _ = screen(&rt, first, number);
+    } else {
+        let _ = eprintln!(rt;
+            "usage: desk [--first] LIST TEXT or desk [--first] LIST --files FILE..."
         );
-        return;
     }
-    screen_by(&rt, word);
 }

@@ -1,8 +1,8 @@
 // What is written: lines on standard output, those that decide on descriptor 3 too, and words and progress on standard error.
-use desk_night::{Verdict, put_verdict};
+use desk_night::{Trouble, Verdict, put_verdict};
 use desk_verdict::said::{put_done, put_hit, put_named, put_refused, put_standing};
 use desk_verdict::{Standing, next_marked};
-use files::{given_to_append, write_all};
+use files::{Told, given_to_append, say, write_all};
 use text::{Refusal, part};
 
 // Room for a line with a file's name, the longest of which has 4,096 bytes.
@@ -11,47 +11,53 @@ const LINE: usize = 4352;
 // The descriptor that the lines go to that decide.
 const DECIDED: u32 = 3;
 
-// Words on standard error.
-pub fn say(rt: &HostRuntime, words: &[u8]) {
-    files::say(rt, words);
-}
-
-// Lines that decide nothing by themselves. Whether they are written.
-pub fn print(rt: &HostRuntime, lines: &[u8]) -> bool {
-    if write_all(&mut rt.stdout(), lines) {
-        return true;
-    }
-    say(rt, b"desk: standard output could not be written\n");
-    false
+// Lines that decide nothing by themselves.
+pub fn print(rt: &HostRuntime, lines: &[u8]) -> Result<(), Told> {
+    write_all(&mut rt.stdout(), lines).map_err(|_| {
+        let _ = eprintln!(rt; "desk: standard output could not be written");
+        Told
+    })
 }
 
 // A line that decides: once it is written, on descriptor 3 as well, if the caller opened it.
 fn decide(rt: &HostRuntime, line: &[u8]) {
-    if print(rt, line) {
-        if let Ok(file) = given_to_append(rt, DECIDED) {
-            let mut file = file;
-            write_all(&mut file, line);
+    if print(rt, line).is_ok() {
+        if let Ok(mut file) = given_to_append(rt, DECIDED) {
+            let _ = write_all(&mut file, line);
         }
     }
 }
 
-// One segment in which a sequence ends. Whether it is written.
-pub fn tell_hit(rt: &HostRuntime, label: u64, before: u64, segment: u64, name: &[u8]) -> bool {
+// One segment in which a sequence ends.
+pub fn tell_hit(
+    rt: &HostRuntime,
+    label: u64,
+    before: u64,
+    segment: u64,
+    name: &[u8],
+) -> Result<(), Told> {
     let mut out = [0u8; LINE];
     let n = put_hit(label, before, segment, name, &mut out);
     print(rt, &out[..n])
 }
 
-// Each marked segment of a file. Whether all is written.
-pub fn tell_hits(rt: &HostRuntime, label: u64, before: u64, name: &[u8], marks: &[u8]) -> bool {
-    let mut j = next_marked(marks, 0);
-    while j < marks.len() {
-        if !tell_hit(rt, label, before, j as u64, name) {
-            return false;
-        }
-        j = next_marked(marks, j + 1);
+// Each marked segment of a file.
+pub fn tell_hits(
+    rt: &HostRuntime,
+    label: u64,
+    before: u64,
+    name: &[u8],
+    marks: &[u8],
+) -> Result<(), Told> {
+    let mut from = 0;
+    for _ in 0..marks.len() {
+        let Some(segment) = next_marked(marks, from) else {
+            break;
+        };
+        tell_hit(rt, label, before, segment as u64, name)?;
+        from = segment.saturating_add(1);
     }
-    true
+    Ok(())
 }
 
 // A word that decides, and the file that it is about.
@@ -68,31 +74,26 @@ pub fn tell_refused(rt: &HostRuntime, wrong: Refusal, name: &[u8]) {
     decide(rt, &out[..n]);
 }
 
-// Where a sequence stands after the whole text. Whether it is written.
-pub fn tell_standing(rt: &HostRuntime, label: u64, standing: Standing) -> bool {
+// Where a sequence stands after the whole text.
+pub fn tell_standing(rt: &HostRuntime, label: u64, standing: Standing) -> Result<(), Told> {
     let mut out = [0u8; 128];
     let n = put_standing(label, standing, &mut out);
     print(rt, &out[..n])
 }
 
 // Whether the text may go out.
-pub fn tell_verdict(rt: &HostRuntime, verdict: Verdict) {
+pub fn tell_verdict(rt: &HostRuntime, verdict: Result<Verdict, Trouble>) {
     let mut out = [0u8; 8];
     let n = put_verdict(verdict, &mut out);
     decide(rt, &out[..n]);
 }
 
-// That many stretches of all are done.
-fn say_done(rt: &HostRuntime, done: usize, all: usize) {
-    let mut out = [0u8; 64];
-    let n = put_done(done as u64, all as u64, &mut out);
-    say(rt, &out[..n]);
-}
-
-// Progress: some twenty times in all, and at the last.
+// Progress: that many stretches of all are done, some twenty times in all, and at the last.
 pub fn tell_done(rt: &HostRuntime, done: usize, all: usize, last: bool) {
     let step = all / 20 + 1;
     if last || done == all || done % step == 0 {
-        say_done(rt, done, all);
+        let mut out = [0u8; 64];
+        let n = put_done(done as u64, all as u64, &mut out);
+        say(rt, &out[..n]);
     }
 }

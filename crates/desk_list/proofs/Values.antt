@@ -1,13 +1,13 @@
 -- Laws of decimal numbers, digit by digit.
-use Prim.Native.Nat.{ℕ, suc, ◌+◌, ◌-◌, ◌*◌, ◌/◌, ◌%◌, ◌^◌, ◌≤◌, ◌<◌}
+use Prim.Native.Nat.{ℕ, suc, ◌+◌, ◌*◌, ◌%◌, ◌^◌, ◌≤◌, ◌<◌}
 use native.Mathlib.Omega.{arith}
-use mathlib.Core.Path.{◌≡◌, refl, sym, ap, ◌∙◌}
+use mathlib.Core.Path.{◌≡◌, refl, ap, ◌∙◌}
 use mathlib.Core.List.{List, [], ◌∷◌}
 use borrow.Author.Tests.{lt-ltb, le-ltb}
 use lib.ListN.{length, get_or, drop, drop_of_length-le}
 use lib.Seq.{drop-cons}
 use Rattle.desk_list.specs.Number.{value, number_of}
-use Rattle.desk_list.specs.declared.decimal.Number.TheVariants.{Is, Large}
+use Rattle.std.proofs.Common.{Some, None}
 
 value_grows : (n : ℕ) (ds : List ℕ) → n ≤ value n ds
 unfolding value
@@ -27,25 +27,18 @@ pub record Telling (ds : List ℕ) (n i : ℕ) : Type 0 where
 pub telling-none : (ds : List ℕ) → Telling ds 0 0
 telling-none ds = record { upto = omega arith; same = refl; small = omega arith }
 
-module _ {ds : List ℕ} {n i : ℕ} (t : Telling ds n i) {d : ℕ} (is : d ≡ get_or ds i 0 % 16) (l : i < length ds) where
-  pub telling-large : (2 ^ 64 - 1 - d) / 10 < n → d < 16 → Large ≡ number_of ds
+module _ {ds : List ℕ} {n i : ℕ} (t : Telling ds n i) (l : i < length ds) where
+  pub telling-large : 2 ^ 64 ≤ n * 10 + get_or ds i 0 % 16 → None ≡ number_of ds
   unfolding number_of
-  telling-large h low =
-      let over : 2 ^ 64 ≤ n * 10 + d = omega arith in
-      let next : value 0 ds ≡ value (n * 10 + d) (drop (i + 1) ds) =
-      t.same ∙ value-step n ds i l ∙ ap (λ (x : ℕ). value (n * 10 + x) (drop (i + 1) ds)) (sym is) in
-      let far : 2 ^ 64 ≤ value 0 ds = omega (arith, next, value_grows (n * 10 + d) (drop (i + 1) ds)) in
+  telling-large h =
+      let k : ℕ = n * 10 + get_or ds i 0 % 16 in
+      let far : 2 ^ 64 ≤ value 0 ds = omega (arith, t.same ∙ value-step n ds i l, value_grows k (drop (i + 1) ds)) in
       rw (le-ltb (value 0 ds) (2 ^ 64) far) refl
 
-  pub telling-more : n ≤ (2 ^ 64 - 1 - d) / 10 → d < 16 → Telling ds (n * 10 + d) (i + 1)
-  telling-more h low =
-      record {
-        upto = omega arith;
-        same = t.same ∙ value-step n ds i l ∙ ap (λ (x : ℕ). value (n * 10 + x) (drop (i + 1) ds)) (sym is);
-        small = omega arith;
-      }
+  pub telling-more : {m : ℕ} → m ≡ n * 10 + get_or ds i 0 % 16 → m < 2 ^ 64 → Telling ds m (i + 1)
+  telling-more {m} e h = record { upto = omega arith; same = rw e (t.same ∙ value-step n ds i l); small = h }
 
-pub telling-end : {ds : List ℕ} {n i : ℕ} → Telling ds n i → length ds ≤ i → Is n ≡ number_of ds
+pub telling-end : {ds : List ℕ} {n i : ℕ} → Telling ds n i → length ds ≤ i → Some n ≡ number_of ds
 unfolding number_of value
 telling-end {ds} {n} {i} t l =
     let all : value 0 ds ≡ n = t.same ∙ ap (value n) (drop_of_length-le ds l) in

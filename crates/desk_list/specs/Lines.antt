@@ -1,23 +1,19 @@
 -- All lines of a list, its sequences, and what is said of it as a whole.
-use Rattle.std.specs.Prelude.{ℕ, zero, suc, ◌-◌, Bool, true, false, cond, List, [], ◌∷◌, eqb, ltb, length}
+use Rattle.std.specs.Prelude.{ℕ, zero, suc, ◌-◌, Bool, ◌||◌, true, false, cond, List, [], ◌∷◌, eqb, ltb, length, Option, Some, None, Result, Ok, Err}
 use Rattle.text.specs.Compare.{from_to}
-use Rattle.desk_list.specs.Line.{line_of}
+use Rattle.desk_list.specs.Line.{Said, line_of}
 use Rattle.desk_list.specs.declared.reading.Line.{Line}
-use Rattle.desk_list.specs.declared.checking.Checked.{Checked}
+use Rattle.desk_list.specs.declared.checking.Unsound.{Unsound}
 
 -- where the next line begins
-abbrev pub next_of : Line → ℕ
-next_of (Line.Nothing next) = next
-next_of (Line.Withheld label start end next) = next
-next_of (Line.Wrong fault next) = next
-next_of Line.End = 0
+abbrev pub next_of : Option Line → ℕ
+next_of (Some line) = line.next
+next_of None = 0
 
 -- a line and those after it; none at the end of the list
-abbrev pub then_lines : Line → List Line → List Line
-then_lines (Line.Nothing next) rest = Line.Nothing next ∷ rest
-then_lines (Line.Withheld label start end next) rest = Line.Withheld label start end next ∷ rest
-then_lines (Line.Wrong fault next) rest = Line.Wrong fault next ∷ rest
-then_lines Line.End rest = []
+abbrev pub then_lines : Option Line → List Line → List Line
+then_lines (Some line) rest = line ∷ rest
+then_lines None rest = []
 
 -- the lines of a list from a place on, k at most
 unfoldable pub lines_from : ℕ → List ℕ → ℕ → List Line
@@ -37,34 +33,38 @@ pub record Sequence : Type 0 where
   pub label : ℕ
   pub bases : List ℕ
 
+-- the sequence that a line says, if it says one, and those after it
+abbrev pub then_sequences : List ℕ → Said → List Sequence → List Sequence
+then_sequences s (Ok (Some w)) rest = record { label = w.label; bases = from_to s w.start w.end } ∷ rest
+then_sequences s (Ok None) rest = rest
+then_sequences s (Err fault) rest = rest
+
 -- the sequences of lines of a list, in order
 unfoldable pub sequences_in : List ℕ → List Line → List Sequence
 sequences_in s [] = []
-sequences_in s (Line.Nothing next ∷ ls) = sequences_in s ls
-sequences_in s (Line.Withheld label start end next ∷ ls) = record { label = label; bases = from_to s start end } ∷ sequences_in s ls
-sequences_in s (Line.Wrong fault next ∷ ls) = sequences_in s ls
-sequences_in s (Line.End ∷ ls) = sequences_in s ls
+sequences_in s (line ∷ ls) = then_sequences s line.said (sequences_in s ls)
 
 -- the sequences of a list, in order
 unfoldable pub sequences_of : List ℕ → List Sequence
 sequences_of s = sequences_in s (lines_of s)
 
--- one of the lines is wrong
+-- a line is wrong, and one of the lines is
+abbrev pub is_wrong : Said → Bool
+is_wrong (Ok said) = false
+is_wrong (Err fault) = true
+
 unfoldable pub wrong_in : List Line → Bool
 wrong_in [] = false
-wrong_in (Line.Nothing next ∷ ls) = wrong_in ls
-wrong_in (Line.Withheld label start end next ∷ ls) = wrong_in ls
-wrong_in (Line.Wrong fault next ∷ ls) = true
-wrong_in (Line.End ∷ ls) = wrong_in ls
+wrong_in (line ∷ ls) = is_wrong line.said || wrong_in ls
 
 -- the most sequences of a list
 abbrev pub most : ℕ
 most = 32
 
 -- a list with right lines and n sequences
-unfoldable pub counted : ℕ → Checked
-counted n = cond (eqb n 0) Checked.Empty (cond (ltb most n) Checked.Many (Checked.Sound n))
+unfoldable pub counted : ℕ → Result ℕ Unsound
+counted n = cond (eqb n 0) (Err Unsound.Empty) (cond (ltb most n) (Err Unsound.Many) (Ok n))
 
 -- what is said of a list
-unfoldable pub checked_of : List ℕ → Checked
-checked_of s = cond (wrong_in (lines_of s)) Checked.Wrong (counted (length (sequences_of s)))
+unfoldable pub checked_of : List ℕ → Result ℕ Unsound
+checked_of s = cond (wrong_in (lines_of s)) (Err Unsound.Wrong) (counted (length (sequences_of s)))

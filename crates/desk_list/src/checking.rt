@@ -2,55 +2,46 @@
 ghost use Rattle.std.specs.Prelude.{◌≡◌};
 ghost use Rattle.desk_list.specs.Lines.{counted, checked_of};
 
-use crate::reading::{Line, line_at};
+use crate::reading::line_at;
 
 // The most sequences of a list.
 pub const MOST: usize = 32;
 
-// A sound list with the number of its sequences, 1 to 32; a wrong line; no sequence; more than 32.
+// What is wrong with a list: a line; it has no sequence; or it has more than 32.
 #[derive(Clone, Copy)]
-pub enum Checked {
-    Sound(usize),
+pub enum Unsound {
     Wrong,
     Empty,
     Many,
 }
 
 // What is said of a list with right lines and that many sequences.
-fn counted(count: usize) -> Checked
+#[tactic(auto, unfolding(crate::specs::Lines::counted))]
+fn counted(count: usize) -> Result<usize, Unsound>
     ensures { result ≡ counted count }
 {
     if count == 0 {
-        return Checked::Empty;
+        return Err(Unsound::Empty);
     }
     if MOST < count {
-        return Checked::Many;
+        return Err(Unsound::Many);
     }
-    Checked::Sound(count)
+    Ok(count)
 }
 
-// Whether every line of a list is right, and there are 1 to 32 sequences.
-pub fn check(list: &[u8]) -> Checked
+// The number of the sequences of a list, 1 to 32, if every line of it is right.
+pub fn check(list: &[u8]) -> Result<usize, Unsound>
     ensures { result ≡ checked_of list.now }
 {
     let mut at = 0;
     let mut count = 0;
-    loop {
-        match line_at(list, at) {
-            Line::Nothing { next } => {
-                at = next;
-            }
-            Line::Withheld {
-                label: _,
-                start: _,
-                end: _,
-                next,
-            } => {
-                at = next;
-                count += 1;
-            }
-            Line::Wrong { fault: _, next: _ } => return Checked::Wrong,
-            Line::End => return counted(count),
+    while let Some(line) = line_at(list, at) {
+        match line.said {
+            Ok(Some(_)) => count += 1,
+            Ok(None) => {}
+            Err(_) => return Err(Unsound::Wrong),
         }
+        at = line.next;
     }
+    counted(count)
 }

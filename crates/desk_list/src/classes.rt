@@ -1,54 +1,55 @@
 // Kinds of bytes in the text of a list, and the place where bytes of a kind end.
-ghost use Rattle.std.specs.Prelude.{◌≡◌, ◌≤◌, max, length};
-ghost use Rattle.desk_list.specs.Kinds.{of, past};
+ghost use Rattle.std.specs.Prelude.{◌≡◌, ◌≤◌, ◌<◌, ℕ, Bool, max, length};
+ghost use Rattle.desk_list.specs.Kinds.{plain, blank, digit, word, in_line, past};
 
-// Blanks part a label from its sequence: space and tab. A word is whatever is no blank and begins no comment. Plain bytes are those that
-// a reader of the list sees: printable ASCII and tab. A line is made of all but the line feed.
-#[derive(Clone, Copy)]
-pub enum Kind {
-    Plain,
-    Blank,
-    Digit,
-    Word,
-    InLine,
+// Plain bytes are those that a reader of the list sees: printable ASCII and tab.
+#[tactic(auto, unfolding(crate::specs::Kinds::plain))]
+pub fn is_plain(byte: u8) -> bool
+    ensures { result ≡ plain byte }
+{
+    matches!(byte, b'\t' | b' '..=b'~')
 }
 
-// Whether a byte is of a kind.
-fn is_kind(kind: Kind, byte: u8) -> bool
-    ensures { result ≡ of kind byte }
+// Blanks part a label from its sequence: space and tab.
+pub fn is_blank(byte: u8) -> bool
+    ensures { result ≡ blank byte }
 {
-    match kind {
-        Kind::Plain => match byte {
-            9 | 32..=126 => true,
-            _ => false,
-        },
-        Kind::Blank => match byte {
-            9 | 32 => true,
-            _ => false,
-        },
-        Kind::Digit => match byte {
-            48..=57 => true,
-            _ => false,
-        },
-        Kind::Word => match byte {
-            9 | 32 | 35 => false,
-            _ => true,
-        },
-        Kind::InLine => byte != 10,
-    }
+    matches!(byte, b'\t' | b' ')
+}
+
+#[tactic(auto, unfolding(crate::specs::Kinds::digit))]
+pub fn is_digit(byte: u8) -> bool
+    ensures { result ≡ digit byte }
+{
+    byte.is_ascii_digit()
+}
+
+// A word is whatever is no blank and begins no comment.
+#[tactic(auto, unfolding(crate::specs::Kinds::word))]
+pub fn is_word(byte: u8) -> bool
+    ensures { result ≡ word byte }
+{
+    !matches!(byte, b'\t' | b' ' | b'#')
+}
+
+// A line is made of all but the line feed.
+#[tactic(auto, unfolding(crate::specs::Kinds::in_line))]
+pub fn is_in_line(byte: u8) -> bool
+    ensures { result ≡ in_line byte }
+{
+    byte != b'\n'
 }
 
 // The first place from `from` on whose byte is not of a kind; the end where there is none.
-pub fn past(kind: Kind, text: &[u8], from: usize) -> usize
-    ensures value { result ≡ past kind text.now from }
+pub fn past<F: Fn(u8) -> bool>(is: F, text: &[u8], from: usize) -> usize
+    requires { F.IsAlwaysCallable is }
+    ensures value { (kind : ℕ → Bool) → ((c : ℕ) (b : Bool) → c < 256 → F.post is c b → b ≡ kind c) → result ≡ past kind text.now from }
     ensures lower_bound { (from ≤ result) × (result ≤ max from (length text.now)) }
 {
-    let mut i = from;
-    while i < text.len() {
-        if !is_kind(kind, text[i]) {
+    for i in from..text.len() {
+        if !is(text[i]) {
             return i;
         }
-        i += 1;
     }
-    i
+    from.max(text.len())
 }

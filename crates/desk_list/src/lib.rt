@@ -9,6 +9,6 @@ mod classes;
 mod decimal;
 mod reading;
 
-pub use checking::{Checked, MOST, check};
-pub use decimal::{Number, told};
-pub use reading::{Fault, Line, line_at};
+pub use checking::{MOST, Unsound, check};
+pub use decimal::told;
+pub use reading::{Fault, Line, Withheld, line_at};

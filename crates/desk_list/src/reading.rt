@@ -1,11 +1,12 @@
 // The lines of a list.
 ghost use Rattle.std.specs.Prelude.{◌≡◌, ◌≤◌, length};
+ghost use Rattle.desk_list.specs.declared.reading.Fault.TheVariants.{Sequence};
 ghost use Rattle.desk_list.specs.Line.{ends_at, sequence_of, words_of, entry_of, close_of, behind, line_of, Inside, Onward};
 
-use crate::classes::{Kind, past};
-use crate::decimal::{Number, told};
+use crate::classes::{is_blank, is_digit, is_in_line, is_plain, is_word, past};
+use crate::decimal::told;
+use text::Refusal;
 use text::pattern::check;
-use text::{Refusal, Verdict};
 
 // What is wrong with a line.
 #[derive(Clone, Copy)]
@@ -24,38 +25,31 @@ pub enum Fault {
     More,
 }
 
-// What a line says: nothing; or a label and where its sequence stands.
-#[derive(Clone, Copy)]
-pub enum Entry {
-    Nothing,
-    Withheld {
-        label: u64,
-        start: usize,
-        end: usize,
-    },
-    Wrong(Fault),
+impl From<Refusal> for Fault {
+    ghost from_gives = { λ refusal fault. fault ≡ Sequence refusal };
+
+    fn from(refusal: Refusal) -> Fault {
+        Fault::Sequence(refusal)
+    }
 }
 
-// A line of a list, and where the next one begins, if this one is right or wrong; or the end of the list.
+// A withheld sequence: its label, and where it stands.
 #[derive(Clone, Copy)]
-pub enum Line {
-    Nothing {
-        next: usize,
-    },
-    Withheld {
-        label: u64,
-        start: usize,
-        end: usize,
-        next: usize,
-    },
-    Wrong {
-        fault: Fault,
-        next: usize,
-    },
-    End,
+pub struct Withheld {
+    pub label: u64,
+    pub start: usize,
+    pub end: usize,
+}
+
+// A line of a list: the sequence that it says, if it says one, or what is wrong with it; and where the next line begins.
+#[derive(Clone, Copy)]
+pub struct Line {
+    pub said: Result<Option<Withheld>, Fault>,
+    pub next: usize,
 }
 
 // Whether nothing stands from a place on: a line ends there, or a comment begins.
+#[tactic(auto, unfolding(crate::specs::Line::ends_at))]
 fn ends_at(line: &[u8], at: usize) -> bool
     ensures { result ≡ ends_at line.now at }
 {
@@ -66,58 +60,55 @@ fn ends_at(line: &[u8], at: usize) -> bool
 }
 
 // The sequence from `start` on, after its label.
-fn sequence(line: &[u8], label: u64, start: usize) -> Entry
+fn sequence(line: &[u8], label: u64, start: usize) -> Result<Option<Withheld>, Fault>
     requires { start ≤ length line.now }
     ensures { (result ≡ sequence_of line.now label start) × Inside (length line.now) result }
 {
-    let end = past(Kind::Word, line, start);
-    if let Verdict::Refused(refused) = check(&line[start..end]) {
-        return Entry::Wrong(Fault::Sequence(refused));
-    }
-    let rest = past(Kind::Blank, line, end);
+    let end = past(is_word, line, start);
+    check(&line[start..end])?;
+    let rest = past(is_blank, line, end);
     if !ends_at(line, rest) {
-        return Entry::Wrong(Fault::More);
+        return Err(Fault::More);
     }
-    Entry::Withheld { label, start, end }
+    Ok(Some(Withheld { label, start, end }))
 }
 
 // What a line of plain bytes says.
-fn words(line: &[u8]) -> Entry
+fn words(line: &[u8]) -> Result<Option<Withheld>, Fault>
     ensures { (result ≡ words_of line.now) × Inside (length line.now) result }
 {
-    let first = past(Kind::Blank, line, 0);
+    let first = past(is_blank, line, 0);
     if ends_at(line, first) {
-        return Entry::Nothing;
+        return Ok(None);
     }
-    let digits = past(Kind::Digit, line, first);
+    let digits = past(is_digit, line, first);
     if digits == first {
-        return Entry::Wrong(Fault::NoLabel);
+        return Err(Fault::NoLabel);
     }
-    let Number::Is(label) = told(&line[first..digits]) else {
-        return Entry::Wrong(Fault::LargeLabel);
-    };
-    let start = past(Kind::Blank, line, digits);
+    let label = told(&line[first..digits]).ok_or(Fault::LargeLabel)?;
+    let start = past(is_blank, line, digits);
     if start == digits {
-        return Entry::Wrong(Fault::NoSequence);
+        return Err(Fault::NoSequence);
     }
     if ends_at(line, start) {
-        return Entry::Wrong(Fault::NoSequence);
+        return Err(Fault::NoSequence);
     }
     sequence(line, label, start)
 }
 
 // What a line says, without its end. A byte that is not plain is wrong wherever it stands, in a comment too: it may look like another.
-fn content(line: &[u8]) -> Entry
+fn content(line: &[u8]) -> Result<Option<Withheld>, Fault>
     ensures { (result ≡ entry_of line.now) × Inside (length line.now) result }
 {
-    let plain = past(Kind::Plain, line, 0);
+    let plain = past(is_plain, line, 0);
     if plain < line.len() {
-        return Entry::Wrong(Fault::Byte(plain));
+        return Err(Fault::Byte(plain));
     }
     words(line)
 }
 
 // Where the content of a line ends that begins at `at` and stops at `stop`: before the carriage return of its end, if it has one.
+#[tactic(auto, unfolding(crate::specs::Line::close_of))]
 fn close(list: &[u8], at: usize, stop: usize) -> usize
     ensures { result ≡ close_of list.now at stop }
 {
@@ -134,6 +125,7 @@ fn close(list: &[u8], at: usize, stop: usize) -> usize
 }
 
 // Where the line after one that stops at `stop` begins: there is a line's end at most.
+#[tactic(auto, unfolding(crate::specs::Line::behind))]
 fn behind(list: &[u8], stop: usize) -> usize
     ensures { result ≡ behind list.now stop }
 {
@@ -143,25 +135,25 @@ fn behind(list: &[u8], stop: usize) -> usize
     stop
 }
 
-// The line that begins at a place of a list.
-pub fn line_at(list: &[u8], at: usize) -> Line
+// The line that begins at a place of a list; none at its end.
+pub fn line_at(list: &[u8], at: usize) -> Option<Line>
     ensures value { result ≡ line_of list.now at }
     ensures onward { Onward at (length list.now) result }
 {
     if list.len() <= at {
-        return Line::End;
+        return None;
     }
-    let stop = past(Kind::InLine, list, at);
+    let stop = past(is_in_line, list, at);
     let next = behind(list, stop);
     let end = close(list, at, stop);
-    match content(&list[at..end]) {
-        Entry::Nothing => Line::Nothing { next },
-        Entry::Withheld { label, start, end } => Line::Withheld {
-            label,
-            start: at + start,
-            end: at + end,
-            next,
-        },
-        Entry::Wrong(fault) => Line::Wrong { fault, next },
-    }
+    let said = match content(&list[at..end]) {
+        Ok(Some(withheld)) => Ok(Some(Withheld {
+            label: withheld.label,
+            start: at + withheld.start,
+            end: at + withheld.end,
+        })),
+        Ok(None) => Ok(None),
+        Err(fault) => Err(fault),
+    };
+    Some(Line { said, next })
 }

@@ -1,44 +1,19 @@
 -- Laws of the standings of the sequences of a list, asked together.
-use Prim.Native.Nat.{ℕ, zero, suc, ◌+◌, ◌≤◌, ◌<◌, min}
+use Prim.Native.Nat.{ℕ, zero, suc, ◌+◌, ◌≤◌, ◌<◌}
 use native.Mathlib.Omega.{arith}
-use mathlib.Core.Path.{◌≡◌, refl, ap, ap₂, ◌∙◌}
+use mathlib.Core.Path.{◌≡◌, refl, sym, ap, ◌∙◌}
 use native.Mathlib.Decide.{dec_lt}
 use mathlib.Core.Logic.{by_cases}
 use mathlib.Core.Bool.{Bool, true, false, cond}
-use mathlib.Core.List.{List}
+use mathlib.Core.List.{List, []}
 use borrow.Author.Tests.{eq-eqb, ne_eqb, eqb-true, le-ltb, ltb-false}
-use lib.Dec.{eqb, ltb}
+use lib.Dec.{eqb}
+use lib.ListN.{length, take}
+use lib.Seq.{length-take-le, get_or-take}
+use Rattle.std.specs.Bool.{MatchBool}
+use Rattle.std.specs.List.{HoldsAt, AllWithin}
 use Rattle.desk_verdict.specs.declared.standing.Standing.{Standing}
 use Rattle.desk_night.specs.Standings.{standing_at, going_in, some_end, all_end}
-
--- the first k standings are counted
-pub record Counting (xs : List Standing) (n k sum : ℕ) : Type 0 where
-  pub near : k ≤ n
-  pub is : sum ≡ going_in k xs
-  pub few : sum ≤ k
-
-module _ (xs : List Standing) (n : ℕ) where
-  pub counting-none : Counting xs n 0 0
-  unfolding going_in
-  counting-none = record { near = omega arith; is = refl; few = omega arith }
-
-  module _ {k sum next : ℕ} (p : Counting xs n k sum) (l : k < n) where
-    pub counting-on : (standing_at xs k).ends ≡ 0 → next ≡ sum + 1 → Counting xs n (k + 1) next
-    unfolding going_in
-    counting-on e up =
-        let one : going_in (suc k) xs ≡ 1 + going_in k xs = rw (eq-eqb (standing_at xs k).ends 0 e) refl in
-        let is : going_in (k + 1) xs ≡ going_in (suc k) xs = ap (λ (j : ℕ). going_in j xs) (let z : k + 1 ≡ suc k = omega arith in z) in
-        record { near = omega (arith, l); is = omega (arith, p.is, one, is, up); few = omega (arith, p.few, up) }
-
-    pub counting-not : ((standing_at xs k).ends ≡ 0 → ⊥) → next ≡ sum → Counting xs n (k + 1) next
-    unfolding going_in
-    counting-not e same =
-        let none : going_in (suc k) xs ≡ 0 + going_in k xs = rw (ne_eqb (standing_at xs k).ends 0 e) refl in
-        let is : going_in (k + 1) xs ≡ going_in (suc k) xs = ap (λ (j : ℕ). going_in j xs) (let z : k + 1 ≡ suc k = omega arith in z) in
-        record { near = omega (arith, l); is = omega (arith, p.is, none, is, same); few = omega (arith, p.few, same) }
-
-  pub counting-all : {k sum : ℕ} → Counting xs n k sum → n ≤ k → sum ≡ going_in n xs
-  counting-all {k} p l = let all : k ≡ n = omega (arith, p.near, l) in p.is ∙ ap (λ (j : ℕ). going_in j xs) all
 
 -- no more go on than there are
 going-few : (n : ℕ) (xs : List Standing) → going_in n xs ≤ n
@@ -86,12 +61,61 @@ pub each-some : (n : ℕ) (xs : List Standing) → 0 < n → ((i : ℕ) → i < 
 unfolding all_end
 each-some n xs l h = ne_eqb (going_in n xs) 0 (λ e. let z : ⊥ = omega (arith, e, l, each-going n xs h) in z)
 
--- what the count of the first n says, n being what is asked for
-module _ (xs : List Standing) (count : ℕ) {n sum : ℕ} (least : n ≡ min count 32) (is : sum ≡ going_in n xs) where
-  pub some-counted : ltb sum n ≡ some_end (min count 32) xs
-  unfolding some_end
-  some-counted = ap₂ ltb (is ∙ ap (λ (m : ℕ). going_in m xs) least) least
+-- one that goes on is counted, and nothing is where each has ended
+going-some : (n : ℕ) (xs : List Standing) (i : ℕ) → i < n → (standing_at xs i).ends ≡ 0 → 0 < going_in n xs
+unfolding going_in
+going-some zero xs i l e = absurd (let z : ⊥ = omega (arith, l) in z)
+going-some (suc n) xs i l e =
+    by_cases (dec_lt i n)
+    (λ (k : i < n). let z : 0 < cond (eqb (standing_at xs n).ends 0) 1 0 + going_in n xs = omega (arith, going-some n xs i k e) in z)
+    (λ (k : i < n → ⊥).
+    let last : n ≡ i = omega arith in
+    let here : (standing_at xs n).ends ≡ 0 = ap (λ (j : ℕ). (standing_at xs j).ends) last ∙ e in
+    rw (eq-eqb (standing_at xs n).ends 0 here) (let z : 0 < 1 + going_in n xs = omega arith in z))
 
-  pub all-counted : eqb sum 0 ≡ all_end (min count 32) xs
+ended-none : (n : ℕ) (xs : List Standing) → ((i : ℕ) → i < n → (standing_at xs i).ends ≡ 0 → ⊥) → going_in n xs ≡ 0
+unfolding going_in
+ended-none zero xs h = refl
+ended-none (suc n) xs h =
+    rw (ne_eqb (standing_at xs n).ends 0 (h n (omega arith)), ended-none n xs (λ i l. h i (omega (arith, l)))) refl
+
+-- what a walk over the first n of them finds
+module _ (n : ℕ) (xs : List Standing) (room : n ≤ length xs) where
+  abbrev Going : Standing → Type 0
+  Going x = x.ends ≡ 0
+
+  abbrev Ended : Standing → Type 0
+  Ended x = x.ends ≡ 0 → ⊥
+
+  abbrev front : List Standing
+  front = take n xs
+
+  -- the first n are all of the front
+  long : length front ≡ n
+  long = length-take-le n xs room
+
+  at_front : (i : ℕ) → i < n → standing_at front i ≡ standing_at xs i
+  at_front i l = get_or-take n xs i _ l
+
+  pub any-ended : (r : Bool) → MatchBool r ((k : ℕ) × (k < length front) × HoldsAt Ended front k) (AllWithin Going front 0 (length front))
+      → r ≡ some_end n xs
+  any-ended true (k, l, ended) =
+      let inside : k < n = omega (arith, l, long) in
+      go (some_end n xs) refl (rw (at_front k inside) at (ended (standing_at [] 0)))
+    where
+      go : (b : Bool) → some_end n xs ≡ b → Ended (standing_at xs k) → true ≡ b
+      go true e h = refl
+      go false e h = absurd (h (none_each n xs e k (omega (arith, l, long))))
+  any-ended false none =
+      sym (each_none n xs λ i l. rw (at_front i l) at (none i (standing_at [] 0) (omega arith) (omega (arith, l, long))))
+
+  pub all-ended : (r : Bool) → MatchBool r (AllWithin Ended front 0 (length front)) ((k : ℕ) × (k < length front) × HoldsAt Going front k)
+      → r ≡ all_end n xs
   unfolding all_end
-  all-counted = ap (λ (m : ℕ). eqb m 0) (is ∙ ap (λ (m : ℕ). going_in m xs) least)
+  all-ended true each =
+      sym (eq-eqb (going_in n xs) 0
+      (ended-none n xs λ i l. rw (at_front i l) at (each i (standing_at [] 0) (omega arith) (omega (arith, l, long)))))
+  all-ended false (k, l, on) =
+      let inside : k < n = omega (arith, l, long) in
+      let some : 0 < going_in n xs = going-some n xs k inside (rw (at_front k inside) at (on (standing_at [] 0))) in
+      sym (ne_eqb (going_in n xs) 0 (λ e. let z : ⊥ = omega (arith, some, e) in z))

@@ -1,97 +1,87 @@
 -- When a night is clear, from what it has come to.
 use Prim.Native.Nat.{ℕ, min}
-use native.Mathlib.Omega.{arith}
-use mathlib.Core.Path.{◌≡◌, refl, sym}
-use mathlib.Core.Bool.{Bool, true, false, cond, ◌&&◌, true≢false}
+use mathlib.Core.Path.{◌≡◌, refl}
+use mathlib.Core.Bool.{Bool, true, false, cond, ◌&&◌}
 use mathlib.Core.List.{List}
-use Rattle.desk_list.specs.declared.checking.Checked.{Checked}
+use Rattle.std.proofs.Common.{Option, Some, None, Result, Ok, Err, is_some}
+use Rattle.std.specs.Option.{option_or}
+use Rattle.std.specs.Result.{result_and}
+use Rattle.desk_list.specs.declared.checking.Unsound.{Unsound}
 use Rattle.desk_list.specs.Lines.{most}
 use Rattle.manifest.specs.Check.{counts_stand}
-use Rattle.manifest.specs.declared.checking.Checked as Said
-use Rattle.desk_night.specs.Trouble.{calm}
+use Rattle.manifest.specs.declared.checking.Unsound as Text
 use Rattle.desk_night.specs.Standings.{some_end, all_end}
 use Rattle.desk_night.specs.Night.{list_trouble, is_over}
 use Rattle.desk_night.specs.TextTrouble.{text_trouble}
-use Rattle.desk_night.specs.Ending.{is_left, unvouched, found, ending}
+use Rattle.desk_night.specs.Ending.{is_left, vouched, found, unless_in, ending}
 use Rattle.desk_night.specs.declared.trouble.Trouble.{Trouble}
 use Rattle.desk_night.specs.declared.night.Night.{Night}
 use Rattle.desk_night.specs.declared.ending.Verdict.{Verdict}
 
 -- a list and a manifest with which there is no trouble
-pub list-calm : (c : Checked) → calm (list_trouble c) ≡ true → (n : ℕ) × (c ≡ Checked.Sound n)
-unfolding calm
-list-calm (Checked.Sound n) e = (n, refl)
-list-calm Checked.Wrong e = absurd (true≢false (sym e))
-list-calm Checked.Empty e = absurd (true≢false (sym e))
-list-calm Checked.Many e = absurd (true≢false (sym e))
+pub list-calm : (c : Result ℕ Unsound) → list_trouble c ≡ None → (n : ℕ) × (c ≡ Ok n)
+list-calm (Ok n) e = (n, refl)
+list-calm (Err unsound) e = absurd cc
 
-pub text-calm : (c : Said.Checked) → calm (text_trouble c) ≡ true → (n : ℕ) × (c ≡ Said.Checked.Sound n)
-unfolding calm
-text-calm (Said.Checked.Sound n) e = (n, refl)
-text-calm Said.Checked.Foreign e = absurd (true≢false (sym e))
-text-calm Said.Checked.Altered e = absurd (true≢false (sym e))
-text-calm Said.Checked.Wrong e = absurd (true≢false (sym e))
-text-calm Said.Checked.Empty e = absurd (true≢false (sym e))
+pub text-calm : (c : Result ℕ Text.Unsound) → text_trouble c ≡ None → (n : ℕ) × (c ≡ Ok n)
+text-calm (Ok n) e = (n, refl)
+text-calm (Err unsound) e = absurd cc
+
+-- the first of two troubles is none exactly if both are
+pub neither : (t u : Option Trouble) → option_or t u ≡ None → (t ≡ None) × (u ≡ None)
+neither None u e = (refl, e)
+neither (Some t) u e = absurd cc
 
 module _ (m : List ℕ) (x : Night) where
   -- what is asked of a night that is to be clear
   pub record Cleared : Type 0 where
-    pub quiet : calm x.trouble ≡ true
-    pub vouched : calm (unvouched m x) ≡ true
+    pub quiet : x.trouble ≡ None
+    pub own : vouched m x ≡ Ok tt
     pub none : some_end (min x.count most) x.standings ≡ false
 
-  not-held : Verdict.Held ≡ Verdict.Clear → ⊥
-  not-held e = let z : ◌≡◌ {A = ℕ} 0 1 = cc in omega arith
+  cleared_by : (t : Option Trouble) (b d : Bool) (v : Result (Unit {0}) Trouble) → x.trouble ≡ t → vouched m x ≡ v
+      → some_end (min x.count most) x.standings ≡ d
+      → unless_in t (cond b (Ok Verdict.Held) (result_and v (Ok (cond d Verdict.Held Verdict.Clear)))) ≡ Ok Verdict.Clear → Cleared
+  cleared_by (Some t) b d v f g h e = absurd cc
+  cleared_by None true d v f g h e = absurd cc
+  cleared_by None false d (Err t) f g h e = absurd cc
+  cleared_by None false true (Ok u) f g h e = absurd cc
+  cleared_by None false false (Ok tt) f g h e = record { quiet = f; own = g; none = h }
 
-  not-faulty : (t : Trouble) → Verdict.Faulty t ≡ Verdict.Clear → ⊥
-  not-faulty t e = let z : ◌≡◌ {A = ℕ} 0 1 = cc in omega arith
-
-  cleared_by : (a b c d : Bool) → calm x.trouble ≡ a → calm (unvouched m x) ≡ c → some_end (min x.count most) x.standings ≡ d
-      → cond a (cond b Verdict.Held (cond c (cond d Verdict.Held Verdict.Clear) (Verdict.Faulty (unvouched m x))))
-      (Verdict.Faulty x.trouble)
-      ≡ Verdict.Clear → Cleared
-  cleared_by false b c d f g h e = absurd (not-faulty x.trouble e)
-  cleared_by true true c d f g h e = absurd (not-held e)
-  cleared_by true false false d f g h e = absurd (not-faulty (unvouched m x) e)
-  cleared_by true false true true f g h e = absurd (not-held e)
-  cleared_by true false true false f g h e = record { quiet = f; vouched = g; none = h }
-
-  pub ending-clear : ending m x ≡ Verdict.Clear → Cleared
+  pub ending-clear : ending m x ≡ Ok Verdict.Clear → Cleared
   unfolding ending found
-  ending-clear e = cleared_by (calm x.trouble) (is_over x) (calm (unvouched m x)) _ refl refl refl e
+  ending-clear e = cleared_by x.trouble (is_over x) _ (vouched m x) refl refl refl e
 
-  pub clear-ending : Cleared → all_end (min x.count most) x.standings ≡ false → ending m x ≡ Verdict.Clear
-  unfolding ending found is_over
-  clear-ending c e = rw (c.quiet, e, c.vouched, c.none) (first_by x.first)
+  pub clear-ending : Cleared → all_end (min x.count most) x.standings ≡ false → ending m x ≡ Ok Verdict.Clear
+  unfolding ending found is_over vouched
+  clear-ending c e = rw (c.quiet, e, c.own, c.none) (first_by x.first)
     where
-      first_by : (b : Bool) → cond (b && false) Verdict.Held Verdict.Clear ≡ Verdict.Clear
+      first_by : (b : Bool) → ◌≡◌ {A = Result Verdict Trouble} (cond (b && false) (Ok Verdict.Held) (Ok Verdict.Clear)) (Ok Verdict.Clear)
       first_by true = refl
       first_by false = refl
 
   -- what a manifest asks
+  -- what is said where a stretch is left, and where the counts are right
+  abbrev said : Bool → Bool → Result (Unit {0}) Trouble
+  said a b = cond a (Err Trouble.Missing) (cond b (Ok tt) (Err Trouble.Counts))
+
   stands_by : (a b : Bool) → is_left m x.at ≡ a → counts_stand m x.stretches x.segments x.bytes ≡ b
-      → calm (cond a Trouble.Missing (cond b Trouble.None Trouble.Counts)) ≡ true
-      → (is_left m x.at ≡ false) × (counts_stand m x.stretches x.segments x.bytes ≡ true)
-  unfolding calm
-  stands_by true b f g e = absurd (true≢false (sym e))
+      → said a b ≡ Ok tt → (is_left m x.at ≡ false) × (counts_stand m x.stretches x.segments x.bytes ≡ true)
+  stands_by true b f g e = absurd cc
   stands_by false true f g e = (f, g)
-  stands_by false false f g e = absurd (true≢false (sym e))
+  stands_by false false f g e = absurd cc
 
-  pub vouched-stands : x.vouched ≡ true → calm (unvouched m x) ≡ true
+  pub vouched-stands : is_some x.text ≡ true → vouched m x ≡ Ok tt
       → (is_left m x.at ≡ false) × (counts_stand m x.stretches x.segments x.bytes ≡ true)
-  unfolding unvouched
-  vouched-stands v e =
-      let h : calm (cond (is_left m x.at) Trouble.Missing
-      (cond (counts_stand m x.stretches x.segments x.bytes) Trouble.None Trouble.Counts)) ≡ true = rw v at e in
-      stands_by (is_left m x.at) (counts_stand m x.stretches x.segments x.bytes) refl refl h
+  unfolding vouched
+  vouched-stands v e = stands_by (is_left m x.at) (counts_stand m x.stretches x.segments x.bytes) refl refl (rw v at e)
 
-  pub stands-vouched : (x.vouched ≡ true → (is_left m x.at ≡ false) × (counts_stand m x.stretches x.segments x.bytes ≡ true))
-      → calm (unvouched m x) ≡ true
-  unfolding unvouched calm
-  stands-vouched h = go x.vouched refl
+  pub stands-vouched : (is_some x.text ≡ true → (is_left m x.at ≡ false) × (counts_stand m x.stretches x.segments x.bytes ≡ true))
+      → vouched m x ≡ Ok tt
+  unfolding vouched
+  stands-vouched h = go (is_some x.text) refl
     where
-      go : (v : Bool) → x.vouched ≡ v
-          → calm (cond v (cond (is_left m x.at) Trouble.Missing
-          (cond (counts_stand m x.stretches x.segments x.bytes) Trouble.None Trouble.Counts)) Trouble.None) ≡ true
+      go : (v : Bool) → is_some x.text ≡ v
+          → cond v (said (is_left m x.at) (counts_stand m x.stretches x.segments x.bytes)) (Ok tt) ≡ Ok tt
       go true e = rw ((h e).0, (h e).1) refl
       go false e = refl

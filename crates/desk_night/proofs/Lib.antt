@@ -1,5 +1,4 @@
 -- Laws of the definitions in specs/.
-pub mod Troubles
 pub mod Moves
 pub mod Sweeps
 pub mod Asks

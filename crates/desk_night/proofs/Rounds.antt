@@ -2,14 +2,15 @@
 use Prim.Native.Nat.{ℕ, zero, suc, ◌+◌, ◌≤◌, ◌<◌}
 use native.Mathlib.Omega.{arith}
 use mathlib.Core.Path.{◌≡◌, refl, sym, ap, ◌∙◌}
-use mathlib.Core.Bool.{Bool, true, false, cond, true≢false}
+use mathlib.Core.Bool.{Bool}
 use mathlib.Core.List.{List, [], ◌∷◌}
 use lib.ListN.{length, get_or, set, length-set}
 use lib.Seq.{get_or-set_same, get_or-set_other}
+use Rattle.std.proofs.Common.{Option, Some, None}
+use Rattle.std.specs.Option.{option_or}
 use Rattle.text.specs.Refusal.{Outcome, ok, refused}
 use Rattle.desk_verdict.specs.declared.standing.Standing.{Standing}
 use Rattle.desk_list.specs.Lines.{Sequence}
-use Rattle.desk_night.specs.Trouble.{calm, earlier}
 use Rattle.desk_night.specs.Standings.{standing_at}
 use Rattle.desk_night.specs.Sweep.{moved, landed, turned, sweeping}
 use Rattle.desk_night.specs.declared.trouble.Trouble.{Trouble}
@@ -20,13 +21,9 @@ abbrev pub bases_at : List Sequence → ℕ → List ℕ
 bases_at Ps i = (get_or Ps i (record { label = 0; bases = [] })).bases
 
 -- a refusal is a trouble
-refused-trouble : (t : Trouble) (n p : ℕ) → calm (earlier t (Trouble.Refused (record { number = n; place = p }))) ≡ false
-unfolding calm earlier
-refused-trouble t n p = go (calm t) refl
-  where
-    go : (b : Bool) → calm t ≡ b → calm (cond b (Trouble.Refused (record { number = n; place = p })) t) ≡ false
-    go true e = refl
-    go false e = e
+refused-trouble : (t : Option Trouble) (n p : ℕ) → option_or t (Some (Trouble.Refused (record { number = n; place = p }))) ≡ None → ⊥
+refused-trouble None n p e = cc
+refused-trouble (Some u) n p e = cc
 
 -- where sequence k stands after it was moved, and where the others do
 module _ (xs : List Standing) (k : ℕ) (y : Standing) where
@@ -38,7 +35,7 @@ module _ (xs : List Standing) (k : ℕ) (y : Standing) where
 
 -- these sequences are moved without trouble, from number k on, and those before are as they were
 pub record Rounded (first : Bool) (s : List ℕ) (k : ℕ) (Ps : List Sequence) (x y : Swept) : Type 0 where
-  pub was : calm x.trouble ≡ true
+  pub was : x.trouble ≡ None
   pub each : (i : ℕ) → i < length Ps
       → moved first (bases_at Ps i) (standing_at x.standings (k + i)) s ≡ ok (standing_at y.standings (k + i))
   pub others : (i : ℕ) → i < k → standing_at y.standings i ≡ standing_at x.standings i
@@ -84,7 +81,7 @@ module _ (first : Bool) (s : List ℕ) (k : ℕ) (x : Swept) where
             ∙ ap (λ (u : Standing). moved first (bases_at Ps i) u s) (sym (moved_other x.standings k z (suc k + i) other))
             ∙ r.each i less
             ∙ ap (λ (j : ℕ). ok (standing_at y.standings j)) (sym up)
-    landed-step (refused n p) e r = absurd (true≢false (sym r.was ∙ refused-trouble x.trouble n p))
+    landed-step (refused n p) e r = absurd (refused-trouble x.trouble n p r.was)
 
     round-step : Rounded first s (suc k) Ps (turned first s P.bases k x) y → Rounded first s k (P ∷ Ps) x y
     unfolding turned
@@ -92,7 +89,7 @@ module _ (first : Bool) (s : List ℕ) (k : ℕ) (x : Swept) where
 
 module _ (first : Bool) (s : List ℕ) where
   pub rounds : (k : ℕ) (Ps : List Sequence) (x : Swept) → k + length Ps ≤ length x.standings
-      → calm (sweeping first s k Ps x).trouble ≡ true → Rounded first s k Ps x (sweeping first s k Ps x)
+      → (sweeping first s k Ps x).trouble ≡ None → Rounded first s k Ps x (sweeping first s k Ps x)
   unfolding sweeping
   rounds k [] x l e =
       record { was = e; each = λ i h. absurd (let z : ⊥ = omega (arith, h) in z); others = λ i h. refl; long = refl }
@@ -103,9 +100,9 @@ module _ (first : Bool) (s : List ℕ) where
       round-step first s k x P Ps (sweeping first s (suc k) Ps next) here (rounds (suc k) Ps next room e)
 
   -- and where each is moved there is no trouble
-  pub rounds-calm : (k : ℕ) (Ps : List Sequence) (x : Swept) → calm x.trouble ≡ true
+  pub rounds-calm : (k : ℕ) (Ps : List Sequence) (x : Swept) → x.trouble ≡ None
       → ((i : ℕ) → i < length Ps → (z : Standing) × (moved first (bases_at Ps i) (standing_at x.standings (k + i)) s ≡ ok z))
-      → calm (sweeping first s k Ps x).trouble ≡ true
+      → (sweeping first s k Ps x).trouble ≡ None
   unfolding sweeping turned
   rounds-calm k [] x e h = e
   rounds-calm k (P ∷ Ps) x e h =
@@ -116,7 +113,7 @@ module _ (first : Bool) (s : List ℕ) where
       let here : moved first P.bases (standing_at xs k) s ≡ ok z =
       ap (λ (j : ℕ). moved first P.bases (standing_at xs j) s) (sym none) ∙ met in
       let next : Swept = record { standings = set xs k z; trouble = x.trouble } in
-      ap (λ (o : Outcome Standing). calm (sweeping first s (suc k) Ps (landed k x o)).trouble) here
+      ap (λ (o : Outcome Standing). (sweeping first s (suc k) Ps (landed k x o)).trouble) here
       ∙ rounds-calm (suc k) Ps next e
       (λ i l.
       let up : suc k + i ≡ k + suc i = omega arith in

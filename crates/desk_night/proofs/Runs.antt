@@ -2,9 +2,10 @@
 use Prim.Native.Nat.{ℕ, suc, ◌+◌, ◌≤◌, ◌<◌, min}
 use native.Mathlib.Omega.{arith}
 use mathlib.Core.Path.{◌≡◌, refl, sym, ap, subst, ◌∙◌}
-use mathlib.Core.Bool.{Bool, true, false, true≢false}
+use mathlib.Core.Bool.{Bool, true, false, cond, true≢false}
 use mathlib.Core.List.{List, [], ◌∷◌, map}
 use lib.ListN.{length, take}
+use Rattle.std.proofs.Common.{Option, Some, None, Result, Ok, Err, is_some}
 use Rattle.text.specs.Text.{total}
 use Rattle.text.specs.Refusal.{Outcome, ok, refused, after}
 use Rattle.text.proofs.Outcomes.{after-after}
@@ -12,7 +13,7 @@ use Rattle.text.proofs.Strings.{same-eq}
 use Rattle.layout.specs.Pieces.{most_in_stretch}
 use Rattle.digest.specs.Blake2b.{blake2b256}
 use Rattle.desk_verdict.specs.Standing.{plus, passing, stood, stands}
-use Rattle.desk_verdict.specs.First.{reached, halting, halts}
+use Rattle.desk_verdict.specs.First.{halting, halts}
 use Rattle.desk_verdict.specs.declared.standing.Standing.{Standing}
 use Rattle.desk_verdict.proofs.Rows.{plus-cut}
 use Rattle.desk_verdict.proofs.Theorems as Verdicts
@@ -21,16 +22,17 @@ use Rattle.manifest.specs.Lines.{digest_at, entries_from, wrong_from, next_of}
 use Rattle.manifest.specs.Written.{hex_of}
 use Rattle.manifest.specs.Check.{vouches}
 use Rattle.manifest.specs.declared.reading.Line.{Line}
-use Rattle.manifest.proofs.Finding.{Found, found}
-use Rattle.desk_night.specs.Trouble.{calm}
+use Rattle.manifest.specs.declared.reading.Stretch.{Stretch}
+use Rattle.manifest.specs.declared.reading.Wrong.{Wrong}
+use Rattle.manifest.proofs.Finding.{FoundSaid, Found, found}
 use Rattle.desk_night.specs.Standings.{standing_at}
 use Rattle.desk_night.specs.Sweep.{halted, passed, moved, swept}
-use Rattle.desk_night.specs.Night.{segments_of, troubled, taken, overing, missing}
-use Rattle.desk_night.specs.Ending.{is_stretch, is_left}
+use Rattle.desk_night.specs.Night.{segments_of, troubled, taken, place_of, overing, missing}
+use Rattle.desk_night.specs.Ending.{says_stretch, is_stretch, is_left}
 use Rattle.desk_night.specs.Events.{Event, handed, unread, night_after, Vouched}
 use Rattle.desk_night.specs.declared.trouble.Trouble.{Trouble}
 use Rattle.desk_night.specs.declared.night.Night.{Night}
-use Rattle.desk_night.proofs.Nights.{over-trouble, over-files, over-next, over-changed, over-added, missing-first, missing-more}
+use Rattle.desk_night.proofs.Nights.{NextIs, next-place, over-trouble, over-step}
 use Rattle.desk_night.proofs.Rounds.{bases_at, Rounded, rounds}
 
 -- one sequence after stretches, one after another
@@ -55,98 +57,67 @@ pub moves-halts : (P : List ℕ) (x : Standing) (ss : List (List ℕ)) → moves
 unfolding moves moved halted halts
 moves-halts P x [] = refl
 moves-halts P x (s ∷ ss) =
-    after-after (halting P x s) (λ h. ok (reached h)) (λ y. moves true P y ss)
-    ∙ after_same (halting P x s) (λ h. moves true P (reached h) ss) (λ h. halts P (reached h) ss) (λ h. moves-halts P (reached h) ss)
+    after-after (halting P x s) (λ h. ok h.standing) (λ y. moves true P y ss)
+    ∙ after_same (halting P x s) (λ h. moves true P h.standing ss) (λ h. halts P h.standing ss) (λ h. moves-halts P h.standing ss)
 
 -- the sequences that are searched for
 abbrev pub sought : List ℕ → List Sequence
 sought list = take most (sequences_of list)
 
--- the manifest has the line of this stretch next
-pub record NextIs (m s : List ℕ) (at next : ℕ) : Type 0 where
-  pub start : ℕ
-  pub end : ℕ
-  pub line : next_of m at ≡ Line.Stretch start end next
-  pub own : vouches m start s ≡ true
-
 -- a stretch that led to no trouble
 pub record Went (list m s : List ℕ) (x : Night) : Type 0 where
-  pub was : calm x.trouble ≡ true
+  pub was : x.trouble ≡ None
   pub place : ℕ
   pub is : overing list m s x ≡ taken x list place s
-  pub named : x.vouched ≡ true → NextIs m s x.at place
+  pub named : is_some x.text ≡ true → NextIs m s x place
 
+-- what keeps a night from going on is its trouble
 module _ (list m s : List ℕ) (x : Night) where
-  -- a night with a trouble is not one without
-  not_calm : (t : Trouble) → calm t ≡ false → troubled x t ≡ overing list m s x → calm (overing list m s x).trouble ≡ true → ⊥
+  pub went : (overing list m s x).trouble ≡ None → Went list m s x
   unfolding troubled
-  not_calm t f is e = true≢false (sym e ∙ sym (ap (λ (y : Night). calm y.trouble) is) ∙ f)
-
-  module _ (e : calm x.trouble ≡ true) where
-    pub went-files : x.vouched ≡ false → overing list m s x ≡ taken x list x.at s
-    went-files v = sym (over-files list m s x refl e v refl)
-
-    module _ (v : x.vouched ≡ true) where
-      pub went-next : (next : ℕ) → NextIs m s x.at next → overing list m s x ≡ taken x list next s
-      went-next next n = sym (over-next list m s x refl e v refl n.line refl n.own refl)
-
-      went-added : (l : Line) → next_of m x.at ≡ l → is_stretch l ≡ false → calm (overing list m s x).trouble ≡ true → ⊥
-      unfolding calm
-      went-added l h n c = not_calm Trouble.Added refl (over-added list m s x refl e v refl h n refl) c
-
-      went-own : (start end next : ℕ) → next_of m x.at ≡ Line.Stretch start end next → (w : Bool) → vouches m start s ≡ w
-          → calm (overing list m s x).trouble ≡ true → NextIs m s x.at next
-      unfolding calm
-      went-own start end next h true f c = record { start = start; end = end; line = h; own = f }
-      went-own start end next h false f c =
-          absurd (not_calm Trouble.Changed refl (over-changed list m s x refl e v refl h refl f refl) c)
-
-      went_line : (l : Line) → next_of m x.at ≡ l → calm (overing list m s x).trouble ≡ true → (next : ℕ) × NextIs m s x.at next
-      went_line (Line.Stretch start end next) h c = (next, went-own start end next h (vouches m start s) refl c)
-      went_line (Line.Comment next) h c = absurd (went-added (Line.Comment next) h refl c)
-      went_line (Line.Wrong next) h c = absurd (went-added (Line.Wrong next) h refl c)
-      went_line Line.End h c = absurd (went-added Line.End h refl c)
-
-    went-by : (v : Bool) → x.vouched ≡ v → calm (overing list m s x).trouble ≡ true → Went list m s x
-    went-by true v c =
-        let (next, n) = went_line v (next_of m x.at) refl c in
-        record { was = e; place = next; is = went-next v next n; named = λ _. n }
-    went-by false v c =
-        record { was = e; place = x.at; is = went-files v; named = λ w. absurd (true≢false (sym w ∙ v)) }
-
-  went-calm : (b : Bool) → calm x.trouble ≡ b → calm (overing list m s x).trouble ≡ true → Went list m s x
-  went-calm true e c = went-by e x.vouched refl c
-  went-calm false e c =
-      absurd (true≢false (sym c ∙ sym (ap (λ (y : Night). calm y.trouble) (over-trouble list m s x refl e)) ∙ e))
-
-  pub went : calm (overing list m s x).trouble ≡ true → Went list m s x
-  went c = went-calm (calm x.trouble) refl c
+  went c = by x.trouble refl (place_of m s x) refl
+    where
+      by : (t : Option Trouble) → x.trouble ≡ t → (r : Result ℕ Trouble) → place_of m s x ≡ r → Went list m s x
+      by None e (Ok at) f =
+          record {
+            was = e;
+            place = at;
+            is = sym (over-step list m s x (ap is_some e) refl f);
+            named = λ v. next-place m s x v f;
+          }
+      by None e (Err t) f =
+          let is : Some t ≡ (overing list m s x).trouble = ap (λ (y : Night). y.trouble) (over-step list m s x (ap is_some e) refl f) in
+          absurd cc
+      by (Some t) e r f =
+          let is : x.trouble ≡ (overing list m s x).trouble = ap (λ (y : Night). y.trouble) (over-trouble list m s x (ap is_some e)) in
+          absurd cc
 
 -- what could not be read is a trouble
-missing-by : (x : Night) (b : Bool) → calm x.trouble ≡ b → calm (missing x).trouble ≡ true → ⊥
-unfolding troubled calm
-missing-by x true e c = true≢false (sym c ∙ sym (ap (λ (y : Night). calm y.trouble) (missing-first x refl e refl)))
-missing-by x false e c = true≢false (sym c ∙ sym (ap (λ (y : Night). calm y.trouble) (missing-more x refl e)) ∙ e)
+missing-some : (x : Night) → (missing x).trouble ≡ None → ⊥
+unfolding missing troubled
+missing-some x = go x.trouble refl
+  where
+    go : (t : Option Trouble) → x.trouble ≡ t → (cond (is_some t) x (troubled x Trouble.Unread)).trouble ≡ None → ⊥
+    go None e c = absurd cc
+    go (Some t) e c = absurd cc
 
 module _ (list m : List ℕ) where
   -- a trouble stays
-  stays : (es : List Event) (x : Night) → calm x.trouble ≡ false → night_after list m x es ≡ x
-  unfolding night_after
+  stays : (es : List Event) (x : Night) → is_some x.trouble ≡ true → night_after list m x es ≡ x
+  unfolding night_after missing
   stays [] x e = refl
   stays (handed s ∷ es) x e =
-      let same : overing list m s x ≡ x = sym (over-trouble list m s x refl e) in
-      ap (λ (y : Night). night_after list m y es) same ∙ stays es x e
+      ap (λ (y : Night). night_after list m y es) (sym (over-trouble list m s x e)) ∙ stays es x e
   stays (unread ∷ es) x e =
-      let same : missing x ≡ x = sym (missing-more x refl e) in
+      let same : missing x ≡ x = rw e refl in
       ap (λ (y : Night). night_after list m y es) same ∙ stays es x e
 
-  was-by : (es : List Event) (x : Night) (b : Bool) → calm x.trouble ≡ b → calm (night_after list m x es).trouble ≡ true
-      → calm x.trouble ≡ true
-  was-by es x true e c = e
-  was-by es x false e c = absurd (true≢false (sym c ∙ ap (λ (y : Night). calm y.trouble) (stays es x e) ∙ e))
-
-  pub was-calm : (es : List Event) (x : Night) → calm (night_after list m x es).trouble ≡ true → calm x.trouble ≡ true
-  was-calm es x c = was-by es x (calm x.trouble) refl c
+  pub was-calm : (es : List Event) (x : Night) → (night_after list m x es).trouble ≡ None → x.trouble ≡ None
+  was-calm es x c = go x.trouble refl
+    where
+      go : (t : Option Trouble) → x.trouble ≡ t → x.trouble ≡ None
+      go None e = e
+      go (Some t) e = sym (ap (λ (y : Night). y.trouble) (stays es x (ap is_some e))) ∙ c
 
 -- the greatest number that a count reaches
 abbrev pub cut : ℕ → ℕ
@@ -157,21 +128,24 @@ pub record Ran (list m : List ℕ) (x y : Night) (es : List Event) : Type 0 wher
   pub stretches : List (List ℕ)
   pub events : es ≡ map handed stretches
   pub count : y.count ≡ x.count
-  pub vouched : y.vouched ≡ x.vouched
+  pub text : y.text ≡ x.text
   pub each : (i : ℕ) → i < length (sought list)
       → moves x.first (bases_at (sought list) i) (standing_at x.standings i) stretches ≡ ok (standing_at y.standings i)
-  pub named : x.vouched ≡ true → wrong_from m x.at ≡ false → is_left m y.at ≡ false → Vouched (entries_from m x.at) stretches
+  pub named : is_some x.text ≡ true → wrong_from m x.at ≡ false → is_left m y.at ≡ false → Vouched (entries_from m x.at) stretches
   pub many : (a : ℕ) → x.stretches ≡ cut a → y.stretches ≡ cut (a + length stretches)
   pub segments : (a : ℕ) → x.segments ≡ cut a → y.segments ≡ cut (a + total segments_of stretches)
   pub bytes : (a : ℕ) → x.bytes ≡ cut a → y.bytes ≡ cut (a + total length stretches)
 
 -- no stretch is left
-none_left : (m : List ℕ) (at : ℕ) (l : Line) → next_of m at ≡ l → Found m at l → wrong_from m at ≡ false → is_stretch l ≡ false
-    → entries_from m at ≡ []
-none_left m at (Line.Stretch start end next) e f right left = absurd (true≢false left)
-none_left m at (Line.Comment next) e f right left = absurd f
-none_left m at (Line.Wrong next) e f right left = absurd (true≢false (sym f ∙ right))
-none_left m at Line.End e f right left = f.0
+none_said : (m : List ℕ) (at next : ℕ) (said : Result (Option Stretch) Wrong) → FoundSaid m at next said → wrong_from m at ≡ false
+    → says_stretch said ≡ false → entries_from m at ≡ []
+none_said m at next (Ok (Some name)) f right left = absurd (true≢false left)
+none_said m at next (Ok None) f right left = absurd f
+none_said m at next (Err wrong) f right left = absurd (true≢false (sym f ∙ right))
+
+none_left : (m : List ℕ) (at : ℕ) (l : Option Line) → Found m at l → wrong_from m at ≡ false → is_stretch l ≡ false → entries_from m at ≡ []
+none_left m at (Some line) f right left = none_said m at line.next line.said f right left
+none_left m at None f right left = f.0
 
 ran-none : (list m : List ℕ) (x : Night) → Ran list m x x []
 unfolding is_left Vouched moves total
@@ -180,9 +154,9 @@ ran-none list m x =
       stretches = [];
       events = refl;
       count = refl;
-      vouched = refl;
+      text = refl;
       each = λ i h. refl;
-      named = λ v right left. rw (none_left m x.at (next_of m x.at) refl (found m x.at) right left) tt;
+      named = λ v right left. rw (none_left m x.at (next_of m x.at) (found m x.at) right left) tt;
       many = λ a e. e ∙ (let z : cut a ≡ cut (a + 0) = omega arith in z);
       segments = λ a e. e ∙ (let z : cut a ≡ cut (a + 0) = omega arith in z);
       bytes = λ a e. e ∙ (let z : cut a ≡ cut (a + 0) = omega arith in z);
@@ -198,14 +172,14 @@ unfolding vouches
 own-digest m start s e = same-eq (digest_at m start) (hex_of (blake2b256 s)) e
 
 module _ (list m s : List ℕ) (x : Night) (at : ℕ) (room : length (sought list) ≤ length x.standings)
-    (c : calm (taken x list at s).trouble ≡ true) where
+    (c : (taken x list at s).trouble ≡ None) where
   -- each sequence over the stretch
-  pub taken-each : Rounded x.first s 0 (sought list) (record { standings = x.standings; trouble = Trouble.None })
+  pub taken-each : Rounded x.first s 0 (sought list) (record { standings = x.standings; trouble = None })
       (swept x.first list s x.standings)
   unfolding taken swept
   taken-each =
       let fits : 0 + length (sought list) ≤ length x.standings = omega (arith, room) in
-      rounds x.first s 0 (sought list) (record { standings = x.standings; trouble = Trouble.None }) fits c
+      rounds x.first s 0 (sought list) (record { standings = x.standings; trouble = None }) fits c
 
   pub taken-moved : (i : ℕ) → i < length (sought list)
       → moved x.first (bases_at (sought list) i) (standing_at x.standings i) s ≡ ok (standing_at (taken x list at s).standings i)
@@ -219,14 +193,14 @@ module _ (list m s : List ℕ) (x : Night) (at : ℕ) (room : length (sought lis
   unfolding taken
   taken-long = taken-each.long
 
-  module _ (named : x.vouched ≡ true → NextIs m s x.at at) (y : Night) (es : List Event) (r : Ran list m (taken x list at s) y es) where
-    named-on : x.vouched ≡ true → wrong_from m x.at ≡ false → is_left m y.at ≡ false
+  module _ (named : is_some x.text ≡ true → NextIs m s x at) (y : Night) (es : List Event) (r : Ran list m (taken x list at s) y es) where
+    named-on : is_some x.text ≡ true → wrong_from m x.at ≡ false → is_left m y.at ≡ false
         → Vouched (entries_from m x.at) (s ∷ r.stretches)
     unfolding taken Vouched
     named-on v right left =
-        let n : NextIs m s x.at at = named v in
-        let f : Found m x.at (Line.Stretch n.start n.end at) = rw n.line at (found m x.at) in
-        rw f.0 (own-digest m n.start s n.own, r.named v (sym f.1 ∙ right) left)
+        let n : NextIs m s x at = named v in
+        let f : FoundSaid m x.at at (Ok (Some n.name)) = rw n.line at (found m x.at) in
+        rw f.0 (own-digest m n.name.start s n.own, r.named v (sym f.1 ∙ right) left)
 
     ran-more : Ran list m x y (handed s ∷ es)
     unfolding taken moves total
@@ -235,7 +209,7 @@ module _ (list m s : List ℕ) (x : Night) (at : ℕ) (room : length (sought lis
           stretches = s ∷ r.stretches;
           events = ap (λ (l : List Event). handed s ∷ l) r.events;
           count = r.count;
-          vouched = r.vouched;
+          text = r.text;
           each = λ i l. rw (taken-moved i l) (r.each i l);
           named = named-on;
           many = λ a e.
@@ -252,7 +226,7 @@ module _ (list m s : List ℕ) (x : Night) (at : ℕ) (room : length (sought lis
 
 module _ (list m : List ℕ) where
   -- whatever was called, if there is no trouble at the end
-  pub ran : (es : List Event) (x : Night) → length (sought list) ≤ length x.standings → calm (night_after list m x es).trouble ≡ true
+  pub ran : (es : List Event) (x : Night) → length (sought list) ≤ length x.standings → (night_after list m x es).trouble ≡ None
       → Ran list m x (night_after list m x es) es
   unfolding night_after
   ran [] x room c = ran-none list m x
@@ -261,10 +235,10 @@ module _ (list m : List ℕ) where
       let y : Night = taken x list w.place s in
       let same : night_after list m (overing list m s x) es ≡ night_after list m y es =
       ap (λ (z : Night). night_after list m z es) w.is in
-      let quiet : calm (night_after list m y es).trouble ≡ true = ap (λ (z : Night). calm z.trouble) (sym same) ∙ c in
-      let here : calm y.trouble ≡ true = was-calm list m es y quiet in
+      let quiet : (night_after list m y es).trouble ≡ None = ap (λ (z : Night). z.trouble) (sym same) ∙ c in
+      let here : y.trouble ≡ None = was-calm list m es y quiet in
       let long : length y.standings ≡ length x.standings = taken-long list m s x w.place room here in
       let rest : length (sought list) ≤ length y.standings = omega (arith, room, long) in
       subst (λ (z : Night). Ran list m x z (handed s ∷ es)) (sym same)
       (ran-more list m s x w.place room here w.named (night_after list m y es) es (ran es y rest quiet))
-  ran (unread ∷ es) x room c = absurd (missing-by x (calm x.trouble) refl (was-calm list m es (missing x) c))
+  ran (unread ∷ es) x room c = absurd (missing-some x (was-calm list m es (missing x) c))

@@ -7,8 +7,9 @@ use mathlib.Core.Logic.{◌↔◌, ⊎_elim}
 use mathlib.Core.Bool.{Bool, true, false, true≢false}
 use mathlib.Core.List.{List, [], ◌∷◌, ◌++◌, map}
 use mathlib.Core.List.{Memᴰ}
-use lib.ListN.{length, get_or, replicate, length-append, length-take, length-replicate, get_or-replicate}
+use lib.ListN.{length, get_or, length-append, length-take, length-replicate, get_or-replicate}
 use lib.Seq.{take_all}
+use Rattle.std.proofs.Common.{Option, Some, None, Ok, is_some}
 use Rattle.text.specs.Text.{Text, total}
 use Rattle.text.specs.Refusal.{ok, after}
 use Rattle.text.proofs.Outcomes.{ok-inj, after-met}
@@ -21,14 +22,11 @@ use Rattle.desk_verdict.specs.declared.standing.Standing.{Standing}
 use Rattle.desk_verdict.proofs.Firsts.{reads_whole, halts-stands, stands-halts}
 use Rattle.desk_verdict.proofs.Theorems.{EndsOnEither, stands-clear}
 use Rattle.desk_list.specs.Lines.{Sequence, sequences_of, most, checked_of}
-use Rattle.desk_list.specs.declared.checking.Checked.{Checked}
 use Rattle.desk_list.proofs.Theorems.{SoundList, check_sound}
 use Rattle.manifest.specs.Lines.{entries_of, wrong_from}
 use Rattle.manifest.specs.Check.{counts_stand}
 use Rattle.manifest.specs.Check as Manifest
-use Rattle.manifest.specs.declared.checking.Checked as Said
 use Rattle.manifest.proofs.Theorems.{Whole, checked-sound}
-use Rattle.desk_night.specs.Trouble.{calm}
 use Rattle.desk_night.specs.Standings.{standing_at}
 use Rattle.desk_night.specs.Night.{count_of, list_trouble, segments_of, begun_with, beginning, beginning_files}
 use Rattle.desk_night.specs.TextTrouble.{text_trouble}
@@ -37,17 +35,16 @@ use Rattle.desk_night.specs.Events.{Event, handed, unread, night_after, Vouched}
 use Rattle.desk_night.specs.declared.trouble.Trouble.{Trouble}
 use Rattle.desk_night.specs.declared.night.Night.{Night}
 use Rattle.desk_night.specs.declared.ending.Verdict.{Verdict}
-use Rattle.desk_night.proofs.Troubles.{earlier-calm, calm-earlier}
 use Rattle.desk_night.proofs.Asks.{none_each, each_none, each-some}
 use Rattle.desk_night.proofs.Rounds.{bases_at}
 use Rattle.desk_night.proofs.Runs.{moves, moves-stands, moves-halts, sought, was-calm, cut, Ran, ran}
 use Rattle.desk_night.proofs.Quiet.{Ahead, quiet}
-use Rattle.desk_night.proofs.Clears.{list-calm, text-calm, Cleared, ending-clear, clear-ending, vouched-stands, stands-vouched}
+use Rattle.desk_night.proofs.Clears.{list-calm, text-calm, neither, Cleared, ending-clear, clear-ending, vouched-stands, stands-vouched}
 
 -- every sequence of a sound list was searched for in all of these stretches, and ends in none
 pub record Searched (list : List ℕ) (ss : List (List ℕ)) : Type 0 where
   pub count : ℕ
-  pub sound : checked_of list ≡ Checked.Sound count
+  pub sound : checked_of list ≡ Ok count
   pub clear : (P : Sequence) → Memᴰ P (sequences_of list) → (y : Standing) × (stands P.bases begun ss ≡ ok y) × (y.ends ≡ 0)
 
 -- the counts of a manifest are those of these stretches
@@ -57,7 +54,7 @@ Counts m ss = counts_stand m (cut (length ss)) (cut (total segments_of ss)) (cut
 -- these are the stretches of a sound manifest, in order, each with its digest, and its counts are theirs
 pub record Named (m : List ℕ) (ss : List (List ℕ)) : Type 0 where
   pub count : ℕ
-  pub sound : Manifest.checked_of m ≡ Said.Checked.Sound count
+  pub sound : Manifest.checked_of m ≡ Ok count
   pub own : Vouched (entries_of m) ss
   pub counts : Counts m ss
 
@@ -100,14 +97,10 @@ handed-back (s ∷ ss) = ap (λ (l : List (List ℕ)). s ∷ l) (handed-back ss)
 handed-same : (ss ts : List (List ℕ)) → map handed ss ≡ map handed ts → ss ≡ ts
 handed-same ss ts e = sym (handed-back ss) ∙ ap handed_in e ∙ handed-back ts
 
-calm-nothing : calm Trouble.None ≡ true
-unfolding calm
-calm-nothing = refl
-
 -- a night from its beginning
-module _ (list m : List ℕ) (v : Bool) (text : List ℕ) (first : Bool) (wrong : Trouble) where
+module _ (list m : List ℕ) (text : Option (List ℕ)) (first : Bool) (wrong : Option Trouble) where
   abbrev start : Night
-  start = begun_with list v text first wrong
+  start = begun_with list text first wrong
 
   begun-at : (i : ℕ) → i < most → standing_at start.standings i ≡ begun
   unfolding begun_with
@@ -121,7 +114,7 @@ module _ (list m : List ℕ) (v : Bool) (text : List ℕ) (first : Bool) (wrong 
   any = record { label = 0; bases = [] }
 
   -- all of a sound list are sought, and counted
-  module _ (n : ℕ) (is : checked_of list ≡ Checked.Sound n) where
+  module _ (n : ℕ) (is : checked_of list ≡ Ok n) where
     sought-all : sought list ≡ sequences_of list
     sought-all =
         let l : SoundList list n = check_sound list n is in
@@ -163,7 +156,7 @@ module _ (list m : List ℕ) (v : Bool) (text : List ℕ) (first : Bool) (wrong 
       let d : y.bytes ≡ cut (total length r.stretches) = r.bytes 0 none ∙ ap cut c in
       λ i. counts_stand m (p i) (q i) (d i)
 
-  module _ (es : List Event) (e : ending m (night_after list m start es) ≡ Verdict.Clear) where
+  module _ (es : List Event) (e : ending m (night_after list m start es) ≡ Ok Verdict.Clear) where
     abbrev last : Night
     last = night_after list m start es
 
@@ -173,11 +166,11 @@ module _ (list m : List ℕ) (v : Bool) (text : List ℕ) (first : Bool) (wrong 
     row : Ran list m start last es
     row = ran list m es start begun-room ended.quiet
 
-    calms : (calm (list_trouble (checked_of list)) ≡ true) × (calm wrong ≡ true)
+    calms : (list_trouble (checked_of list) ≡ None) × (wrong ≡ None)
     unfolding begun_with
-    calms = earlier-calm (list_trouble (checked_of list)) wrong (was-calm list m es start ended.quiet)
+    calms = neither (list_trouble (checked_of list)) wrong (was-calm list m es start ended.quiet)
 
-    clear-one : (n : ℕ) → checked_of list ≡ Checked.Sound n → (P : Sequence) → Memᴰ P (sequences_of list)
+    clear-one : (n : ℕ) → checked_of list ≡ Ok n → (P : Sequence) → Memᴰ P (sequences_of list)
         → (y : Standing) × (stands P.bases begun row.stretches ≡ ok y) × (y.ends ≡ 0)
     unfolding begun_with
     clear-one n is P mem =
@@ -196,21 +189,21 @@ module _ (list m : List ℕ) (v : Bool) (text : List ℕ) (first : Bool) (wrong 
         let (n, is) = list-calm (checked_of list) calms.0 in
         record { count = n; sound = is; clear = clear-one n is }
 
-    stands-last : v ≡ true
+    stands-last : is_some text ≡ true
         → (is_left m last.at ≡ false) × (counts_stand m last.stretches last.segments last.bytes ≡ true)
     unfolding begun_with
-    stands-last w = vouched-stands m last (row.vouched ∙ w) ended.vouched
+    stands-last w = vouched-stands m last (ap is_some row.text ∙ w) ended.own
 
-    own-last : v ≡ true → wrong_from m 0 ≡ false → Vouched (entries_of m) row.stretches
+    own-last : is_some text ≡ true → wrong_from m 0 ≡ false → Vouched (entries_of m) row.stretches
     unfolding begun_with
     own-last w right = row.named w right (stands-last w).0
 
-    counts-last : v ≡ true → Counts m row.stretches
+    counts-last : is_some text ≡ true → Counts m row.stretches
     counts-last w = sym (counts-row last es row) ∙ (stands-last w).1
 
   -- stretches of which nothing keeps a night from being clear
-  module _ (ss : List (List ℕ)) (s : Searched list ss) (c : calm wrong ≡ true) (own : v ≡ true → Ahead m 0 ss)
-      (counts : v ≡ true → Counts m ss) where
+  module _ (ss : List (List ℕ)) (s : Searched list ss) (c : wrong ≡ None) (own : is_some text ≡ true → Ahead m 0 ss)
+      (counts : is_some text ≡ true → Counts m ss) where
     abbrev over : Night
     over = night_after list m start (map handed ss)
 
@@ -227,12 +220,11 @@ module _ (list m : List ℕ) (v : Bool) (text : List ℕ) (first : Bool) (wrong 
           none,
         )
 
-    quiet-over : (calm over.trouble ≡ true) × (v ≡ true → is_left m over.at ≡ false)
+    quiet-over : (over.trouble ≡ None) × (is_some text ≡ true → is_left m over.at ≡ false)
     unfolding begun_with
     quiet-over =
-        let sound : list_trouble (checked_of list) ≡ Trouble.None = ap list_trouble s.sound in
-        let calmed : calm (list_trouble (checked_of list)) ≡ true = ap calm sound ∙ calm-nothing in
-        quiet list m ss start (calm-earlier (list_trouble (checked_of list)) wrong calmed c) begun-room
+        let sound : list_trouble (checked_of list) ≡ None = ap list_trouble s.sound in
+        quiet list m ss start (rw (sound, c) refl) begun-room
         (λ i l. let (y, met, none) = clear_at i l in (y, met)) own
 
     row-over : Ran list m start over (map handed ss)
@@ -252,13 +244,13 @@ module _ (list m : List ℕ) (v : Bool) (text : List ℕ) (first : Bool) (wrong 
         let is : standing_at over.standings i ≡ y = ok-inj (sym there ∙ met) in
         ap (λ (x : Standing). x.ends) is ∙ none
 
-    counts-over : v ≡ true → counts_stand m over.stretches over.segments over.bytes ≡ true
+    counts-over : is_some text ≡ true → counts_stand m over.stretches over.segments over.bytes ≡ true
     counts-over w =
         counts-row over (map handed ss) row-over
         ∙ ap (λ (ts : List (List ℕ)). counts_stand m (cut (length ts)) (cut (total segments_of ts)) (cut (total length ts))) same_over
         ∙ counts w
 
-    start-clear : ending m over ≡ Verdict.Clear
+    start-clear : ending m over ≡ Ok Verdict.Clear
     unfolding begun_with
     start-clear =
         let n : ℕ = s.count in
@@ -267,70 +259,70 @@ module _ (list m : List ℕ) (v : Bool) (text : List ℕ) (first : Bool) (wrong 
         clear-ending m over
         (record {
           quiet = quiet-over.0;
-          vouched = stands-vouched m over
-              (λ w. (quiet-over.1 (sym row-over.vouched ∙ w), counts-over (sym row-over.vouched ∙ w)));
+          own = stands-vouched m over
+              (λ w.
+              let named : is_some text ≡ true = sym (ap is_some row-over.text) ∙ w in
+              (quiet-over.1 named, counts-over named));
           none = each_none (min over.count most) over.standings none_over;
         })
         (each-some (min over.count most) over.standings some none_over)
 
 -- a night with a manifest is clear exactly if the stretches of the manifest were handed in, each of them and nothing else
 pub clear-exactly : (list m : List ℕ) (first : Bool) (es : List Event)
-    → (ending m (night_after list m (beginning list m first) es) ≡ Verdict.Clear)
+    → (ending m (night_after list m (beginning list m first) es) ≡ Ok Verdict.Clear)
     ↔ ((ss : List (List ℕ)) × (es ≡ map handed ss) × Searched list ss × Named m ss)
 unfolding beginning
 clear-exactly list m first es = (
   λ e.
-      let text : List ℕ = blake2b256 m in
-      let wrong : Trouble = text_trouble (Manifest.checked_of m) in
-      let r = row list m true text first wrong es e in
-      let (n, is) = text-calm (Manifest.checked_of m) (calms list m true text first wrong es e).1 in (
+      let text : Option (List ℕ) = Some (blake2b256 m) in
+      let wrong : Option Trouble = text_trouble (Manifest.checked_of m) in
+      let r = row list m text first wrong es e in
+      let (n, is) = text-calm (Manifest.checked_of m) (calms list m text first wrong es e).1 in (
         r.stretches,
         r.events,
-        searched list m true text first wrong es e,
+        searched list m text first wrong es e,
         record {
           count = n;
           sound = is;
-          own = own-last list m true text first wrong es e refl (checked-sound m n is).right;
-          counts = counts-last list m true text first wrong es e refl;
+          own = own-last list m text first wrong es e refl (checked-sound m n is).right;
+          counts = counts-last list m text first wrong es e refl;
         },
       ),
   λ (ss, events, s, n).
-      let text : List ℕ = blake2b256 m in
-      let wrong : Trouble = text_trouble (Manifest.checked_of m) in
-      let quiet : calm wrong ≡ true = ap (λ (c : Said.Checked). calm (text_trouble c)) n.sound ∙ calm-nothing in
-      subst (λ (l : List Event). ending m (night_after list m (begun_with list true text first wrong) l) ≡ Verdict.Clear) (sym events)
-      (start-clear list m true text first wrong ss s quiet (λ _. ((checked-sound m n.count n.sound).right, n.own)) (λ _. n.counts)),
+      let text : Option (List ℕ) = Some (blake2b256 m) in
+      let wrong : Option Trouble = text_trouble (Manifest.checked_of m) in
+      let quiet : wrong ≡ None = ap text_trouble n.sound in
+      subst (λ (l : List Event). ending m (night_after list m (begun_with list text first wrong) l) ≡ Ok Verdict.Clear) (sym events)
+      (start-clear list m text first wrong ss s quiet (λ _. ((checked-sound m n.count n.sound).right, n.own)) (λ _. n.counts)),
 )
 
 -- a night over files is clear exactly if every call handed a stretch in, and nothing ends in them
 pub files-exactly : (list m : List ℕ) (first : Bool) (es : List Event)
-    → (ending m (night_after list m (beginning_files list first) es) ≡ Verdict.Clear)
+    → (ending m (night_after list m (beginning_files list first) es) ≡ Ok Verdict.Clear)
     ↔ ((ss : List (List ℕ)) × (es ≡ map handed ss) × Searched list ss)
 unfolding beginning_files
 files-exactly list m first es = (
   λ e.
-      let text : List ℕ = replicate 32 0 in
-      let r = row list m false text first Trouble.None es e in
-      (r.stretches, r.events, searched list m false text first Trouble.None es e),
+      let r = row list m None first None es e in
+      (r.stretches, r.events, searched list m None first None es e),
   λ (ss, events, s).
-      let text : List ℕ = replicate 32 0 in
-      subst (λ (l : List Event). ending m (night_after list m (begun_with list false text first Trouble.None) l) ≡ Verdict.Clear) (sym events)
-      (start-clear list m false text first Trouble.None ss s calm-nothing (λ w. absurd (true≢false (sym w)))
+      subst (λ (l : List Event). ending m (night_after list m (begun_with list None first None) l) ≡ Ok Verdict.Clear) (sym events)
+      (start-clear list m None first None ss s refl (λ w. absurd (true≢false (sym w)))
       (λ w. absurd (true≢false (sym w)))),
 )
 
 -- with `--first` a night is clear exactly if it is clear without
 pub first-same : (list m : List ℕ) (es : List Event)
-    → (ending m (night_after list m (beginning list m true) es) ≡ Verdict.Clear)
-    ↔ (ending m (night_after list m (beginning list m false) es) ≡ Verdict.Clear)
+    → (ending m (night_after list m (beginning list m true) es) ≡ Ok Verdict.Clear)
+    ↔ (ending m (night_after list m (beginning list m false) es) ≡ Ok Verdict.Clear)
 first-same list m es = (
   λ e. (clear-exactly list m false es).1 ((clear-exactly list m true es).0 e),
   λ e. (clear-exactly list m true es).1 ((clear-exactly list m false es).0 e),
 )
 
 pub files-first-same : (list m : List ℕ) (es : List Event)
-    → (ending m (night_after list m (beginning_files list true) es) ≡ Verdict.Clear)
-    ↔ (ending m (night_after list m (beginning_files list false) es) ≡ Verdict.Clear)
+    → (ending m (night_after list m (beginning_files list true) es) ≡ Ok Verdict.Clear)
+    ↔ (ending m (night_after list m (beginning_files list false) es) ≡ Ok Verdict.Clear)
 files-first-same list m es = (
   λ e. (files-exactly list m false es).1 ((files-exactly list m true es).0 e),
   λ e. (files-exactly list m true es).1 ((files-exactly list m false es).0 e),
@@ -388,7 +380,7 @@ segments-text (s ∷ ss) T e =
 -- NO FALSE CLEAR. Whatever is handed in, and whatever is called: a night that ends clear was over the text of its manifest, and nothing of
 -- its list ends there
 pub night-clear : (list m : List ℕ) (first : Bool) (es : List Event)
-    → ending m (night_after list m (beginning list m first) es) ≡ Verdict.Clear
+    → ending m (night_after list m (beginning list m first) es) ≡ Ok Verdict.Clear
     → (ss : List (List ℕ)) × (es ≡ map handed ss) × (r : Released list ss) × Vouches m ss r.text
 night-clear list m first es e =
     let (ss, events, s, n) = (clear-exactly list m first es).0 e in
@@ -407,7 +399,7 @@ night-clear list m first es e =
 
 -- the same of files for which nobody vouches: nothing of the list ends in the stretches that were handed in
 pub files-clear : (list m : List ℕ) (first : Bool) (es : List Event)
-    → ending m (night_after list m (beginning_files list first) es) ≡ Verdict.Clear
+    → ending m (night_after list m (beginning_files list first) es) ≡ Ok Verdict.Clear
     → (ss : List (List ℕ)) × (es ≡ map handed ss) × Released list ss
 files-clear list m first es e =
     let (ss, events, s) = (files-exactly list m first es).0 e in

@@ -1,24 +1,15 @@
--- What keeps a night from being clear.
-use Rattle.std.specs.Prelude.{Bool, true, false, cond}
+-- What is wrong with a list, a manifest or a stretch, as a trouble of the night.
+use Rattle.desk_list.specs.declared.checking.Unsound as OfList
+use Rattle.manifest.specs.declared.checking.Unsound as Text
 use Rattle.desk_night.specs.declared.trouble.Trouble.{Trouble}
 
--- there is no trouble
-unfoldable pub calm : Trouble → Bool
-calm Trouble.None = true
-calm Trouble.List = false
-calm Trouble.Empty = false
-calm Trouble.Many = false
-calm Trouble.Foreign = false
-calm Trouble.Altered = false
-calm Trouble.Line = false
-calm Trouble.NoStretch = false
-calm Trouble.Unread = false
-calm Trouble.Added = false
-calm Trouble.Changed = false
-calm (Trouble.Refused wrong) = false
-calm Trouble.Missing = false
-calm Trouble.Counts = false
+abbrev pub of_list : OfList.Unsound → Trouble
+of_list OfList.Unsound.Wrong = Trouble.List
+of_list OfList.Unsound.Empty = Trouble.Empty
+of_list OfList.Unsound.Many = Trouble.Many
 
--- the first of two troubles
-unfoldable pub earlier : Trouble → Trouble → Trouble
-earlier one other = cond (calm one) other one
+abbrev pub of_text : Text.Unsound → Trouble
+of_text Text.Unsound.Foreign = Trouble.Foreign
+of_text Text.Unsound.Altered = Trouble.Altered
+of_text Text.Unsound.Wrong = Trouble.Line
+of_text Text.Unsound.Empty = Trouble.NoStretch

@@ -2,93 +2,88 @@
 ghost use Rattle.std.specs.Prelude.{◌≡◌};
 ghost use Rattle.lines.specs.Puts.{Put};
 ghost use Rattle.desk_verdict.specs.Said.{Fits};
-ghost use Rattle.desk_night.specs.Ending.{is_left, unvouched, found, ending, verdict_line};
+ghost use Rattle.desk_night.specs.Ending.{is_left, vouched, found, ending, verdict_line};
 
 use crate::night::Night;
 use crate::standings::some_end;
-use crate::trouble::{Trouble, is_none};
+use crate::trouble::Trouble;
 use lines::put_bytes;
 use manifest::{Line, counts_stand, next_stretch};
 
-// The text may go out; a sequence of the list ends in it; or that is not known, for this trouble.
+// The text may go out; or a sequence of the list ends in it.
 #[derive(Clone, Copy)]
 pub enum Verdict {
     Clear,
     Held,
-    Faulty(Trouble),
 }
 
 // Whether the manifest names a stretch from a place on.
+#[tactic(auto, unfolding(crate::specs::Ending::is_left))]
 fn is_left(manifest: &[u8], at: usize) -> bool
     ensures { result ≡ is_left manifest.now at }
 {
-    match next_stretch(manifest, at) {
-        Line::Stretch {
-            start: _,
-            end: _,
-            next: _,
-        } => true,
-        Line::Comment { next: _ } => false,
-        Line::Wrong { next: _ } => false,
-        Line::End => false,
-    }
+    matches!(
+        next_stretch(manifest, at),
+        Some(Line {
+            said: Ok(Some(_)),
+            next: _
+        })
+    )
 }
 
-// What the manifest has against the stretches that were handed in.
-fn unvouched(night: Night, manifest: &[u8]) -> Trouble
-    ensures { result ≡ unvouched manifest.now night }
+// Whether the manifest vouches for the stretches that were handed in, if one is to.
+#[tactic(auto, unfolding(crate::specs::Ending::vouched))]
+fn vouched(night: Night, manifest: &[u8]) -> Result<(), Trouble>
+    ensures { result ≡ vouched manifest.now night }
 {
-    if !night.vouched {
-        return Trouble::None;
+    if night.text.is_none() {
+        return Ok(());
     }
     if is_left(manifest, night.at) {
-        return Trouble::Missing;
+        return Err(Trouble::Missing);
     }
-    if counts_stand(manifest, night.stretches, night.segments, night.bytes) {
-        return Trouble::None;
+    if !counts_stand(manifest, night.stretches, night.segments, night.bytes) {
+        return Err(Trouble::Counts);
     }
-    Trouble::Counts
+    Ok(())
 }
 
 // What the sequences have come to.
+#[tactic(auto, unfolding(crate::specs::Ending::found))]
 fn found(night: Night) -> Verdict
     ensures { result ≡ found night }
 {
-    let standings = night.standings;
-    if some_end(standings, night.count) {
-        return Verdict::Held;
+    if some_end(&night.standings, night.count) {
+        Verdict::Held
+    } else {
+        Verdict::Clear
     }
-    Verdict::Clear
 }
 
 impl Night {
-    // What the night comes to, after the last stretch.
-    pub fn end(self, manifest: &[u8]) -> Verdict
+    // What the night comes to, after the last stretch; or its trouble, with which that is not known.
+    #[tactic(auto, unfolding(crate::specs::Ending::ending))]
+    pub fn end(self, manifest: &[u8]) -> Result<Verdict, Trouble>
         ensures { result ≡ ending manifest.now self }
     {
-        let trouble = self.trouble;
-        if !is_none(trouble) {
-            return Verdict::Faulty(trouble);
+        if let Some(trouble) = self.trouble {
+            return Err(trouble);
         }
         if self.is_over() {
-            return Verdict::Held;
+            return Ok(Verdict::Held);
         }
-        let wrong = unvouched(self, manifest);
-        if !is_none(wrong) {
-            return Verdict::Faulty(wrong);
-        }
-        found(self)
+        vouched(self, manifest)?;
+        Ok(found(self))
     }
 }
 
-// The line that says whether the text may go out.
-pub fn put_verdict(verdict: Verdict, out: &mut [u8]) -> usize
+// The line that says whether the text may go out. It may not where that is not known.
+pub fn put_verdict(verdict: Result<Verdict, Trouble>, out: &mut [u8]) -> usize
     ensures put { Put out.old 0 (verdict_line verdict) out.new result }
     ensures fits { Fits result out.new }
 {
     match verdict {
-        Verdict::Clear => put_bytes(b"clear\n", &mut *out, 0),
-        Verdict::Held => put_bytes(b"held\n", &mut *out, 0),
-        Verdict::Faulty(_) => put_bytes(b"held\n", &mut *out, 0),
+        Ok(Verdict::Clear) => put_bytes(b"clear\n", &mut *out, 0),
+        _ => put_bytes(b"held\n", &mut *out, 0),
     }
 }

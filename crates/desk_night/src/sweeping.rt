@@ -2,9 +2,9 @@
 ghost use Rattle.std.specs.Prelude.{◌≡◌, ◌<◌};
 ghost use Rattle.desk_night.specs.Sweep.{turned, swept};
 
-use crate::moving::{Moved, moved_by};
-use crate::trouble::{Trouble, earlier};
-use desk_list::{Line, MOST, line_at};
+use crate::moving::moved_by;
+use crate::trouble::Trouble;
+use desk_list::{MOST, line_at};
 use desk_verdict::Standing;
 use text::part;
 
@@ -12,7 +12,7 @@ use text::part;
 #[derive(Clone, Copy)]
 pub struct Swept {
     pub standings: [Standing; MOST],
-    pub trouble: Trouble,
+    pub trouble: Option<Trouble>,
 }
 
 // Takes sequence k. One that is refused stays where it stands.
@@ -20,18 +20,16 @@ fn turn(done: Swept, k: usize, first: bool, pattern: &[u8], stretch: &[u8]) -> S
     requires { k < 32 }
     ensures { result ≡ turned first stretch.now pattern.now k done }
 {
-    let standing = done.standings[k];
-    match moved_by(first, pattern, standing, stretch) {
-        Moved::To(reached) => {
+    match moved_by(first, pattern, done.standings[k], stretch) {
+        Ok(reached) => {
             let mut next = done;
             next.standings[k] = reached;
             next
         }
-        Moved::Refused(wrong) => {
-            let trouble = earlier(done.trouble, Trouble::Refused(wrong));
-            let standings = done.standings;
-            Swept { standings, trouble }
-        }
+        Err(wrong) => Swept {
+            trouble: done.trouble.or(Some(Trouble::from(wrong))),
+            ..done
+        },
     }
 }
 
@@ -41,30 +39,21 @@ pub fn sweep(standings: [Standing; MOST], first: bool, list: &[u8], stretch: &[u
 {
     let mut sweep = Swept {
         standings,
-        trouble: Trouble::None,
+        trouble: None,
     };
     let mut k = 0;
     let mut at = 0;
-    while k < MOST {
-        match line_at(list, at) {
-            Line::Nothing { next } => {
-                at = next;
-            }
-            Line::Wrong { fault: _, next } => {
-                at = next;
-            }
-            Line::Withheld {
-                label: _,
-                start,
-                end,
-                next,
-            } => {
-                sweep = turn(sweep, k, first, part(list, start, end), stretch);
-                k += 1;
-                at = next;
-            }
-            Line::End => return sweep,
+    while let Some(line) = line_at(list, at) {
+        at = line.next;
+        let Some(withheld) = line.said.unwrap_or(None) else {
+            continue;
+        };
+        if k == MOST {
+            return sweep;
         }
+        let pattern = part(list, withheld.start, withheld.end);
+        sweep = turn(sweep, k, first, pattern, stretch);
+        k += 1;
     }
     sweep
 }

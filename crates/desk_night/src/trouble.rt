@@ -1,13 +1,13 @@
 // What keeps a night from being clear.
 ghost use Rattle.std.specs.Prelude.{◌≡◌};
-ghost use Rattle.desk_night.specs.Trouble.{calm, earlier};
+ghost use Rattle.desk_night.specs.declared.trouble.Trouble.TheVariants.{Refused};
+ghost use Rattle.desk_night.specs.Trouble.{of_list, of_text};
 
 use text::Refusal;
 
-// The first trouble of a night, or that there is none yet.
+// The first trouble of a night.
 #[derive(Clone, Copy)]
 pub enum Trouble {
-    None,
     // What is said of the list: a line is wrong, it has no sequence, or more than 32.
     List,
     Empty,
@@ -31,22 +31,35 @@ pub enum Trouble {
     Counts,
 }
 
-// Whether there is no trouble.
-pub fn is_none(trouble: Trouble) -> bool
-    ensures { result ≡ calm trouble }
-{
-    if let Trouble::None = trouble {
-        return true;
+impl From<desk_list::Unsound> for Trouble {
+    ghost from_gives = { λ unsound t. t ≡ of_list unsound };
+
+    fn from(unsound: desk_list::Unsound) -> Trouble {
+        match unsound {
+            desk_list::Unsound::Wrong => Trouble::List,
+            desk_list::Unsound::Empty => Trouble::Empty,
+            desk_list::Unsound::Many => Trouble::Many,
+        }
     }
-    false
 }
 
-// The first of two troubles.
-pub fn earlier(one: Trouble, other: Trouble) -> Trouble
-    ensures { result ≡ earlier one other }
-{
-    if is_none(one) {
-        return other;
+impl From<manifest::Unsound> for Trouble {
+    ghost from_gives = { λ unsound t. t ≡ of_text unsound };
+
+    fn from(unsound: manifest::Unsound) -> Trouble {
+        match unsound {
+            manifest::Unsound::Foreign => Trouble::Foreign,
+            manifest::Unsound::Altered => Trouble::Altered,
+            manifest::Unsound::Wrong => Trouble::Line,
+            manifest::Unsound::Empty => Trouble::NoStretch,
+        }
     }
-    one
+}
+
+impl From<Refusal> for Trouble {
+    ghost from_gives = { λ wrong t. t ≡ Refused wrong };
+
+    fn from(wrong: Refusal) -> Trouble {
+        Trouble::Refused(wrong)
+    }
 }

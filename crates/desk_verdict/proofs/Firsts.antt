@@ -11,12 +11,12 @@ use mathlib.Core.List.{Memᴰ}
 use borrow.Author.Tests.{eq-eqb, ne_eqb, lt-ltb, ltb-true, le-leb}
 use lib.Dec.{eqb, ltb, leb}
 use lib.ListN.{length}
+use Rattle.std.proofs.Common.{Option, Some, None}
 use Rattle.text.specs.Text.{Text}
 use Rattle.text.specs.State.{is_state, next, ends, run, marks_from}
 use Rattle.text.specs.Card.{none, later, first_end}
 use Rattle.text.specs.Strand.{opposite, on_strand}
 use Rattle.text.specs.Refusal.{Outcome, ok, refused, after, SoundPattern}
-use Rattle.text.specs.declared.refusal.Refusal.{Refusal}
 use Rattle.text.specs.declared.strand.Strand.{Strand}
 use Rattle.text.specs.declared.strand.Strand.TheVariants.{Given, Opposite}
 use Rattle.text.proofs.Outcomes.{ok-inj, refused-ok, demand-met, after-met}
@@ -37,10 +37,9 @@ use Rattle.search.proofs.Stops.{whole-walk}
 use Rattle.lines.specs.Answer.{marked_from}
 use Rattle.lines.proofs.Named.{is-named}
 use Rattle.desk_verdict.specs.Standing.{plus, passing, both_marks, stood, stands}
-use Rattle.desk_verdict.specs.First.{Either, nowhere, earlier, told_heard, on_both}
-use Rattle.desk_verdict.specs.First.{Halt, at, goes, reached, ended, gone, halted, halting, halts}
-use Rattle.desk_verdict.specs.First.{ends as ends_on}
+use Rattle.desk_verdict.specs.First.{earlier, on_both, at, goes, ended, gone, halted, halting, halts}
 use Rattle.desk_verdict.specs.declared.first.Heard.{Heard}
+use Rattle.desk_verdict.specs.declared.first.Stopped.{Stopped}
 use Rattle.desk_verdict.specs.declared.standing.Standing.{Standing}
 use Rattle.desk_verdict.proofs.Standings.{both-sought}
 
@@ -113,43 +112,42 @@ end_of (ok (clear st)) = none
 end_of (refused n p) = none
 
 -- what two strands say that end nowhere
-earlier-nowhere : (o k : Outcome Hit) (a b : ℕ) → earlier o k ≡ ok (nowhere a b) → (o ≡ ok (clear a)) × (k ≡ ok (clear b))
-earlier-nowhere (ok (ends_in i)) (ok (ends_in j)) a b e = absurd (let z : ◌≡◌ {A = ℕ} 0 1 = cc in omega arith)
-earlier-nowhere (ok (ends_in i)) (ok (clear d)) a b e = absurd (let z : ◌≡◌ {A = ℕ} 0 1 = cc in omega arith)
-earlier-nowhere (ok (ends_in i)) (refused n p) a b e = absurd (let z : ◌≡◌ {A = ℕ} 0 1 = cc in omega arith)
-earlier-nowhere (ok (clear c)) (ok (ends_in j)) a b e = absurd (let z : ◌≡◌ {A = ℕ} 0 1 = cc in omega arith)
-earlier-nowhere (ok (clear c)) (ok (clear d)) a b e =
-    let x : c ≡ a = cc in
-    let y : d ≡ b = cc in
-    (ap (λ (i : ℕ). ok (clear i)) x, ap (λ (i : ℕ). ok (clear i)) y)
-earlier-nowhere (ok (clear c)) (refused n p) a b e = absurd (refused-ok n p (nowhere a b) e)
-earlier-nowhere (refused n p) (ok (ends_in j)) a b e = absurd (let z : ◌≡◌ {A = ℕ} 0 1 = cc in omega arith)
-earlier-nowhere (refused n p) (ok (clear d)) a b e = absurd (refused-ok n p (nowhere a b) e)
-earlier-nowhere (refused n p) (refused m q) a b e = absurd (refused-ok n p (nowhere a b) e)
+earlier-nowhere : (o k : Outcome Hit) (y : Pair) → earlier o k ≡ ok (Heard.Nowhere y) → (o ≡ ok (clear y.given)) × (k ≡ ok (clear y.opposite))
+earlier-nowhere (ok (ends_in i)) (ok (ends_in j)) y e = absurd cc
+earlier-nowhere (ok (ends_in i)) (ok (clear d)) y e = absurd cc
+earlier-nowhere (ok (ends_in i)) (refused n p) y e = absurd cc
+earlier-nowhere (ok (clear c)) (ok (ends_in j)) y e = absurd cc
+earlier-nowhere (ok (clear c)) (ok (clear d)) y e =
+    let is : record { given = c; opposite = d } ≡ y = cc in
+    (ap (λ (z : Pair). ok (clear z.given)) is, ap (λ (z : Pair). ok (clear z.opposite)) is)
+earlier-nowhere (ok (clear c)) (refused n p) y e = absurd (refused-ok n p (Heard.Nowhere y) e)
+earlier-nowhere (refused n p) (ok (ends_in j)) y e = absurd cc
+earlier-nowhere (refused n p) (ok (clear d)) y e = absurd (refused-ok n p (Heard.Nowhere y) e)
+earlier-nowhere (refused n p) (refused m q) y e = absurd (refused-ok n p (Heard.Nowhere y) e)
 
 -- what two strands say of which one ends
-earlier-ends : (o k : Outcome Hit) (j : ℕ) → end_of o ≤ none → end_of k ≤ none → earlier o k ≡ ok (ends_on j) → j ≡ min (end_of o) (end_of k)
+earlier-ends : (o k : Outcome Hit) (j : ℕ) → end_of o ≤ none → end_of k ≤ none → earlier o k ≡ ok (Heard.Ends j) → j ≡ min (end_of o) (end_of k)
 earlier-ends (ok (ends_in a)) (ok (ends_in b)) j l m e = let z : min a b ≡ j = cc in sym z
 earlier-ends (ok (ends_in a)) (ok (clear d)) j l m e = let z : a ≡ j = cc in omega (arith, z, l)
 earlier-ends (ok (ends_in a)) (refused n p) j l m e = let z : a ≡ j = cc in omega (arith, z, l)
 earlier-ends (ok (clear c)) (ok (ends_in b)) j l m e = let z : b ≡ j = cc in omega (arith, z, m)
-earlier-ends (ok (clear c)) (ok (clear d)) j l m e = absurd (let z : ◌≡◌ {A = ℕ} 0 1 = cc in omega arith)
-earlier-ends (ok (clear c)) (refused n p) j l m e = absurd (refused-ok n p (ends_on j) e)
+earlier-ends (ok (clear c)) (ok (clear d)) j l m e = absurd cc
+earlier-ends (ok (clear c)) (refused n p) j l m e = absurd (refused-ok n p (Heard.Ends j) e)
 earlier-ends (refused n p) (ok (ends_in b)) j l m e = let z : b ≡ j = cc in omega (arith, z, m)
-earlier-ends (refused n p) (ok (clear d)) j l m e = absurd (refused-ok n p (ends_on j) e)
-earlier-ends (refused n p) (refused i q) j l m e = absurd (refused-ok n p (ends_on j) e)
+earlier-ends (refused n p) (ok (clear d)) j l m e = absurd (refused-ok n p (Heard.Ends j) e)
+earlier-ends (refused n p) (refused i q) j l m e = absurd (refused-ok n p (Heard.Ends j) e)
 
 earlier-small : (o k : Outcome Hit) (j : ℕ) → ((i : ℕ) → o ≡ ok (ends_in i) → i < none) → ((i : ℕ) → k ≡ ok (ends_in i) → i < none)
-    → earlier o k ≡ ok (ends_on j) → j < none
+    → earlier o k ≡ ok (Heard.Ends j) → j < none
 earlier-small (ok (ends_in a)) (ok (ends_in b)) j f g e = let z : min a b ≡ j = cc in omega (arith, z, f a refl)
 earlier-small (ok (ends_in a)) (ok (clear d)) j f g e = let z : a ≡ j = cc in omega (arith, z, f a refl)
 earlier-small (ok (ends_in a)) (refused n p) j f g e = let z : a ≡ j = cc in omega (arith, z, f a refl)
 earlier-small (ok (clear c)) (ok (ends_in b)) j f g e = let z : b ≡ j = cc in omega (arith, z, g b refl)
-earlier-small (ok (clear c)) (ok (clear d)) j f g e = absurd (let z : ◌≡◌ {A = ℕ} 0 1 = cc in omega arith)
-earlier-small (ok (clear c)) (refused n p) j f g e = absurd (refused-ok n p (ends_on j) e)
+earlier-small (ok (clear c)) (ok (clear d)) j f g e = absurd cc
+earlier-small (ok (clear c)) (refused n p) j f g e = absurd (refused-ok n p (Heard.Ends j) e)
 earlier-small (refused n p) (ok (ends_in b)) j f g e = let z : b ≡ j = cc in omega (arith, z, g b refl)
-earlier-small (refused n p) (ok (clear d)) j f g e = absurd (refused-ok n p (ends_on j) e)
-earlier-small (refused n p) (refused i q) j f g e = absurd (refused-ok n p (ends_on j) e)
+earlier-small (refused n p) (ok (clear d)) j f g e = absurd (refused-ok n p (Heard.Ends j) e)
+earlier-small (refused n p) (refused i q) j f g e = absurd (refused-ok n p (Heard.Ends j) e)
 
 -- what the strand says of P from a state, of a stretch that may be asked about
 module _ (P : List ℕ) (strand : Strand) (st : ℕ) (s : List ℕ) where
@@ -181,13 +179,13 @@ module _ (P : List ℕ) (strand : Strand) (st : ℕ) (s : List ℕ) where
       (entered P st s f, g)
 
   hit-clear : (b : Bool) (k a : ℕ) (o : Outcome Hit) → cond b (ok (ends_in k)) o ≡ ok (clear a) → o ≡ ok (clear a)
-  hit-clear true k a o e = absurd (let z : ◌≡◌ {A = ℕ} 0 1 = cc in omega arith)
+  hit-clear true k a o e = absurd cc
   hit-clear false k a o e = e
 
   hit-small : (b : Bool) (k j : ℕ) (o : Outcome Text) (Q : List ℕ) → ltb k none ≡ b
       → cond b (ok (ends_in k)) (after o λ t. ok (clear (run Q st t))) ≡ ok (ends_in j) → j < none
   hit-small true k j o Q e h = let z : k ≡ j = cc in (let y : j < none = omega (arith, z, ltb-true k none e) in y)
-  hit-small false k j (ok t) Q e h = absurd (let z : ◌≡◌ {A = ℕ} 0 1 = cc in omega arith)
+  hit-small false k j (ok t) Q e h = absurd cc
   hit-small false k j (refused n p) Q e h = absurd (refused-ok n p (ends_in j) h)
 
   -- an end is a segment's number
@@ -214,23 +212,10 @@ module _ (P : List ℕ) (strand : Strand) (st : ℕ) (s : List ℕ) where
   unfolding firsting hitting
   clear-said t y sound e = entering-sound P st s y _ ∙ rw (e, sound) refl
 
-goes-inj : {x y : Standing} → goes x ≡ goes y → x ≡ y
-goes-inj e = cc
-
 -- a mark for each segment
 both_long : (P : List ℕ) (x : Standing) (t : Text) → length (both_marks P x t) ≡ length t
 unfolding both_marks
 both_long P x t = from-length P x.state.given x.state.opposite t
-
--- where a sequence stands, from the sums of its segments
-pub ended_is : (x : Standing) (k read all : ℕ) → read ≡ plus k 1 → all ≡ plus x.segments read
-    → record { state = x.state; segments = all; ends = 1 } ≡ ended x k
-ended_is x k read all up count =
-    ap (λ (n : ℕ). record { state = x.state; segments = n; ends = 1 }) (count ∙ ap (plus x.segments) up)
-
-pub gone-is : (x : Standing) (y : Pair) (n all : ℕ) → all ≡ plus x.segments n
-    → record { state = y; segments = all; ends = 0 } ≡ gone x y.given y.opposite n
-gone-is x y n all count = ap (λ (m : ℕ). record { state = y; segments = m; ends = 0 }) count
 
 module _ (P : List ℕ) (x : Standing) (s : List ℕ) where
   -- a sequence that has ended stays where it stands
@@ -238,42 +223,25 @@ module _ (P : List ℕ) (x : Standing) (s : List ℕ) where
   unfolding halting
   halting-stays e = rw (ne_eqb x.ends 0 e) refl
 
-  module _ (e : x.ends ≡ 0) where
-    pub halting-on : halting P x s ≡ after (on_both P x s) (λ h. ok (halted x s h))
-    unfolding halting
-    halting-on = rw (eq-eqb x.ends 0 e) refl
-
-    halting-by : (h : Outcome Either) → h ≡ on_both P x s → after h (λ e. ok (halted x s e)) ≡ halting P x s
-    halting-by h told = ap (λ (o : Outcome Either). after o (λ e. ok (halted x s e))) told ∙ sym halting-on
-
-    -- from what both strands say, and what the stretch states
-    module _ (r : Heard) (told : told_heard r ≡ on_both P x s) where
-      pub halting-not : (w : Refusal) → r ≡ Heard.Refused w → refused w.number w.place ≡ halting P x s
-      halting-not w is = halting-by (refused w.number w.place) (sym (ap told_heard is) ∙ told)
-
-      pub halting-ends : (k : ℕ) (y : Standing) → r ≡ Heard.Ends k → y ≡ ended x k → ok (at k y) ≡ halting P x s
-      halting-ends k y is there = ap (λ (z : Standing). ok (at k z)) there ∙ halting-by (ok (ends_on k)) (sym (ap told_heard is) ∙ told)
-
-      pub halting-goes : (y : Pair) (n : ℕ) (z : Standing) → r ≡ Heard.Nowhere y → n ≡ word_at s 0 → z ≡ gone x y.given y.opposite n
-          → ok (goes z) ≡ halting P x s
-      halting-goes y n z is count there =
-          ap (λ (u : Standing). ok (goes u)) (there ∙ ap (gone x y.given y.opposite) count)
-          ∙ halting-by (ok (nowhere y.given y.opposite)) (sym (ap told_heard is) ∙ told)
+  -- one that has not, by what both strands say
+  pub halting-on : x.ends ≡ 0 → after (on_both P x s) (λ h. ok (halted x s h)) ≡ halting P x s
+  unfolding halting
+  halting-on e = rw (eq-eqb x.ends 0 e) refl
 
   -- where both strands say that nothing ends
-  module _ (a b : ℕ) (own : firsting P Given x.state.given s ≡ ok (clear a))
-      (turned : firsting P Opposite x.state.opposite s ≡ ok (clear b)) where
-    pub nothing_ends : (y : Standing) → x.ends ≡ 0 → goes (gone x a b (word_at s 0)) ≡ goes y
+  module _ (z : Pair) (own : firsting P Given x.state.given s ≡ ok (clear z.given))
+      (turned : firsting P Opposite x.state.opposite s ≡ ok (clear z.opposite)) where
+    pub nothing_ends : (y : Standing) → x.ends ≡ 0 → gone x z (word_at s 0) ≡ y
         → (t : Text) × (passing P x s most_in_stretch ≡ ok t) × (y ≡ stood P x t) × (y.ends ≡ 0)
     unfolding passing seeking_both into stood both_marks either_from plus first_in
     nothing_ends y e rest =
-        let (t, sound, state) = said-clear P Given x.state.given s a own in
-        let (u, again, back) = said-clear P Opposite x.state.opposite s b turned in
+        let (t, sound, state) = said-clear P Given x.state.given s z.given own in
+        let (u, again, back) = said-clear P Opposite x.state.opposite s z.opposite turned in
         let same : u ≡ t = ok-inj (sym again ∙ sound) in
         let r = reads_whole s t sound in
         let room : leb (length t) most_in_stretch ≡ true = le-leb (length t) most_in_stretch (stretch-most s t sound) in
-        let x1 = (said-entered P Given x.state.given s (clear a) own).0 in
-        let x2 = (said-entered P Opposite x.state.opposite s (clear b) turned).0 in
+        let x1 = (said-entered P Given x.state.given s (clear z.given) own).0 in
+        let x2 = (said-entered P Opposite x.state.opposite s (clear z.opposite) turned).0 in
         let opens = both-sound P x.state.given x.state.opposite s x1 x2.state (stretch_into s most_in_stretch) in
         let n1 : first_end (marks_from P x.state.given t) ≡ none =
         ap (λ (T : Text). first_end (marks_from P x.state.given T)) (sym r.all)
@@ -285,8 +253,8 @@ module _ (P : List ℕ) (x : Standing) (s : List ℕ) where
         let zero-ends : length (marked_from 0 (both_marks P x t)) ≡ 0 =
         none-count 0 (both_marks P x t) few (united-first P (opposite P) x.state.given x.state.opposite t ∙ ap₂ min n1 n2) in
         let counted : 0 ≡ plus x.ends (length (marked_from 0 (both_marks P x t))) = omega (arith, e, zero-ends) in
-        let is : gone x a b (length t) ≡ y = sym (ap (gone x a b) r.states) ∙ goes-inj rest in
-        let other : run (opposite P) x.state.opposite t ≡ b = ap (run (opposite P) x.state.opposite) (sym same) ∙ back in (
+        let is : gone x z (length t) ≡ y = sym (ap (gone x z) r.states) ∙ rest in
+        let other : run (opposite P) x.state.opposite t ≡ z.opposite = ap (run (opposite P) x.state.opposite) (sym same) ∙ back in (
           t,
           rw (opens, sound, room) refl,
           sym is
@@ -296,7 +264,7 @@ module _ (P : List ℕ) (x : Standing) (s : List ℕ) where
                 segments = plus x.segments (length t);
                 ends = counted i;
               }),
-          sym (ap (λ (z : Standing). z.ends) is),
+          sym (ap (λ (w : Standing). w.ends) is),
         )
 
   -- nothing ends: the plain search accepts the stretch, and the sequence stands where that leads
@@ -304,15 +272,15 @@ module _ (P : List ℕ) (x : Standing) (s : List ℕ) where
       → (t : Text) × (passing P x s most_in_stretch ≡ ok t) × (y ≡ stood P x t) × (y.ends ≡ 0)
   unfolding on_both
   goes-stood e y met =
-      let (h, heard, rest) = after-met (on_both P x s) (λ h. ok (halted x s h)) (goes y) (sym (halting-on e) ∙ met) in
+      let (h, heard, rest) = after-met (on_both P x s) (λ h. ok (halted x s h)) (goes y) (halting-on e ∙ met) in
       go h heard (ok-inj rest)
     where
-      go : (h : Either) → on_both P x s ≡ ok h → halted x s h ≡ goes y
+      go : (h : Heard) → on_both P x s ≡ ok h → halted x s h ≡ goes y
           → (t : Text) × (passing P x s most_in_stretch ≡ ok t) × (y ≡ stood P x t) × (y.ends ≡ 0)
-      go (ends_on k) heard rest = absurd (let z : ◌≡◌ {A = ℕ} 0 1 = cc in omega arith)
-      go (nowhere a b) heard rest =
-          let (own, turned) = earlier-nowhere (firsting P Given x.state.given s) (firsting P Opposite x.state.opposite s) a b heard in
-          nothing_ends a b own turned y e rest
+      go (Heard.Ends k) heard rest = let ends : Some k ≡ None = ap (λ (h : Stopped). h.end) rest in absurd cc
+      go (Heard.Nowhere z) heard rest =
+          let (own, turned) = earlier-nowhere (firsting P Given x.state.given s) (firsting P Opposite x.state.opposite s) z heard in
+          nothing_ends z own turned y e (ap (λ (h : Stopped). h.standing) rest)
 
   -- where the plain search finds nothing, nothing ends
   pub stood-goes : (t : Text) → passing P x s most_in_stretch ≡ ok t → x.ends ≡ 0 → (stood P x t).ends ≡ 0
@@ -334,40 +302,38 @@ module _ (P : List ℕ) (x : Standing) (s : List ℕ) where
       (ap (λ (T : Text). first_end (marks_from (opposite P) x.state.opposite T)) r.all ∙ n2) in
       let a : ℕ = run P x.state.given t in
       let b : ℕ = run (opposite P) x.state.opposite t in
-      let heard : on_both P x s ≡ ok (nowhere a b) = ap₂ earlier c1 c2 in
+      let z : Pair = record { given = a; opposite = b } in
+      let heard : on_both P x s ≡ ok (Heard.Nowhere z) = ap₂ earlier c1 c2 in
       let counted : 0 ≡ plus x.ends (length (marked_from 0 (both_marks P x t))) = sym zero-ends in
-      halting-on e ∙ ap (λ (o : Outcome Either). after o (λ h. ok (halted x s h))) heard
-      ∙ ap (λ (n : ℕ). ok (goes (gone x a b n))) r.states
+      sym (halting-on e) ∙ ap (λ (o : Outcome Heard). after o (λ h. ok (halted x s h))) heard
+      ∙ ap (λ (n : ℕ). ok (goes (gone x z n))) r.states
       ∙ (λ i.
       let segments : ℕ = plus x.segments (length t) in
-      ok (goes (record { state = record { given = a; opposite = b }; segments = segments; ends = counted i })))
+      ok (goes (record { state = z; segments = segments; ends = counted i })))
 
   -- an end: both strands say that it is there
-  pub at-heard : x.ends ≡ 0 → (k : ℕ) (y : Standing) → halting P x s ≡ ok (at k y) → (on_both P x s ≡ ok (ends_on k)) × (y ≡ ended x k)
+  pub at-heard : x.ends ≡ 0 → (k : ℕ) (y : Standing) → halting P x s ≡ ok (at k y) → (on_both P x s ≡ ok (Heard.Ends k)) × (y ≡ ended x k)
   at-heard e k y met =
-      let (h, heard, rest) = after-met (on_both P x s) (λ h. ok (halted x s h)) (at k y) (sym (halting-on e) ∙ met) in
+      let (h, heard, rest) = after-met (on_both P x s) (λ h. ok (halted x s h)) (at k y) (halting-on e ∙ met) in
       go h heard (ok-inj rest)
     where
-      not_at : {z : Standing} → goes z ≡ at k y → ⊥
-      not_at e = let z : ◌≡◌ {A = ℕ} 0 1 = cc in (let u : ⊥ = omega arith in u)
-
-      go : (h : Either) → on_both P x s ≡ ok h → halted x s h ≡ at k y → (on_both P x s ≡ ok (ends_on k)) × (y ≡ ended x k)
-      go (ends_on j) heard rest =
+      go : (h : Heard) → on_both P x s ≡ ok h → halted x s h ≡ at k y → (on_both P x s ≡ ok (Heard.Ends k)) × (y ≡ ended x k)
+      go (Heard.Ends j) heard rest =
+          let both : Some j ≡ Some k = ap (λ (h : Stopped). h.end) rest in
           let same : j ≡ k = cc in
-          let there : ended x j ≡ y = cc in
-          (heard ∙ ap (λ (i : ℕ). ok (ends_on i)) same, sym there ∙ ap (ended x) same)
-      go (nowhere a b) heard rest = absurd (not_at rest)
+          (heard ∙ ap (λ (i : ℕ). ok (Heard.Ends i)) same, sym (ap (λ (h : Stopped). h.standing) rest) ∙ ap (ended x) same)
+      go (Heard.Nowhere z) heard rest = let ends : None ≡ Some k = ap (λ (h : Stopped). h.end) rest in absurd cc
 
   -- and it is the first of what reads whole
   pub at_first : SoundPattern P → is_state (length P) x.state.given ≡ true → is_state (length P) x.state.opposite ≡ true
-      → (k : ℕ) → on_both P x s ≡ ok (ends_on k) → (k ≡ first_end (both_marks P x (whole_of s))) × (k < none)
+      → (k : ℕ) → on_both P x s ≡ ok (Heard.Ends k) → (k ≡ first_end (both_marks P x (whole_of s))) × (k < none)
   unfolding on_both both_marks either_from first_in firsting
   at_first sound i j k heard =
       by_cases (dec_lt greatest_stretch (length s))
       (λ (long : greatest_stretch < length s).
       let own = entering-over P x.state.given s sound long (hitting P x.state.given s) in
       let turned = entering-over P x.state.opposite s sound long (hitting (opposite P) x.state.opposite s) in
-      absurd (refused-ok 4 0 (ends_on k) (sym (ap₂ earlier own turned) ∙ heard)))
+      absurd (refused-ok 4 0 (Heard.Ends k) (sym (ap₂ earlier own turned) ∙ heard)))
       (λ (short : ¬ (greatest_stretch < length s)).
       let fits : length s ≤ greatest_stretch = omega arith in
       let e1 = said-end P Given x.state.given s (record { sound = sound; short = fits; state = i }) in
@@ -391,7 +357,7 @@ pub halts-stay : (P : List ℕ) (x : Standing) (ss : List (List ℕ)) → (x.end
 unfolding halts
 halts-stay P x [] e = refl
 halts-stay P x (s ∷ ss) e =
-    ap (λ (o : Outcome Halt). after o (λ h. halts P (reached h) ss)) (sym (halting-stays P x s e)) ∙ halts-stay P x ss e
+    ap (λ (o : Outcome Stopped). after o (λ h. halts P h.standing ss)) (sym (halting-stays P x s e)) ∙ halts-stay P x ss e
 
 -- where nothing has ended, the plain search has come to the same
 pub halts-stands : (P : List ℕ) (x : Standing) (ss : List (List ℕ)) (y : Standing) → x.ends ≡ 0 → halts P x ss ≡ ok y → y.ends ≡ 0
@@ -399,19 +365,19 @@ pub halts-stands : (P : List ℕ) (x : Standing) (ss : List (List ℕ)) (y : Sta
 unfolding halts stands
 halts-stands P x [] y e met none-there = met
 halts-stands P x (s ∷ ss) y e met none-there =
-    let (h, here, more) = after-met (halting P x s) (λ h. halts P (reached h) ss) y met in
-    go h here more (λ z. halts-stands P z ss y)
+    let (h, here, more) = after-met (halting P x s) (λ h. halts P h.standing ss) y met in
+    go h.end h.standing here more (λ z. halts-stands P z ss y)
   where
-    go : (h : Halt) → halting P x s ≡ ok h → halts P (reached h) ss ≡ ok y
+    go : (k : Option ℕ) (z : Standing) → halting P x s ≡ ok (record { end = k; standing = z }) → halts P z ss ≡ ok y
         → ((z : Standing) → z.ends ≡ 0 → halts P z ss ≡ ok y → y.ends ≡ 0 → stands P z ss ≡ ok y)
         → after (passing P x s most_in_stretch) (λ t. stands P (stood P x t) ss) ≡ ok y
-    go (at k z) here more rest =
+    go (Some k) z here more rest =
         let is : z ≡ ended x k = (at-heard P x s e k z here).1 in
         let one : z.ends ≡ 1 = ap (λ (w : Standing). w.ends) is in
         let some : z.ends ≡ 0 → ⊥ = λ n. (let u : ⊥ = omega (arith, one, n) in u) in
         let same : z ≡ y = ok-inj (sym (halts-stay P z ss some) ∙ more) in
         absurd (some (ap (λ (w : Standing). w.ends) same ∙ none-there))
-    go (goes z) here more rest =
+    go None z here more rest =
         let (t, passed, is, zero-ends) = goes-stood P x s e z here in
         ap (λ (o : Outcome Text). after o (λ t. stands P (stood P x t) ss)) passed
         ∙ ap (λ (w : Standing). stands P w ss) (sym is)
@@ -426,4 +392,4 @@ stands-halts P x (s ∷ ss) y met none-there =
     let (t, here, more) = after-met (passing P x s most_in_stretch) (λ t. stands P (stood P x t) ss) y met in
     let (zero-ends, rest) = stands-halts P (stood P x t) ss y more none-there in
     let e : x.ends ≡ 0 = ends-before P x t zero-ends in
-    (e, ap (λ (o : Outcome Halt). after o (λ h. halts P (reached h) ss)) (stood-goes P x s t here e zero-ends) ∙ rest)
+    (e, ap (λ (o : Outcome Stopped). after o (λ h. halts P h.standing ss)) (stood-goes P x s t here e zero-ends) ∙ rest)

@@ -1,5 +1,4 @@
 -- Laws of the definitions in specs/.
-pub mod Saying
 pub mod NextMarked
 pub mod Standings
 pub mod Firsts

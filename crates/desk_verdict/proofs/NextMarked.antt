@@ -1,15 +1,16 @@
 -- Laws of the marked segments looked for one after another.
 use Prim.Native.Nat.{ℕ, suc, ◌+◌, ◌≤◌, ◌<◌}
 use native.Mathlib.Omega.{arith}
-use mathlib.Core.Path.{◌≡◌, refl, sym, ◌∙◌}
+use mathlib.Core.Path.{◌≡◌, refl, ◌∙◌}
 use mathlib.Core.Bool.{not}
-use mathlib.Core.List.{List, []}
-use borrow.Author.Tests.{eq-eqb, ne_eqb}
+use mathlib.Core.List.{List}
+use borrow.Author.Tests.{eq-eqb, ne_eqb, lt-ltb, le-ltb}
 use lib.Dec.{eqb}
-use lib.ListN.{length, drop, get_or, drop_of_length-le}
+use lib.ListN.{length, drop, get_or}
+use Rattle.std.proofs.Common.{Some, None}
 use Rattle.text.specs.Letter.{first_not}
 use Rattle.text.proofs.Letters.{first-at}
-use Rattle.desk_verdict.specs.Standing.{next_marked}
+use Rattle.desk_verdict.specs.Standing.{next_marked, next_mark}
 
 -- no segment from `start` on and before j is marked
 pub record Passing (marks : List ℕ) (start j : ℕ) : Type 0 where
@@ -31,16 +32,16 @@ module _ {marks : List ℕ} {start j : ℕ} (p : Passing marks start j) where
             ∙ (let z : next_marked marks j ≡ next_marked marks (j + 1) = omega (arith, step) in z);
       }
 
-  pub passing-marked : j < length marks → get_or marks j 0 ≡ 1 → j ≡ next_marked marks start
+  pub passing-marked : j < length marks → get_or marks j 0 ≡ 1 → Some j ≡ next_mark marks start
   unfolding next_marked
   passing-marked l e =
       let step : first_not (λ x. not (eqb x 1)) (drop j marks) ≡ 0 =
       first-at (λ x. not (eqb x 1)) marks j l ∙ rw (eq-eqb (get_or marks j 0) 1 e) refl in
-      sym (p.same ∙ (let z : next_marked marks j ≡ j = omega (arith, step) in z))
+      let is : next_marked marks start ≡ j = p.same ∙ (let z : next_marked marks j ≡ j = omega (arith, step) in z) in
+      rw (is, lt-ltb j (length marks) l) refl
 
-  pub passing-end : length marks ≤ j → j ≡ next_marked marks start
-  unfolding next_marked first_not
+  pub passing-end : length marks ≤ j → None ≡ next_mark marks start
+  unfolding next_marked
   passing-end l =
-      let none : drop j marks ≡ [] = drop_of_length-le marks l in
-      let step : first_not (λ x. not (eqb x 1)) (drop j marks) ≡ 0 = rw none refl in
-      sym (p.same ∙ (let z : next_marked marks j ≡ j = omega (arith, step) in z))
+      let far : length marks ≤ next_marked marks start = omega (arith, p.same) in
+      rw (le-ltb (next_marked marks start) (length marks) far) refl

@@ -7,6 +7,7 @@ use mathlib.Core.List.{List, [], ◌∷◌}
 use borrow.Author.Tests.{leb-true}
 use lib.Dec.{leb}
 use lib.ListN.{length}
+use Rattle.std.proofs.Common.{Result, Ok}
 use Rattle.text.specs.Text.{Text, total}
 use Rattle.text.specs.State.{next, ends, run, marks_from}
 use Rattle.text.specs.Strand.{opposite}
@@ -23,10 +24,10 @@ use Rattle.search.specs.declared.both.SoughtBoth.TheVariants.{Marked, Refused}
 use Rattle.search.proofs.Entries.{Entered}
 use Rattle.search.proofs.Eithers.{united-marks, both-after, both-entered}
 use Rattle.lines.specs.Answer.{marked_from}
-use Rattle.desk_verdict.specs.Standing.{plus, passing, both_marks, stood, Behind, behind, told_passed}
+use Rattle.text.specs.Refusal.{outcome}
+use Rattle.desk_verdict.specs.Standing.{plus, passing, both_marks, stood, behind}
 use Rattle.desk_verdict.specs.declared.standing.Standing.{Standing}
 use Rattle.desk_verdict.specs.declared.standing.Passed.{Passed}
-use Rattle.desk_verdict.specs.declared.standing.Passed.TheVariants.{To}
 
 -- what an accepted search has found of its pattern, of a state of each strand and of its stretch, and that there was room for its marks
 pub both-sought : (P : List ℕ) (st re : ℕ) (s : List ℕ) (room : ℕ) (t : Text) → seeking_both P st re s room ≡ ok t
@@ -43,13 +44,13 @@ both-sought P st re s room t e =
     (y.own, turned, h ∙ same, rw (ok-inj same) at few)
 
 -- an accepted stretch has no more segments than there is room for marks
-pub passed-room : (P : List ℕ) (x : Standing) (s : List ℕ) (room : ℕ) {r : Passed} {n : ℕ} {y : Standing}
-    → told_passed r ≡ after (passing P x s room) (λ t. ok (behind P x t)) → r ≡ To n y → n ≤ room
+pub passed-room : (P : List ℕ) (x : Standing) (s : List ℕ) (room : ℕ) {r : Result Passed Refusal} {y : Passed}
+    → outcome r ≡ after (passing P x s room) (λ t. ok (behind P x t)) → r ≡ Ok y → y.segments ≤ room
 unfolding passing
-passed-room P x s room {r} {n} {y} told e =
-    let (t, met, is) = told-met (passing P x s room) (behind P x) (record { segments = n; standing = y }) (sym told ∙ ap told_passed e) in
-    let count : length t ≡ n = ap (λ (b : Behind). b.segments) is in
-    omega (arith, (both-sought P x.state.given x.state.opposite s room t met).3, count)
+passed-room P x s room {r} {y} met e =
+    let (t, sound, is) = told-met (passing P x s room) (behind P x) y (sym met ∙ ap outcome e) in
+    let count : length t ≡ y.segments = ap (λ (z : Passed). z.segments) is in
+    omega (arith, (both-sought P x.state.given x.state.opposite s room t sound).3, count)
 
 -- the sum of marks that are 0 or 1 is the number of those that are 1
 counted-one : (b : Bool) (j : ℕ) (l : List ℕ) → total (λ x. x) l ≡ length (marked_from (suc j) l)
@@ -73,22 +74,22 @@ counted P Q st re j (g ∷ T) =
 
 module _ (P : List ℕ) (x : Standing) (s : List ℕ) (room : ℕ) where
   -- what `pass` tells, and what it leaves of the buffer d
-  abbrev pub Passes : Outcome Behind → List ℕ → List ℕ → Type 0
-  Passes told d out =
-      (told ≡ after (passing P x s room) (λ t. ok (behind P x t))) × (out ≡ left_by (both_marks P x) (passing P x s room) d)
+  abbrev pub Passes : Outcome Passed → List ℕ → List ℕ → Type 0
+  Passes said d out =
+      (said ≡ after (passing P x s room) (λ t. ok (behind P x t))) × (out ≡ left_by (both_marks P x) (passing P x s room) d)
 
   -- what the search answers
   abbrev sought : Outcome Text
   sought = seeking_both P x.state.given x.state.opposite s room
 
   module _ (d left : List ℕ) (r : SoughtBoth)
-      (told : told_both r ≡ after sought (λ t. ok (seen_both P x.state.given x.state.opposite t)))
+      (met : told_both r ≡ after sought (λ t. ok (seen_both P x.state.given x.state.opposite t)))
       (wrote : left ≡ left_by (either_from P x.state.given x.state.opposite) sought d) where
     pub passes-not : (w : Refusal) → r ≡ Refused w → Passes (refused w.number w.place) d left
     unfolding passing both_marks
     passes-not w e =
         let none = told-refused sought (seen_both P x.state.given x.state.opposite) w.number w.place
-        (sym told ∙ ap told_both e) in
+        (sym met ∙ ap told_both e) in
         (rw none refl, wrote)
 
     pub passes-to : (n z m : ℕ) (y : Pair) → r ≡ Marked n z m y → (all more : ℕ) → all ≡ plus x.segments n → more ≡ plus x.ends m
@@ -102,7 +103,7 @@ module _ (P : List ℕ) (x : Standing) (s : List ℕ) (room : ℕ) where
     passes-to n z m y e all more a b =
         let st : ℕ = x.state.given in
         let re : ℕ = x.state.opposite in
-        let f = told-met (seeking_both P st re s room) (seen_both P st re) _ (sym told ∙ ap told_both e) in
+        let f = told-met (seeking_both P st re s room) (seen_both P st re) _ (sym met ∙ ap told_both e) in
         let t : Text = f.0 in
         let marks : List ℕ = united (marks_from P st t) (marks_from (opposite P) re t) in
         let count : length t ≡ n = ap (λ (v : SeenBoth). v.segments) f.2 in

@@ -1,16 +1,15 @@
 -- Where a withheld sequence stands after the stretches of a text, searched one after another on both strands.
-use Rattle.std.specs.Prelude.{ℕ, ◌+◌, min, not, List, [], ◌∷◌, eqb, length, drop}
+use Rattle.std.specs.Prelude.{ℕ, ◌+◌, min, cond, not, List, [], ◌∷◌, eqb, ltb, length, drop, Option, Some, None}
 use Rattle.text.specs.Letter.{first_not}
 use Rattle.text.specs.Text.{Text}
 use Rattle.text.specs.State.{run}
 use Rattle.text.specs.Strand.{opposite}
-use Rattle.text.specs.Refusal.{Outcome, ok, refused, after}
+use Rattle.text.specs.Refusal.{Outcome, ok, after}
 use Rattle.layout.specs.Pieces.{most_in_stretch}
 use Rattle.search.specs.Either.{either_from, seeking_both}
 use Rattle.lines.specs.Answer.{marked_from}
 use Rattle.desk_verdict.specs.declared.standing.Standing.{Standing}
 use Rattle.desk_verdict.specs.declared.standing.Passed.{Passed}
-use Rattle.desk_verdict.specs.declared.standing.Passed.TheVariants.{To, Refused}
 
 -- a sum that stays at the greatest number of 64 bits
 unfoldable pub plus : ℕ → ℕ → ℕ
@@ -19,6 +18,10 @@ plus a b = min (a + b) 0xffffffffffffffff
 -- the first place from `from` on whose mark is 1
 unfoldable pub next_marked : List ℕ → ℕ → ℕ
 next_marked marks from = from + first_not (λ x. not (eqb x 1)) (drop from marks)
+
+-- that place, if it is one of the marks
+abbrev pub next_mark : List ℕ → ℕ → Option ℕ
+next_mark marks from = cond (ltb (next_marked marks from) (length marks)) (Some (next_marked marks from)) None
 
 -- a stretch that is searched on both strands, each from where it stands: the refusals of the search
 unfoldable pub passing : List ℕ → Standing → List ℕ → ℕ → Outcome Text
@@ -38,16 +41,8 @@ stood P x t =
     }
 
 -- what is told of a stretch: its segment count, and where the sequence stands after it
-pub record Behind : Type 0 where
-  pub segments : ℕ
-  pub standing : Standing
-
-abbrev pub behind : List ℕ → Standing → Text → Behind
+abbrev pub behind : List ℕ → Standing → Text → Passed
 behind P x t = record { segments = length t; standing = stood P x t }
-
-abbrev pub told_passed : Passed → Outcome Behind
-told_passed (To segments standing) = ok (record { segments = segments; standing = standing })
-told_passed (Refused r) = refused r.number r.place
 
 -- nothing is searched yet
 abbrev pub begun : Standing

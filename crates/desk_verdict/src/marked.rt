@@ -1,17 +1,16 @@
 // The marked segments, one after another.
-ghost use Rattle.std.specs.Prelude.{◌≡◌, ◌≤◌};
-ghost use Rattle.desk_verdict.specs.Standing.{next_marked};
+ghost use Rattle.std.specs.Prelude.{◌≡◌, ◌≤◌, IfSome};
+ghost use Rattle.desk_verdict.specs.Standing.{next_mark};
 
-// The first marked segment from `from` on; the number of segments where there is none.
-pub fn next_marked(marks: &[u8], from: usize) -> usize
-    ensures { (result ≡ next_marked marks.now from) × (from ≤ result) }
+// The first marked segment from `from` on, if there is one.
+pub fn next_marked(marks: &[u8], from: usize) -> Option<usize>
+    ensures value { result ≡ next_mark marks.now from }
+    ensures onward { IfSome result (λ j. from ≤ j) }
 {
-    let mut j = from;
-    while j < marks.len() {
+    for j in from..marks.len() {
         if marks[j] == 1 {
-            return j;
+            return Some(j);
         }
-        j += 1;
     }
-    j
+    None
 }

@@ -2,7 +2,8 @@
 ghost use Rattle.std.specs.Prelude.{◌≡◌, length};
 ghost use Rattle.text.specs.Refusal.{ok, after};
 ghost use Rattle.layout.specs.Bytes.{left_by};
-ghost use Rattle.desk_verdict.specs.Standing.{begun, passing, behind, both_marks, told_passed};
+ghost use Rattle.text.specs.Refusal.{outcome};
+ghost use Rattle.desk_verdict.specs.Standing.{begun, passing, behind, both_marks};
 
 use crate::sum::plus;
 use search::{Pair, SoughtBoth};
@@ -31,22 +32,27 @@ impl Standing {
 
 // The segment count of a stretch, and where the sequence stands after it.
 #[derive(Clone, Copy)]
-pub enum Passed {
-    To { segments: usize, standing: Standing },
-    Refused(Refusal),
+pub struct Passed {
+    pub segments: usize,
+    pub standing: Standing,
 }
 
 // Searches one more stretch on both strands at once, each from where it stands, and marks the segments in which the sequence ends on
 // either. A refusal is that of the search, and leaves the marks as they were.
-pub fn pass(pattern: &[u8], standing: Standing, stretch: &[u8], marks: &mut [u8]) -> Passed
-    ensures result_value { told_passed result ≡ after (passing pattern.now standing stretch.now (length marks.old))
+pub fn pass(
+    pattern: &[u8],
+    standing: Standing,
+    stretch: &[u8],
+    marks: &mut [u8],
+) -> Result<Passed, Refusal>
+    ensures result_value { outcome result ≡ after (passing pattern.now standing stretch.now (length marks.old))
         (λ t. ok (behind pattern.now standing t)) }
     ensures marks_after { marks.new ≡ left_by (both_marks pattern.now standing)
         (passing pattern.now standing stretch.now (length marks.old)) marks.old }
 {
     let before = standing.state;
     match before.through(pattern, stretch, &mut *marks) {
-        SoughtBoth::Refused(refused) => Passed::Refused(refused),
+        SoughtBoth::Refused(refused) => Err(refused),
         SoughtBoth::Marked {
             segments,
             size: _,
@@ -55,14 +61,14 @@ pub fn pass(pattern: &[u8], standing: Standing, stretch: &[u8], marks: &mut [u8]
         } => {
             let all = plus(standing.segments, segments as u64);
             let marked = plus(standing.ends, ends as u64);
-            Passed::To {
+            Ok(Passed {
                 segments,
                 standing: Standing {
                     state,
                     segments: all,
                     ends: marked,
                 },
-            }
+            })
         }
     }
 }

@@ -8,11 +8,10 @@ use lib.Seq.{append_snoc, get_or-append_seam}
 use Rattle.digest.specs.Words.{at, block_at, first32}
 use Rattle.digest.specs.Compression.{F}
 use Rattle.digest.specs.Blake2b.{after, before, blake2b256}
-use Rattle.digest.specs.Structs.{total, offset}
 use Rattle.digest.specs.Updating.{begun, passed, put, with_byte, with_bytes, end_of}
 use Rattle.digest.specs.declared.Hashing.{Hashing}
 use Rattle.digest.proofs.Bytes.{block_same}
-use Rattle.digest.proofs.Offsets.{total-offset, F-wraps}
+use Rattle.digest.proofs.Offsets.{F-wraps}
 use Rattle.digest.proofs.Updates.{roomy, full}
 
 -- the hash x has passed the first i blocks of s and holds the rest
@@ -21,7 +20,7 @@ pub record Holds (i : ℕ) (x : Hashing) (s : List ℕ) : Type 0 where
   pub sized : length s ≡ i * 128 + x.c
   pub wide : length x.b ≡ 128
   pub holds : (k : ℕ) → at x.b k ≡ at s (i * 128 + k)
-  pub counts : total x.t ≡ i * 128 % 2 ^ 128
+  pub counts : x.t ≡ i * 128 % 2 ^ 128
 
 -- it holds the last block, and has passed all others
 abbrev pub Stands : Hashing → List ℕ → Type 0
@@ -45,7 +44,7 @@ zeros (suc n) zero = refl
 zeros (suc n) (suc k) = zeros n k
 
 pub stands-begun : Stands begun []
-unfolding before after begun offset
+unfolding before after begun
 stands-begun = record { state = refl; sized = refl; wide = refl; holds = λ k. zeros 128 k; counts = refl }
 
 -- a byte that is appended changes no other place
@@ -64,12 +63,12 @@ module _ (i : ℕ) (x : Hashing) (s : List ℕ) (a : Holds i x s) where
   same = block_same x.b s 0 (i * 128) (λ k l. ap (at x.b) (zero-add k) ∙ a.holds k)
 
   -- the offset n bytes further on, as F reads it
-  counted : (n : ℕ) → (total x.t + n) % 2 ^ 128 ≡ (i * 128 + n) % 2 ^ 128
+  counted : (n : ℕ) → (x.t + n) % 2 ^ 128 ≡ (i * 128 + n) % 2 ^ 128
   counted n = ap (λ (t : ℕ). (t + n) % 2 ^ 128) a.counts ∙ mod-add-mod (i * 128) (2 ^ 128) n
 
-  F-counted : (n : ℕ) (h m : List ℕ) (f : Bool) → F h m (total x.t + n) f ≡ F h m (i * 128 + n) f
+  F-counted : (n : ℕ) (h m : List ℕ) (f : Bool) → F h m (x.t + n) f ≡ F h m (i * 128 + n) f
   F-counted n h m f =
-      sym (F-wraps h m (total x.t + n) f) ∙ ap (λ (t : ℕ). F h m t f) (counted n) ∙ F-wraps h m (i * 128 + n) f
+      sym (F-wraps h m (x.t + n) f) ∙ ap (λ (t : ℕ). F h m t f) (counted n) ∙ F-wraps h m (i * 128 + n) f
 
   -- one byte more, for which the block has room
   put_holds : (v : ℕ) → x.c < 128 → Holds i (put x v) (s ++ v ∷ [])
@@ -105,7 +104,7 @@ module _ (i : ℕ) (x : Hashing) (s : List ℕ) (a : Holds i x s) where
         sized = omega (arith, a.sized);
         wide = refl;
         holds = λ k. zeros 128 k ∙ sym (get_or-eq_default s 0 (let w : length s ≤ suc i * 128 + k = omega (arith, a.sized) in w));
-        counts = total-offset (total x.t + 128) ∙ counted 128 ∙ ap (λ (t : ℕ). t % 2 ^ 128) z;
+        counts = counted 128 ∙ ap (λ (t : ℕ). t % 2 ^ 128) z;
       }
 
 module _ (x : Hashing) (s : List ℕ) (a : Stands x s) where

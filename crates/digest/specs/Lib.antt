@@ -3,5 +3,4 @@
 pub mod Words
 pub mod Compression
 pub mod Blake2b
-pub mod Structs
 pub mod Updating

@@ -1,21 +1,18 @@
 // A stretch back to braces.
-use crate::messages::write_front;
-use eds_notation::{Braced, put_braces};
-use files::{Read, fail, read_all};
+use eds_notation::put_braces;
+use files::{fail, read_all, write_all};
 use text::{limits, part};
 
 // Prints the braces of a stretch on a line, or its refusal.
 fn print(rt: &HostRuntime, stretch: &[u8]) {
     let mut out = [0u8; limits::GREATEST_STRETCH];
     match put_braces(stretch, &mut out) {
-        Braced::Refused(wrong) => {
-            let mut line = [0u8; 64];
-            let end = lines::put_refusal(wrong, &mut line, 0);
-            write_front(rt, &line, end);
+        Ok(end) => {
+            let _ = write_all(&mut rt.stdout(), part(&out, 0, end));
+            let _ = println!(rt);
         }
-        Braced::Bytes(end) => {
-            write_front(rt, &out, end);
-            files::write_all(&mut rt.stdout(), b"\n");
+        Err(wrong) => {
+            let _ = println!(rt; "refused {} at {}", wrong.number, wrong.place);
         }
     }
 }
@@ -25,8 +22,10 @@ fn print(rt: &HostRuntime, stretch: &[u8]) {
 pub fn print_braces(rt: &HostRuntime) {
     let mut bytes = [0u8; limits::GREATEST_STRETCH + 1];
     match read_all(&mut rt.stdin(), &mut bytes) {
-        Read::Failed(error) => fail(rt, b"standard input", error),
-        Read::Full => print(rt, &bytes),
-        Read::Whole(n) => print(rt, part(&bytes, 0, n)),
+        Ok(Some(stretch)) => print(rt, stretch),
+        Ok(None) => print(rt, &bytes),
+        Err(error) => {
+            fail(rt, b"standard input", error);
+        }
     }
 }

@@ -6,20 +6,18 @@
 
 mod back;
 mod forth;
-mod messages;
 
 use crate::back::print_braces;
 use crate::forth::convert;
 use files::{WORD, word};
-use text::compare::same;
-use text_files::is_nameable;
 
 fn main(rt: HostRuntime) {
     let mut name = [0u8; WORD];
-    let n = word(&rt, 1, &mut name);
-    if same(&name[..n], b"-d") {
+    let name = word(&rt, 1, &mut name);
+    if name == b"-d".as_slice() {
         print_braces(&rt);
-    } else if is_nameable(&rt, &name[..n]) {
-        convert(&rt, &name[..n]);
+    } else {
+        // What failed has been said, and the script reads the rest off what is printed.
+        let _ = convert(&rt, name);
     }
 }

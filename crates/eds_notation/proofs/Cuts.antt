@@ -1,16 +1,15 @@
 -- Laws of the cut: members moved to the front, and what is held before and after it.
-use Prim.Native.Nat.{ℕ, suc, ◌+◌, ◌-◌, ◌<◌, ◌≤◌}
-use native.Mathlib.Numerals.{add-one}
+use Prim.Native.Nat.{ℕ, ◌+◌, ◌-◌, ◌<◌, ◌≤◌}
 use native.Mathlib.Omega.{arith}
 use mathlib.Core.Path.{◌≡◌, refl, sym, ap, ◌∙◌}
 use mathlib.Core.Bool.{Bool, true, false, ◌&&◌}
-use mathlib.Core.List.{List, [], ◌∷◌, ◌++◌}
+use mathlib.Core.List.{List, [], ◌++◌, append_assoc}
 use lib.Dec.{leb}
 use borrow.Author.Tests.{le-leb, lt-leb, leb-true}
-use lib.ListN.{length, take, drop, get_or, set, length-set, length-drop, take-append-drop}
-use lib.Seq.{take-suc-set, take-suc, drop-set-lt, get_or-drop, drop-drop, take-add, length-take-le}
+use lib.ListN.{length, take, drop, length-drop}
+use lib.Seq.{paste, take-add, length-take-le}
 use Rattle.text.specs.Refusal.{Outcome, refused}
-use Rattle.text.proofs.Truth.{and_left, and_right, and-false, not-true-false}
+use Rattle.text.proofs.Truth.{and_left, and_right, and-false}
 use Rattle.layout.specs.Encoding.{encode}
 use Rattle.layout.specs.Bytes.{part, over, left_by}
 use Rattle.layout.proofs.Overs.{over-front}
@@ -47,9 +46,6 @@ module _ (t : Tape) (letters lengths : ℕ) where
         lengths-open = leb-true o.variants t.lengths (and_right (a && b && c) d e);
       }
 
-  pub within-not : (Within t letters lengths → ⊥) → false ≡ within t letters lengths
-  within-not h = sym (not-true-false (within t letters lengths) λ e. h (within-is e))
-
   pub within-last :
       t.letters ≤ letters → t.lengths ≤ lengths → t.begun.letters ≤ t.letters →
       leb t.begun.variants t.lengths ≡ within t letters lengths
@@ -72,55 +68,14 @@ module _ {t : Tape} {letters lengths : ℕ} (w : Within t letters lengths) where
   pub lengths-inside : t.lengths - t.begun.variants ≤ lengths
   lengths-inside = omega (arith, w.lengths-in)
 
--- i of n members have been moved from place `from` on to the front
-pub record Moving (d : List ℕ) (from n : ℕ) (l : List ℕ) (i : ℕ) : Type 0 where
-  pub room : from + n ≤ length d
-  pub whole : length l ≡ length d
-  pub upto : i ≤ n
-  pub moved : take i l ≡ take i (drop from d)
-  pub left : drop i l ≡ drop i d
-
-pub moving-none : (d : List ℕ) (from n : ℕ) → from + n ≤ length d → Moving d from n d 0
-moving-none d from n r = record { room = r; whole = refl; upto = omega arith; moved = refl; left = refl }
-
-module _ {d : List ℕ} {from n : ℕ} {l : List ℕ} {i : ℕ} (m : Moving d from n l i) where
-  pub moving-more : i < n → Moving d from n (set l i (get_or l (from + i) 0)) (i + 1)
-  moving-more k =
-      let x : ℕ = get_or l (from + i) 0 in
-      let one : i + 1 ≡ suc i = add-one i in
-      let inside : i < length l = omega (arith, m.whole, m.room) in
-      let far : i < length (drop from d) = omega (arith, length-drop from d, m.room) in
-      let turn : from + i ≡ i + from = omega arith in
-      let same : x ≡ get_or (drop from d) i 0 =
-      ap (λ (p : ℕ). get_or l p 0) turn
-      ∙ sym (get_or-drop i l from 0)
-      ∙ ap (λ (q : List ℕ). get_or q from 0) m.left
-      ∙ get_or-drop i d from 0
-      ∙ ap (λ (p : ℕ). get_or d p 0) (sym turn)
-      ∙ sym (get_or-drop from d i 0) in
-      let front : take (suc i) (set l i x) ≡ take (suc i) (drop from d) =
-      take-suc-set l i x inside
-      ∙ ap (λ (f : List ℕ). f ++ (x ∷ [])) m.moved
-      ∙ ap (λ (y : ℕ). take i (drop from d) ++ (y ∷ [])) same
-      ∙ sym (take-suc (drop from d) i 0 far) in
-      let rest : drop (suc i) (set l i x) ≡ drop (suc i) d =
-      drop-set-lt (suc i) l i x (omega arith)
-      ∙ ap (λ (p : ℕ). drop p l) (sym one)
-      ∙ sym (drop-drop 1 i l)
-      ∙ ap (λ (q : List ℕ). drop 1 q) m.left
-      ∙ drop-drop 1 i d
-      ∙ ap (λ (p : ℕ). drop p d) one in
-      record { room = m.room; whole = simp length-set m.whole; upto = omega arith; moved = rw one front; left = rw one rest }
-
-  pub moving-end : n ≤ i → l ≡ over d 0 (part d from n)
-  unfolding over
-  moving-end k =
-      let all : i ≡ n = omega (arith, m.upto) in
-      let front : take n l ≡ part d from n = rw all at m.moved in
-      let rest : drop n l ≡ drop n d = rw all at m.left in
-      let room : n ≤ length (drop from d) = omega (arith, length-drop from d, m.room) in
-      let size : 0 + length (part d from n) ≡ n = omega (arith, length-take-le n (drop from d) room) in
-      rw size (sym (take-append-drop n l) ∙ ap (λ (f : List ℕ). f ++ drop n l) front ∙ ap (λ (r : List ℕ). part d from n ++ r) rest)
+-- members that are moved to the front, as std says it and as a write over the list
+pub moved-front : (l : List ℕ) (n k : ℕ) → k ≤ n → n ≤ length l → paste l 0 (drop (n - k) l) (n - (n - k)) ≡ over l 0 (part l (n - k) k)
+unfolding over
+moved-front l n k le room =
+    let size : n - (n - k) ≡ k = omega arith in
+    let inside : k ≤ length (drop (n - k) l) = omega (arith, length-drop (n - k) l) in
+    let long : length (part l (n - k) k) ≡ k = length-take-le k (drop (n - k) l) inside in
+    rw (size, long) (append_assoc [] (take k (drop (n - k) l)) (drop (0 + k) l))
 
 -- the cut
 module _ (t : Tape) (letters lengths : List ℕ) where

@@ -5,27 +5,26 @@ use native.Mathlib.Omega.{arith}
 use native.Mathlib.Decide.{dec_lt}
 use mathlib.Core.Path.{◌≡◌, refl, sym, ap, ◌∙◌}
 use mathlib.Core.Logic.{by_cases}
-use mathlib.Core.Bool.{Bool, true, false, ◌&&◌, cond}
+use mathlib.Core.Bool.{Bool, true, false, ◌&&◌}
 use mathlib.Core.List.{List, ◌∷◌}
-use lib.Dec.{eqb, leb, ltb}
+use Rattle.std.proofs.Common.{Ok, Err}
+use lib.Dec.{leb, ltb}
 use lib.ListN.{length, take, drop, get_or, set, length-take, length-drop, drop_of_length-le}
 use lib.Seq.{drop-cons}
 use borrow.Author.Tests.{eq-eqb, ne_eqb, le-leb, lt-leb, le-ltb, lt-ltb, leb-true, ltb-true}
 use Rattle.text.proofs.Truth.{and_left, and_right, and-false, not-true-false}
 use Rattle.layout.specs.Sizes.{text_bytes}
 use Rattle.layout.specs.Bytes.{greatest_stretch, part}
-use Rattle.eds_notation.specs.Notation.{act_of}
-use Rattle.eds_notation.specs.Filling.{tape_of, Buffers, buffers, stands, repeated, sound, fits, no_room, leads}
+use Rattle.eds_notation.specs.Notation.{Doing, act_of}
+use Rattle.eds_notation.specs.Filling.{Stepped, tape_of, Buffers, buffers, stands, repeated, sound, fits, no_room, leads}
 use Rattle.eds_notation.specs.Filling.{letter_step, end_fits, variant_step, segment_step, step_of, length_put, count_put, puts, if_done}
 use Rattle.eds_notation.specs.Filling.{Came, came, on_from, read_on}
 use Rattle.eds_notation.specs.declared.notation.Begun.{Begun}
-use Rattle.eds_notation.specs.declared.notation.Act.{Act}
-use Rattle.eds_notation.specs.declared.notation.Act.TheVariants.{Pass, Letter, Variant, Segment, Wrong}
+use Rattle.eds_notation.specs.declared.notation.Act.TheVariants.{Pass, Letter, Variant, Segment}
+use Rattle.eds_notation.specs.declared.wrong.Wrong.{Wrong}
 use Rattle.eds_notation.specs.declared.filling.Tape.{Tape}
-use Rattle.eds_notation.specs.declared.filling.Step.{Step}
-use Rattle.eds_notation.specs.declared.filling.Step.TheVariants.{Done, Full}
-use Rattle.eds_notation.specs.declared.filling.Filled.{Filled}
-use Rattle.eds_notation.specs.declared.filling.Filled.TheVariants.{All}
+use Rattle.eds_notation.specs.declared.filling.Stop.{Stop}
+use Rattle.eds_notation.specs.declared.filling.Stop.TheVariants.{Full}
 
 -- what a tape that fits is
 pub record Fitting (t : Tape) (more another : ℕ) : Type 0 where
@@ -81,7 +80,7 @@ fitting-fits {t} {more} {another} f =
     ∙ le-leb (text_bytes (t.letters + more) (t.lengths + 1 + another) (t.counts + 1)) greatest_stretch f.bytes
 
 -- there is no room
-pub none-closed : (t : Tape) → t.counts ≡ 0 → Step.Wrong 8 ≡ no_room t
+pub none-closed : (t : Tape) → t.counts ≡ 0 → Stop.Wrong Wrong.Long ≡ no_room t
 unfolding no_room
 none-closed t e = rw (eq-eqb t.counts 0 e)
 
@@ -89,48 +88,35 @@ pub some-closed : (t : Tape) → (t.counts ≡ 0 → ⊥) → Full ≡ no_room t
 unfolding no_room
 some-closed t e = rw (ne_eqb t.counts 0 e)
 
-full-kept : {A : Type 0} (b : Bool) (new old : A) → old ≡ if_done (cond b (Step.Wrong 8) Full) new old
-unfolding if_done
-full-kept true new old = refl
-full-kept false new old = refl
-
-pub full-leaves : {A : Type 0} (t : Tape) (r : Step) → r ≡ no_room t → (new old : A) → old ≡ if_done r new old
-unfolding no_room
-full-leaves t r e new old = rw e (full-kept (eqb t.counts 0) new old)
-
 -- what each answer leaves, also where it is another call's
-pub done-leaves : {A : Type 0} (u : Tape) (new old : A) → new ≡ if_done (Done u) new old
+pub done-leaves : {A : Type 0} (u : Tape) (new old : A) → new ≡ if_done (Ok u) new old
 unfolding if_done
 done-leaves u new old = refl
 
-pub wrong-leaves : {A : Type 0} (n : ℕ) (new old : A) → old ≡ if_done (Step.Wrong n) new old
+pub stop-leaves : {A : Type 0} (stop : Stop) (new old : A) → old ≡ if_done (Err stop) new old
 unfolding if_done
-wrong-leaves n new old = refl
+stop-leaves stop new old = refl
 
-pub full-stays : {A : Type 0} (new old : A) → old ≡ if_done Full new old
-unfolding if_done
-full-stays new old = refl
-
-module _ {A : Type 0} (r : Step) (left new old : A) (p : left ≡ if_done r new old) where
-  pub left_as : (s : Step) → r ≡ s → left ≡ if_done s new old
+module _ {A : Type 0} (r : Stepped) (left new old : A) (p : left ≡ if_done r new old) where
+  pub left_as : (s : Stepped) → r ≡ s → left ≡ if_done s new old
   left_as s e = rw e at p
 
-  pub left-done : (w v : Tape) → r ≡ Done w → left ≡ if_done (Done v) new old
+  pub left-done : (w v : Tape) → r ≡ Ok w → left ≡ if_done (Ok v) new old
   unfolding if_done
-  left-done w v e = let q : left ≡ if_done (Done w) new old = rw e at p in q
+  left-done w v e = let q : left ≡ if_done (Ok w) new old = rw e at p in q
 
 -- one letter
 module _ (t : Tape) (o : Begun) (size : ℕ) where
-  pub letter-far : size ≤ t.letters → no_room t ≡ letter_step t o size
+  pub letter-far : size ≤ t.letters → Err (no_room t) ≡ letter_step t o size
   unfolding letter_step
   letter-far l = rw (le-ltb t.letters size l)
 
-  pub letter-full : fits t 1 0 ≡ false → no_room t ≡ letter_step t o size
+  pub letter-full : fits t 1 0 ≡ false → Err (no_room t) ≡ letter_step t o size
   unfolding letter_step
   letter-full e = rw (e, and-false (ltb t.letters size))
 
   pub letter-done :
-      t.letters < size → fits t 1 0 ≡ true → Done (tape_of (t.letters + 1) t.lengths t.counts o) ≡ letter_step t o size
+      t.letters < size → fits t 1 0 ≡ true → Ok (tape_of (t.letters + 1) t.lengths t.counts o) ≡ letter_step t o size
   unfolding letter_step
   letter-done l e = rw (e, lt-ltb t.letters size l)
 
@@ -145,15 +131,15 @@ open-size t another letters f l = simp (length-take, length-drop) (omega (arith,
 
 -- the end of a variant
 module _ (t : Tape) (o : Begun) (another : ℕ) (letters lengths : List ℕ) where
-  pub variant-far : length letters < t.letters → no_room t ≡ variant_step t o another letters lengths
+  pub variant-far : length letters < t.letters → Err (no_room t) ≡ variant_step t o another letters lengths
   unfolding variant_step end_fits
   variant-far l = rw (lt-leb t.letters (length letters) l)
 
-  pub variant-many : length lengths ≤ t.lengths → no_room t ≡ variant_step t o another letters lengths
+  pub variant-many : length lengths ≤ t.lengths → Err (no_room t) ≡ variant_step t o another letters lengths
   unfolding variant_step end_fits
   variant-many l = rw (le-ltb t.lengths (length lengths) l, and-false (leb t.letters (length letters)))
 
-  pub variant-full : fits t 0 another ≡ false → no_room t ≡ variant_step t o another letters lengths
+  pub variant-full : fits t 0 another ≡ false → Err (no_room t) ≡ variant_step t o another letters lengths
   unfolding variant_step end_fits
   variant-full e = rw (e, and-false (leb t.letters (length letters) && ltb t.lengths (length lengths)))
 
@@ -175,56 +161,43 @@ module _ (t : Tape) (o : Begun) (another : ℕ) (letters lengths : List ℕ) whe
             open-slice lengths t.lengths t.begun.variants f.lengths,
           ) at is
 
-      pub variant-repeated : again ≡ true → Step.Wrong 7 ≡ variant_step t o another letters lengths
+      pub variant-repeated : again ≡ true → Err (Stop.Wrong Wrong.Repeated) ≡ variant_step t o another letters lengths
       unfolding variant_step
       variant-repeated y = let z : repeated t letters lengths ≡ true = sym asked ∙ y in rw (room, z)
 
       pub variant-done :
-          again ≡ false → Done (tape_of t.letters (t.lengths + 1) t.counts o) ≡ variant_step t o another letters lengths
+          again ≡ false → Ok (tape_of t.letters (t.lengths + 1) t.counts o) ≡ variant_step t o another letters lengths
       unfolding variant_step
       variant-done y = let z : repeated t letters lengths ≡ false = sym asked ∙ y in rw (room, z)
 
 -- where an act leads
-not_done : (t w : Tape) → no_room t ≡ Done w → ⊥
-unfolding no_room
-not_done t w e = neither (eqb t.counts 0) e
-  where
-    neither : (b : Bool) → cond b (Step.Wrong 8) Full ≡ Done w → ⊥
-    neither true e = let z : ◌≡◌ {A = ℕ} 0 1 = cc in omega arith
-    neither false e = let z : ◌≡◌ {A = ℕ} 0 1 = cc in omega arith
-
 full-some : (t : Tape) → no_room t ≡ Full → 0 < t.counts
 unfolding no_room
 full-some t e =
     by_cases (dec_lt 0 t.counts) (λ (l : 0 < t.counts). l)
     (λ (l : ¬ (0 < t.counts)).
     let none : t.counts ≡ 0 = omega arith in
-    let f : Step.Wrong 8 ≡ Full = rw (eq-eqb t.counts 0 none) at e in
+    let f : Stop.Wrong Wrong.Long ≡ Full = rw (eq-eqb t.counts 0 none) at e in
     let z : ◌≡◌ {A = ℕ} 0 1 = cc in
     absurd (let y : ⊥ = omega arith in y))
 
 module _ (t : Tape) where
-  leads-full : (room again : Bool) (u v : Tape) → leads t room again u ≡ Full → Full ≡ leads t room again v
-  leads-full true true u v e = let z : ◌≡◌ {A = ℕ} 0 1 = cc in absurd (let y : ⊥ = omega arith in y)
-  leads-full true false u v e = let z : ◌≡◌ {A = ℕ} 0 1 = cc in absurd (let y : ⊥ = omega arith in y)
-  leads-full false again u v e = sym e
-
-  leads-wrong : (room again : Bool) (u v : Tape) (n : ℕ) → leads t room again u ≡ Step.Wrong n → Step.Wrong n ≡ leads t room again v
-  leads-wrong true true u v n e = sym e
-  leads-wrong true false u v n e = let z : ◌≡◌ {A = ℕ} 0 1 = cc in absurd (let y : ⊥ = omega arith in y)
-  leads-wrong false again u v n e = sym e
+  leads-stop : (room again : Bool) (u v : Tape) (stop : Stop) → leads t room again u ≡ Err stop → Err stop ≡ leads t room again v
+  leads-stop true true u v stop e = sym e
+  leads-stop true false u v stop e = let z : ◌≡◌ {A = ℕ} 0 1 = cc in absurd (let y : ⊥ = omega arith in y)
+  leads-stop false again u v stop e = sym e
 
   pub leads-done :
-      (room again : Bool) (u v w : Tape) → leads t room again u ≡ Done w →
-      (w ≡ u) × (room ≡ true) × (Done v ≡ leads t room again v)
+      (room again : Bool) (u v w : Tape) → leads t room again u ≡ Ok w →
+      (w ≡ u) × (room ≡ true) × (Ok v ≡ leads t room again v)
   leads-done true true u v w e = let z : ◌≡◌ {A = ℕ} 0 1 = cc in absurd (let y : ⊥ = omega arith in y)
   leads-done true false u v w e = let f : w ≡ u = cc in (f, refl, refl)
-  leads-done false again u v w e = absurd (not_done t w e)
+  leads-done false again u v w e = let z : ◌≡◌ {A = ℕ} 0 1 = cc in absurd (let y : ⊥ = omega arith in y)
 
-  pub leads-some : (room again : Bool) (u : Tape) → leads t room again u ≡ Full → 0 < t.counts
+  pub leads-some : (room again : Bool) (u : Tape) → leads t room again u ≡ Err Full → 0 < t.counts
   leads-some true true u e = let z : ◌≡◌ {A = ℕ} 0 1 = cc in absurd (let y : ⊥ = omega arith in y)
   leads-some true false u e = let z : ◌≡◌ {A = ℕ} 0 1 = cc in absurd (let y : ⊥ = omega arith in y)
-  leads-some false again u e = full-some t e
+  leads-some false again u e = let f : no_room t ≡ Full = cc in full-some t f
 
 pub end_fits_lem : (t : Tape) (another n m : ℕ) → end_fits t another n m ≡ true → (t.lengths < m) × Fitting t 0 another
 unfolding end_fits
@@ -237,8 +210,8 @@ end_fits_lem t another n m e =
 
 -- the count of a segment's variants is a byte
 pub segment-few :
-    (t : Tape) (o : Begun) (another : ℕ) (letters lengths : List ℕ) (r : Step) → r ≡ variant_step t o another letters lengths →
-    (w : Tape) → r ≡ Done w → t.begun.variants ≤ 254
+    (t : Tape) (o : Begun) (another : ℕ) (letters lengths : List ℕ) (r : Stepped) → r ≡ variant_step t o another letters lengths →
+    (w : Tape) → r ≡ Ok w → t.begun.variants ≤ 254
 unfolding variant_step
 segment-few t o another letters lengths r p w e =
     let f = leads-done t (end_fits t another (length letters) (length lengths)) (repeated t letters lengths) _ w w (sym p ∙ e) in
@@ -246,89 +219,80 @@ segment-few t o another letters lengths r p w e =
 
 -- a variant ends, then its segment
 module _ (t : Tape) (o : Begun) (letters lengths counts : List ℕ) where
-  pub segment-many : length counts ≤ t.counts → no_room t ≡ segment_step t o (buffers letters lengths counts)
+  pub segment-many : length counts ≤ t.counts → Err (no_room t) ≡ segment_step t o (buffers letters lengths counts)
   unfolding segment_step
   segment-many l = rw (le-ltb t.counts (length counts) l)
 
-  module _ (r : Step) (p : r ≡ variant_step t o 0 letters lengths) (l : t.counts < length counts) where
-    pub segment-full : r ≡ Full → Full ≡ segment_step t o (buffers letters lengths counts)
+  module _ (r : Stepped) (p : r ≡ variant_step t o 0 letters lengths) (l : t.counts < length counts) where
+    pub segment-stop : (stop : Stop) → r ≡ Err stop → Err stop ≡ segment_step t o (buffers letters lengths counts)
     unfolding variant_step segment_step
-    segment-full e =
+    segment-stop stop e =
         rw (lt-ltb t.counts (length counts) l)
-        (leads-full t (end_fits t 0 (length letters) (length lengths)) (repeated t letters lengths) _ _ (sym p ∙ e))
-
-    pub segment-wrong : (n : ℕ) → r ≡ Step.Wrong n → Step.Wrong n ≡ segment_step t o (buffers letters lengths counts)
-    unfolding variant_step segment_step
-    segment-wrong n e =
-        rw (lt-ltb t.counts (length counts) l)
-        (leads-wrong t (end_fits t 0 (length letters) (length lengths)) (repeated t letters lengths) _ _ n (sym p ∙ e))
+        (leads-stop t (end_fits t 0 (length letters) (length lengths)) (repeated t letters lengths) _ _ stop (sym p ∙ e))
 
     pub segment-done :
-        (w : Tape) → r ≡ Done w →
-        Done (tape_of w.letters w.lengths (t.counts + 1) o) ≡ segment_step t o (buffers letters lengths counts)
+        (w : Tape) → r ≡ Ok w →
+        Ok (tape_of w.letters w.lengths (t.counts + 1) w.begun) ≡ segment_step t o (buffers letters lengths counts)
     unfolding variant_step segment_step
     segment-done w e =
         let v : Tape = tape_of t.letters (t.lengths + 1) (t.counts + 1) o in
         let f = leads-done t (end_fits t 0 (length letters) (length lengths)) (repeated t letters lengths) _ v w (sym p ∙ e) in
-        ap (λ (k : Tape). Done (tape_of k.letters k.lengths (t.counts + 1) o)) f.0
+        ap (λ (k : Tape). Ok (tape_of k.letters k.lengths (t.counts + 1) k.begun)) f.0
         ∙ rw (lt-ltb t.counts (length counts) l) f.2
 
 -- what is left of one buffer is left of all three
-if-letters : (r : Step) (x y n c : List ℕ) → buffers (if_done r x y) n c ≡ if_done r (buffers x n c) (buffers y n c)
+if-letters : (r : Stepped) (x y n c : List ℕ) → buffers (if_done r x y) n c ≡ if_done r (buffers x n c) (buffers y n c)
 unfolding if_done
-if-letters (Done u) x y n c = refl
-if-letters Full x y n c = refl
-if-letters (Step.Wrong k) x y n c = refl
+if-letters (Ok u) x y n c = refl
+if-letters (Err stop) x y n c = refl
 
-if-lengths : (r : Step) (l x y c : List ℕ) → buffers l (if_done r x y) c ≡ if_done r (buffers l x c) (buffers l y c)
+if-lengths : (r : Stepped) (l x y c : List ℕ) → buffers l (if_done r x y) c ≡ if_done r (buffers l x c) (buffers l y c)
 unfolding if_done
-if-lengths (Done u) l x y c = refl
-if-lengths Full l x y c = refl
-if-lengths (Step.Wrong k) l x y c = refl
+if-lengths (Ok u) l x y c = refl
+if-lengths (Err stop) l x y c = refl
 
 if-both :
-    (r : Step) (l x y p q : List ℕ) → buffers l (if_done r x y) (if_done r p q) ≡ if_done r (buffers l x p) (buffers l y q)
+    (r : Stepped) (l x y p q : List ℕ) → buffers l (if_done r x y) (if_done r p q) ≡ if_done r (buffers l x p) (buffers l y q)
 unfolding if_done
-if-both (Done u) l x y p q = refl
-if-both Full l x y p q = refl
-if-both (Step.Wrong k) l x y p q = refl
+if-both (Ok u) l x y p q = refl
+if-both (Err stop) l x y p q = refl
 
 -- what an act comes to, and what it leaves in the buffers
-abbrev pub Acted : Tape → Act → ℕ → Buffers → Step → Buffers → Type 0
+abbrev pub Acted : Tape → Doing → ℕ → Buffers → Stepped → Buffers → Type 0
 Acted t a x b r c = (r ≡ step_of t a b) × (c ≡ if_done r (puts t a x b) b)
 
-module _ (t : Tape) (a : Act) (x : ℕ) (o : Begun) (b : Buffers) where
-  pub pass-acted : a ≡ Pass o → Acted t a x b (Done (tape_of t.letters t.lengths t.counts o)) b
+module _ (t : Tape) (a : Doing) (x : ℕ) (o : Begun) (b : Buffers) where
+  pub pass-acted : a ≡ Ok (Pass o) → Acted t a x b (Ok (tape_of t.letters t.lengths t.counts o)) b
   unfolding step_of puts if_done
   pass-acted e = (rw e refl, rw e refl)
 
   pub letter-acted :
-      a ≡ Letter o → (r : Step) (l : List ℕ) → r ≡ letter_step t o (length b.letters) →
+      a ≡ Ok (Letter o) → (r : Stepped) (l : List ℕ) → r ≡ letter_step t o (length b.letters) →
       l ≡ if_done r (set b.letters t.letters x) b.letters → Acted t a x b r (buffers l b.lengths b.counts)
   unfolding step_of puts
   letter-acted e r l p q =
       (rw e p, rw (e, q) (if-letters r (set b.letters t.letters x) b.letters b.lengths b.counts))
 
   pub variant-acted :
-      a ≡ Variant o → (r : Step) (n : List ℕ) → r ≡ variant_step t o 1 b.letters b.lengths →
+      a ≡ Ok (Variant o) → (r : Stepped) (n : List ℕ) → r ≡ variant_step t o 1 b.letters b.lengths →
       n ≡ if_done r (length_put t b.lengths) b.lengths → Acted t a x b r (buffers b.letters n b.counts)
   unfolding step_of puts
   variant-acted e r n p q =
       (rw e p, rw (e, q) (if-lengths r b.letters (length_put t b.lengths) b.lengths b.counts))
 
   pub segment-acted :
-      a ≡ Segment o → (r : Step) (n c : List ℕ) → r ≡ segment_step t o b → n ≡ if_done r (length_put t b.lengths) b.lengths →
+      a ≡ Ok (Segment o) → (r : Stepped) (n c : List ℕ) → r ≡ segment_step t o b → n ≡ if_done r (length_put t b.lengths) b.lengths →
       c ≡ if_done r (count_put t b.counts) b.counts → Acted t a x b r (buffers b.letters n c)
   unfolding step_of puts
   segment-acted e r n c p q s =
       (rw e p, rw (e, q, s) (if-both r b.letters (length_put t b.lengths) b.lengths (count_put t b.counts) b.counts))
 
-pub wrong-acted : (t : Tape) (a : Act) (x : ℕ) (b : Buffers) (n : ℕ) → a ≡ Wrong n → Acted t a x b (Step.Wrong n) b
+pub wrong-acted : (t : Tape) (a : Doing) (x : ℕ) (b : Buffers) (n : Wrong) → a ≡ Err n → Acted t a x b (Err (Stop.Wrong n)) b
 unfolding step_of puts if_done
 wrong-acted t a x b n e = (rw e refl, refl)
 
 -- an act that is known otherwise
-pub acted-as : (t : Tape) (a d : Act) (x : ℕ) (b : Buffers) (r : Step) (c : Buffers) → a ≡ d → Acted t a x b r c → Acted t d x b r c
+pub acted-as : (t : Tape) (a d : Doing) (x : ℕ) (b : Buffers) (r : Stepped) (c : Buffers) → a ≡ d → Acted t a x b r c → Acted t d x b r c
 acted-as t a d x b r c e p = rw e at p
 
 -- how far a piece is read: the rest of it comes to what the whole comes to
@@ -343,7 +307,7 @@ reach-none t piece from b = record { whole = refl; same-letters = refl; same-len
 
 module _ {t : Tape} {piece : List ℕ} {from : ℕ} {b : Buffers} {u : Tape} {at : ℕ} {c : Buffers} (h : Reaching t piece from b u at c) where
   module _
-      (inside : at < length piece) (a : Act) (is : a ≡ act_of u.begun (get_or piece at 0)) (r : Step) (d : Buffers)
+      (inside : at < length piece) (a : Doing) (is : a ≡ act_of u.begun (get_or piece at 0)) (r : Stepped) (d : Buffers)
       (told : r ≡ step_of u a c) (left : d ≡ if_done r (puts u a (get_or piece at 0) c) c) where
     abbrev rest : Tape → Came
     rest v = read_on v (puts u a (get_or piece at 0) c) (at + 1) (drop (at + 1) piece)
@@ -358,21 +322,20 @@ module _ {t : Tape} {piece : List ℕ} {from : ℕ} {b : Buffers} {u : Tape} {at
         (λ v. read_on v (puts u (act_of u.begun x) x c) (at + 1) (drop (at + 1) piece))
         ≡ read_on u c at (drop at piece) =
         ap (read_on u c at) (sym split) in
-        ap (λ (k : Step). on_from k at u c rest) told
-        ∙ ap (λ (k : Act). on_from (step_of u k c) at u c (λ v. read_on v (puts u k x c) (at + 1) (drop (at + 1) piece))) is
+        ap (λ (k : Stepped). on_from k at u c rest) told
+        ∙ ap (λ (k : Doing). on_from (step_of u k c) at u c (λ v. read_on v (puts u k x c) (at + 1) (drop (at + 1) piece))) is
         ∙ step
         ∙ h.whole
 
-    pub reach-full : r ≡ Full → came (Filled.Full at u) d ≡ read_on t b from (drop from piece)
+    pub reach-stop :
+        (stop : Stop) → r ≡ Err stop → came (Err (record { at = at; tape = u; stop = stop })) d ≡ read_on t b from (drop from piece)
     unfolding if_done
-    reach-full e = let same : d ≡ c = rw e at left in ap (came (Filled.Full at u)) same ∙ rw e at next
-
-    pub reach-wrong : (n : ℕ) → r ≡ Step.Wrong n → came (Filled.Wrong at n) d ≡ read_on t b from (drop from piece)
-    unfolding if_done
-    reach-wrong n e = let same : d ≡ c = rw e at left in ap (came (Filled.Wrong at n)) same ∙ rw e at next
+    reach-stop stop e =
+        let same : d ≡ c = rw e at left in
+        ap (came (Err (record { at = at; tape = u; stop = stop }))) same ∙ rw e at next
 
     pub reach-more :
-        (v : Tape) → r ≡ Done v → length d.letters ≡ length c.letters → length d.lengths ≡ length c.lengths →
+        (v : Tape) → r ≡ Ok v → length d.letters ≡ length c.letters → length d.lengths ≡ length c.lengths →
         length d.counts ≡ length c.counts → Reaching t piece from b v (at + 1) d
     unfolding if_done
     reach-more v e one two three =
@@ -385,6 +348,6 @@ module _ {t : Tape} {piece : List ℕ} {from : ℕ} {b : Buffers} {u : Tape} {at
           same-counts = three ∙ h.same-counts;
         }
 
-  pub reach-all : length piece ≤ at → came (All u) c ≡ read_on t b from (drop from piece)
+  pub reach-all : length piece ≤ at → came (Ok u) c ≡ read_on t b from (drop from piece)
   unfolding read_on
   reach-all l = rw (drop_of_length-le piece l) at h.whole

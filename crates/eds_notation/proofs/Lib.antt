@@ -1,5 +1,4 @@
 -- What is proved of the calls, and the laws of the definitions in specs/.
-pub mod Acts
 pub mod Cuts
 pub mod Fillings
 pub mod Kept

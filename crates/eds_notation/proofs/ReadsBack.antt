@@ -5,6 +5,7 @@ use mathlib.Core.Path.{◌≡◌, refl, sym, ap, ◌∙◌}
 use mathlib.Core.Bool.{Bool, true, false, ◌&&◌, true≢false}
 use mathlib.Core.List.{List, [], ◌∷◌, ◌++◌, map, map-append, flatten, append_assoc}
 use lib.Dec.{leb, ltb}
+use Rattle.std.proofs.Common.{Ok}
 use lib.ListN.{length, length-append}
 use borrow.Author.Tests.{lt-leb, leb-true, ltb-true}
 use Rattle.text.specs.Letter.{base, raised, capital, letter, every}
@@ -39,19 +40,19 @@ seen x e =
 -- what the signs and letters do inside braces
 pub act-letter :
     (k m p x : ℕ) → letter x ≡ true → m < greatest_stretch → p < greatest_stretch →
-    act_of (inside k m p) x ≡ Letter (inside k (m + 1) (p + 1))
+    act_of (inside k m p) x ≡ Ok (Letter (inside k (m + 1) (p + 1)))
 unfolding act_of lettered
 act-letter k m p x e l j = rw (seen x e, e, lt-leb greatest_stretch m l, lt-leb greatest_stretch p j)
 
-pub act-brace : act_of nothing 0x7B ≡ Pass brace
+pub act-brace : act_of nothing 0x7B ≡ Ok (Pass brace)
 unfolding act_of white letter capital raised base
 act-brace = refl
 
-pub act-comma : (k m p : ℕ) → k < 254 → act_of (inside k m p) 0x2C ≡ Ends (inside (k + 1) m 0)
+pub act-comma : (k m p : ℕ) → k < 254 → act_of (inside k m p) 0x2C ≡ Ok (Ends (inside (k + 1) m 0))
 unfolding act_of white letter capital raised base
 act-comma k m p l = rw (lt-leb 254 k l)
 
-pub act-close : (k m p : ℕ) → act_of (inside k m p) 0x7D ≡ Closes nothing
+pub act-close : (k m p : ℕ) → act_of (inside k m p) 0x7D ≡ Ok (Closes nothing)
 unfolding act_of white letter capital raised base
 act-close k m p = refl
 
@@ -68,7 +69,7 @@ read_letters (x ∷ v) k m p s e l j =
     let a : m + suc (length v) ≡ m + 1 + length v = omega arith in
     let b : p + suc (length v) ≡ p + 1 + length v = omega arith in
     let first : letter x ≡ true = and_left (letter x) (every letter v) e in
-    let act : act_of (inside k m p) x ≡ Letter (inside k (m + 1) (p + 1)) = act-letter k m p x first (omega arith) (omega arith) in
+    let act : act_of (inside k m p) x ≡ Ok (Letter (inside k (m + 1) (p + 1))) = act-letter k m p x first (omega arith) (omega arith) in
     let rest = read_letters v k (m + 1) (p + 1) s (and_right (letter x) (every letter v) e) (omega arith) (omega arith) in
     rw (act, a, b) (ap (onto (x ∷ []) [] []) rest)
 
@@ -92,7 +93,7 @@ read-listed (v ∷ g) k m p s e l j =
     let size : length (v ++ flatten g) ≡ length v + length (flatten g) = length-append v (flatten g) in
     let n : ℕ = length v in
     let rest : List ℕ = listed 0x2C g ++ s in
-    let act : act_of (inside k m p) 0x2C ≡ Ends (inside (k + 1) m 0) = act-comma k m p (omega arith) in
+    let act : act_of (inside k m p) 0x2C ≡ Ok (Ends (inside (k + 1) m 0)) = act-comma k m p (omega arith) in
     let shape : v ++ listed 0x2C g ++ s ≡ v ++ rest = append_assoc v (listed 0x2C g) s in
     let first : reads (inside (k + 1) m 0) (v ++ rest) ≡ onto v [] [] (reads (inside (k + 1) (m + n) (0 + n)) rest) =
     read_letters v (k + 1) m 0 rest (and_left (every letter v) (all (every letter) g) e) (omega (arith, size)) (omega (arith, size)) in

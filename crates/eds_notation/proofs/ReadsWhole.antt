@@ -5,6 +5,7 @@ use native.Mathlib.Omega.{arith}
 use mathlib.Core.Path.{◌≡◌, refl, sym, ap, ◌∙◌}
 use mathlib.Core.Bool.{Bool, true, false, not, ◌&&◌}
 use mathlib.Core.List.{List, [], ◌∷◌, ◌++◌, map, map-append, flatten, append_assoc, append-nil}
+use Rattle.std.proofs.Common.{Ok}
 use lib.Dec.{leb, ltb}
 use lib.ListN.{length, set, length-append, length-map}
 use lib.Seq.{set_at, take-append_seam, drop-append_seam}
@@ -20,17 +21,13 @@ use Rattle.layout.specs.Reading.{among}
 use Rattle.layout.specs.Encoding.{bytes_of, encode_variant, encode_segment, encode, all, distinct, writable_segment, writable}
 use Rattle.writer.specs.Cuts.{cut}
 use Rattle.writer.specs.Writing.{letters_of, lengths_of, counts_of}
-use Rattle.eds_notation.specs.Notation.{nothing, brace, act_of}
-use Rattle.eds_notation.specs.Filling.{tape_of, empty_tape, Buffers, buffers, stands, repeated, fits, end_fits}
+use Rattle.eds_notation.specs.Notation.{Doing, nothing, brace, act_of}
+use Rattle.eds_notation.specs.Filling.{Stepped, tape_of, empty_tape, Buffers, buffers, stands, repeated, fits, end_fits}
 use Rattle.eds_notation.specs.Filling.{variant_step, segment_step, step_of, puts, Came, came, on_from, read_on}
 use Rattle.eds_notation.specs.Braces.{listed, braced, in_braces}
 use Rattle.eds_notation.specs.declared.notation.Begun.{Begun}
-use Rattle.eds_notation.specs.declared.notation.Act.{Act}
 use Rattle.eds_notation.specs.declared.notation.Act.TheVariants.{Pass, Letter, Variant as Ends, Segment as Closes}
 use Rattle.eds_notation.specs.declared.filling.Tape.{Tape}
-use Rattle.eds_notation.specs.declared.filling.Step.{Step}
-use Rattle.eds_notation.specs.declared.filling.Step.TheVariants.{Done}
-use Rattle.eds_notation.specs.declared.filling.Filled.TheVariants.{All}
 use Rattle.eds_notation.proofs.Fillings.{Fitting, fitting-fits, letter-done}
 use Rattle.eds_notation.proofs.ReadsBack.{inside, act-letter, act-brace, act-comma, act-close, some-letters, variant-bytes, flatten-more}
 
@@ -38,7 +35,7 @@ use Rattle.eds_notation.proofs.ReadsBack.{inside, act-letter, act-brace, act-com
 pub record Whole (x : Came) : Type 0 where
   pub tape : Tape
   pub left : Buffers
-  pub is : x ≡ came (All tape) left
+  pub is : x ≡ came (Ok tape) left
 
 -- with the letters A, the lengths B and the counts C filled, the bytes s are read whole wherever there is room for l letters, v lengths and
 -- n counts more
@@ -49,14 +46,14 @@ Goes A B C l v n o s =
 
 -- one byte, then the rest
 one_byte :
-    (t : Tape) (b : Buffers) (at x : ℕ) (s : List ℕ) (a : Act) (u : Tape) → act_of t.begun x ≡ a → step_of t a b ≡ Done u →
+    (t : Tape) (b : Buffers) (at x : ℕ) (s : List ℕ) (a : Doing) (u : Tape) → act_of t.begun x ≡ a → step_of t a b ≡ Ok u →
     Whole (read_on u (puts t a x b) (at + 1) s) → Whole (read_on t b at (x ∷ s))
 unfolding read_on
 one_byte t b at x s a u is e w =
     let first : read_on t b at (x ∷ s) ≡ on_from (step_of t a b) at t b (λ v. read_on v (puts t a x b) (at + 1) s) =
-    ap (λ (k : Act). on_from (step_of t k b) at t b (λ v. read_on v (puts t k x b) (at + 1) s)) is in
+    ap (λ (k : Doing). on_from (step_of t k b) at t b (λ v. read_on v (puts t k x b) (at + 1) s)) is in
     let next : read_on t b at (x ∷ s) ≡ read_on u (puts t a x b) (at + 1) s =
-    first ∙ ap (λ (k : Step). on_from k at t b (λ v. read_on v (puts t a x b) (at + 1) s)) e in
+    first ∙ ap (λ (k : Stepped). on_from k at t b (λ v. read_on v (puts t a x b) (at + 1) s)) e in
     record { tape = w.tape; left = w.left; is = next ∙ w.is }
 
 -- one member more, put after what is filled
@@ -80,14 +77,14 @@ module _ (A B C : List ℕ) (k m p l v n : ℕ) (s : List ℕ) where
       let t : Tape = tape_of (length A) (length B) (length C) (inside k m p) in
       let o : Begun = inside k (m + 1) (p + 1) in
       let b : Buffers = buffers (A ++ (y ∷ R)) (B ++ S) (C ++ Q) in
-      let act : act_of (inside k m p) x ≡ Letter o =
+      let act : act_of (inside k m p) x ≡ Ok (Letter o) =
       act-letter k m p x e (omega (arith, f.letters, f.bytes)) (omega (arith, f.spelt, f.letters, f.bytes)) in
-      let step : step_of t (Letter o) b ≡ Done (tape_of (length A + 1) (length B) (length C) o) =
+      let step : step_of t (Ok (Letter o)) b ≡ Ok (tape_of (length A + 1) (length B) (length C) o) =
       sym (letter-done t o (length (A ++ (y ∷ R))) (some-room A y R) (fitting-fits f)) in
       let rest : Whole (read_on (tape_of (length A + 1) (length B) (length C) o)
       (buffers (set (A ++ (y ∷ R)) (length A) x) (B ++ S) (C ++ Q)) (at + 1) s) =
       rw (snoc-size A x, snoc-put A x y R) (g R S Q (omega arith) j h (at + 1)) in
-      one_byte t b at x s (Letter o) (tape_of (length A + 1) (length B) (length C) o) act step rest
+      one_byte t b at x s (Ok (Letter o)) (tape_of (length A + 1) (length B) (length C) o) act step rest
 
   -- no variant is repeated, whatever stands after what is filled
   module _
@@ -102,7 +99,7 @@ module _ (A B C : List ℕ) (k m p l v n : ℕ) (s : List ℕ) where
         let o : Begun = inside (k + 1) m 0 in
         let b : Buffers = buffers (A ++ R) (B ++ (y ∷ S)) (C ++ Q) in
         let far : length A ≤ length (A ++ R) = omega (arith, length-append A R) in
-        let step : step_of t (Ends o) b ≡ Done (tape_of (length A) (length B + 1) (length C) o) =
+        let step : step_of t (Ok (Ends o)) b ≡ Ok (tape_of (length A) (length B + 1) (length C) o) =
         rw (
           le-leb (length A) (length (A ++ R)) far,
           lt-ltb (length B) (length (B ++ (y ∷ S))) (some-room B y S),
@@ -112,7 +109,7 @@ module _ (A B C : List ℕ) (k m p l v n : ℕ) (s : List ℕ) where
         let rest : Whole (read_on (tape_of (length A) (length B + 1) (length C) o)
         (buffers (A ++ R) (set (B ++ (y ∷ S)) (length B) p) (C ++ Q)) (at + 1) s) =
         rw (snoc-size B p, snoc-put B p y S) (g R S Q i (omega arith) h (at + 1)) in
-        one_byte t b at 0x2C s (Ends o) (tape_of (length A) (length B + 1) (length C) o) (act-comma k m p few) step rest
+        one_byte t b at 0x2C s (Ok (Ends o)) (tape_of (length A) (length B + 1) (length C) o) (act-comma k m p few) step rest
 
     close-goes :
         Fitting (tape_of (length A) (length B) (length C) (inside k m p)) 0 0 →
@@ -125,7 +122,7 @@ module _ (A B C : List ℕ) (k m p l v n : ℕ) (s : List ℕ) where
         let u : Tape = tape_of (length A) (length B + 1) (length C + 1) nothing in
         let b : Buffers = buffers (A ++ R) (B ++ (y ∷ S)) (C ++ (q ∷ Q)) in
         let far : length A ≤ length (A ++ R) = omega (arith, length-append A R) in
-        let step : step_of t (Closes nothing) b ≡ Done u =
+        let step : step_of t (Ok (Closes nothing)) b ≡ Ok u =
         rw (
           lt-ltb (length C) (length (C ++ (q ∷ Q))) (some-room C q Q),
           le-leb (length A) (length (A ++ R)) far,
@@ -136,13 +133,13 @@ module _ (A B C : List ℕ) (k m p l v n : ℕ) (s : List ℕ) where
         let rest : Whole (read_on u (buffers (A ++ R) (set (B ++ (y ∷ S)) (length B) p) (set (C ++ (q ∷ Q)) (length C) (k + 1))) (at + 1) s) =
         rw (snoc-size B p, snoc-put B p y S, snoc-size C (k + 1), snoc-put C (k + 1) q Q)
         (g R S Q i (omega arith) (omega arith) (at + 1)) in
-        one_byte t b at 0x7D s (Closes nothing) u (act-close k m p) step rest
+        one_byte t b at 0x7D s (Ok (Closes nothing)) u (act-close k m p) step rest
 
 brace-goes : (A B C : List ℕ) (l v n : ℕ) (s : List ℕ) → Goes A B C l v n brace s → Goes A B C l v n nothing (0x7B ∷ s)
 unfolding Goes step_of puts
 brace-goes A B C l v n s g R S Q i j h at =
     let u : Tape = tape_of (length A) (length B) (length C) brace in
-    one_byte (tape_of (length A) (length B) (length C) nothing) (buffers (A ++ R) (B ++ S) (C ++ Q)) at 0x7B s (Pass brace) u
+    one_byte (tape_of (length A) (length B) (length C) nothing) (buffers (A ++ R) (B ++ S) (C ++ Q)) at 0x7B s (Ok (Pass brace)) u
     act-brace refl (g R S Q i j h (at + 1))
 
 -- the letters of a variant

@@ -28,8 +28,7 @@ use Rattle.stretch.proofs.Theorems.{accepted-letters}
 use Rattle.lines.specs.Puts.{Put}
 use Rattle.lines.proofs.Putting.{put-none, put-more, put-length}
 use Rattle.eds_notation.specs.Braces.{listed, braced, in_braces, ThereIs, SegmentShown, BracesPut}
-use Rattle.eds_notation.specs.declared.braced.Braced.{Braced}
-use Rattle.eds_notation.specs.declared.braced.Braced.TheVariants.{Refused}
+use Rattle.std.proofs.Common.{Ok, Err}
 
 -- a reading that found something in segment j
 abbrev here : ℕ → Outcome Found → ℕ → Bool
@@ -190,7 +189,7 @@ module _ {s : List ℕ} {segments : ℕ} {d out : List ℕ} {next k : ℕ} (h : 
         whole = shape ∙ here ∙ h.whole;
       }
 
-  pub bracing-end : segments ≤ k → BracesPut s d (Braced.Bytes next) out
+  pub bracing-end : segments ≤ k → BracesPut s d (Ok next) out
   unfolding BracesPut in_braces bytes_of
   bracing-end l =
       let T : Text = standing s in
@@ -203,7 +202,7 @@ module _ {s : List ℕ} {segments : ℕ} {d out : List ℕ} {next k : ℕ} (h : 
   pub bracing-length : length out ≡ length d
   bracing-length = put-length h.put
 
-pub refused-braces : (s d : List ℕ) (w : Refusal) → refused w.number w.place ≡ checking s → BracesPut s d (Refused w) d
+pub refused-braces : (s d : List ℕ) (w : Refusal) → refused w.number w.place ≡ checking s → BracesPut s d (Err w) d
 unfolding BracesPut checking
 refused-braces s d w e = (told-refused (stretch_of s) _ w.number w.place (sym e), refl)
 

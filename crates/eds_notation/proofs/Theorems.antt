@@ -5,6 +5,7 @@ use native.Mathlib.Omega.{arith}
 use mathlib.Core.Path.{◌≡◌, refl, sym, ap, ◌∙◌}
 use mathlib.Core.Bool.{true}
 use mathlib.Core.List.{List, append-nil}
+use Rattle.std.proofs.Common.{Ok, Err}
 use lib.ListN.{length, take, drop}
 use Rattle.text.specs.Text.{Text}
 use Rattle.text.specs.Refusal.{ok}
@@ -17,16 +18,14 @@ use Rattle.writer.specs.Writing.{letters_of, lengths_of, counts_of}
 use Rattle.layout.proofs.Stands.{Bytes}
 use Rattle.layout.proofs.Theorems.{accepted-writable}
 use Rattle.writer.proofs.RoundTrips.{written-again, letters-of-raised}
-use Rattle.eds_notation.specs.Notation.{nothing}
+use Rattle.eds_notation.specs.Notation.{Doing, nothing}
 use Rattle.eds_notation.specs.Reading.{Read, rests, reads}
 use Rattle.eds_notation.specs.Filling.{Buffers, buffers, empty_tape, step_of, came, read_on}
 use Rattle.eds_notation.specs.Cutting.{within, cut_off, closed_writing}
 use Rattle.eds_notation.specs.Braces.{in_braces}
 use Rattle.eds_notation.specs.declared.notation.Begun.{Begun}
-use Rattle.eds_notation.specs.declared.notation.Act.{Act}
 use Rattle.eds_notation.specs.declared.filling.Tape.{Tape}
-use Rattle.eds_notation.specs.declared.filling.Step.TheVariants.{Full}
-use Rattle.eds_notation.specs.declared.filling.Filled.TheVariants.{All}
+use Rattle.eds_notation.specs.declared.filling.Stop.TheVariants.{Full}
 use Rattle.eds_notation.proofs.ReadsBack.{whole, reads-back}
 use Rattle.eds_notation.proofs.ReadsWhole.{Whole, read_whole}
 use Rattle.eds_notation.proofs.Kept.{held_in, PieceKept, Inside, read_kept, read-inside, full-closed}
@@ -47,12 +46,12 @@ cut-loses-nothing = cut-kept
 
 -- A stretch is full only where a segment is closed, so that a cut takes something away; and after a cut no byte is told to be full, so
 -- that the text goes on or is wrong.
-pub full-cuts : (t : Tape) (a : Act) (b : Buffers) → step_of t a b ≡ Full → 0 < t.counts
+pub full-cuts : (t : Tape) (a : Doing) (b : Buffers) → step_of t a b ≡ Err Full → 0 < t.counts
 full-cuts = full-closed
 
 pub cut-goes-on :
-    (t : Tape) (letters lengths : List ℕ) → within t (length letters) (length lengths) ≡ true → (a : Act) (b : Buffers) →
-    step_of (cut_off t letters lengths).tape a b ≡ Full → ⊥
+    (t : Tape) (letters lengths : List ℕ) → within t (length letters) (length lengths) ≡ true → (a : Doing) (b : Buffers) →
+    step_of (cut_off t letters lengths).tape a b ≡ Err Full → ⊥
 cut-goes-on t letters lengths w a b e =
     omega (arith, full-closed (cut_off t letters lengths).tape a b e, (cut-kept t letters lengths w).counts-none)
 
@@ -75,7 +74,7 @@ notation-read-whole = read_whole
 
 -- Then `write_closed` is given exactly that text, so that it writes it.
 module _
-    (t : Text) (w : writable t ≡ true) (b c : Buffers) (u : Tape) (read : read_on empty_tape b 0 (in_braces t) ≡ came (All u) c) where
+    (t : Text) (w : writable t ≡ true) (b c : Buffers) (u : Tape) (read : read_on empty_tape b 0 (in_braces t) ≡ came (Ok u) c) where
   held : held_in u c (rests u.begun 0) ≡ whole t
   unfolding PieceKept
   held = (rw read at (read_kept (in_braces t) (in_braces t) empty_tape 0 b refl)) ∙ reads-back t w

@@ -1,13 +1,12 @@
 -- The notation of a text: every segment in braces, its variants parted by commas.
-use Rattle.std.specs.Prelude.{ℕ, ◌<◌, ◌≡◌, Bool, List, [], ◌∷◌, ◌++◌, ltb, length}
+use Rattle.std.specs.Prelude.{ℕ, ◌<◌, ◌≡◌, Bool, List, [], ◌∷◌, ◌++◌, ltb, length, Result, Ok, Err}
 use Rattle.text.specs.Text.{Segment, Text, segment}
 use Rattle.text.specs.Refusal.{ok, refused}
 use Rattle.layout.specs.Reading.{stretch_of}
 use Rattle.layout.specs.Encoding.{bytes_of}
 use Rattle.layout.specs.Standing.{standing}
 use Rattle.lines.specs.Puts.{Put}
-use Rattle.eds_notation.specs.declared.braced.Braced.{Braced}
-use Rattle.eds_notation.specs.declared.braced.Braced.TheVariants.{Bytes, Refused}
+use Rattle.text.specs.declared.refusal.Refusal.{Refusal}
 
 -- the variants of a segment, the first after this mark and each further one after a comma, and the brace that closes
 unfoldable pub listed : ℕ → Segment → List ℕ
@@ -36,6 +35,6 @@ pub record Shown (s d out : List ℕ) (n : ℕ) : Type 0 where
   pub means : stretch_of s ≡ ok text
   pub put : Put d 0 (in_braces (standing s)) out n
 
-unfoldable pub BracesPut : List ℕ → List ℕ → Braced → List ℕ → Type 0
-BracesPut s d (Bytes n) out = Shown s d out n
-BracesPut s d (Refused w) out = (stretch_of s ≡ refused w.number w.place) × (out ≡ d)
+unfoldable pub BracesPut : List ℕ → List ℕ → Result ℕ Refusal → List ℕ → Type 0
+BracesPut s d (Ok n) out = Shown s d out n
+BracesPut s d (Err w) out = (stretch_of s ≡ refused w.number w.place) × (out ≡ d)

@@ -1,19 +1,22 @@
 -- The buffers of a write while they are filled: what an act comes to, and what the buffers have then.
-use Rattle.std.specs.Prelude.{ℕ, ◌+◌, ◌-◌, Bool, false, ◌&&◌, cond, List, [], ◌∷◌, eqb, leb, ltb, length, drop, set}
+use Rattle.std.specs.Prelude.{ℕ, ◌+◌, ◌-◌, Bool, false, ◌&&◌, cond, List, [], ◌∷◌, eqb, leb, ltb, length, drop, set, Result, Ok, Err}
 use Rattle.text.specs.Bits.{any_of}
 use Rattle.text.specs.Compare.{alike}
 use Rattle.layout.specs.Bytes.{greatest_stretch, part}
 use Rattle.layout.specs.Sizes.{text_bytes}
 use Rattle.writer.specs.Cuts.{cut}
-use Rattle.eds_notation.specs.Notation.{nothing, act_of}
+use Rattle.eds_notation.specs.Notation.{Doing, nothing, act_of}
 use Rattle.eds_notation.specs.declared.notation.Begun.{Begun}
-use Rattle.eds_notation.specs.declared.notation.Act.{Act}
-use Rattle.eds_notation.specs.declared.notation.Act.TheVariants.{Pass, Letter, Variant, Segment, Wrong}
+use Rattle.eds_notation.specs.declared.notation.Act.TheVariants.{Pass, Letter, Variant, Segment}
+use Rattle.eds_notation.specs.declared.wrong.Wrong.{Wrong}
 use Rattle.eds_notation.specs.declared.filling.Tape.{Tape}
-use Rattle.eds_notation.specs.declared.filling.Step.{Step}
-use Rattle.eds_notation.specs.declared.filling.Step.TheVariants.{Done, Full}
-use Rattle.eds_notation.specs.declared.filling.Filled.{Filled}
-use Rattle.eds_notation.specs.declared.filling.Filled.TheVariants.{All}
+use Rattle.eds_notation.specs.declared.filling.Stop.{Stop}
+use Rattle.eds_notation.specs.declared.filling.Stop.TheVariants.{Full}
+use Rattle.eds_notation.specs.declared.filling.Halt.{Halt}
+
+-- what a byte comes to: the tape after it, or why it is not put
+abbrev pub Stepped : Type 0
+Stepped = Result Tape Stop
 
 abbrev pub tape_of : ℕ → ℕ → ℕ → Begun → Tape
 tape_of letters lengths counts o = record { letters = letters; lengths = lengths; counts = counts; begun = o }
@@ -60,15 +63,15 @@ fits t more another =
     sound t && leb (text_bytes (t.letters + more) (t.lengths + 1 + another) (t.counts + 1)) greatest_stretch
 
 -- there is no room: full where a segment is closed, so that a cut gives room; else the open segment is too long
-unfoldable pub no_room : Tape → Step
-no_room t = cond (eqb t.counts 0) (Step.Wrong 8) Full
+unfoldable pub no_room : Tape → Stop
+no_room t = cond (eqb t.counts 0) (Stop.Wrong Wrong.Long) Full
 
 -- an act that leads to tape u: it must have room, and then the variant that ends with it may not be repeated
-abbrev pub leads : Tape → Bool → Bool → Tape → Step
-leads t room again u = cond room (cond again (Step.Wrong 7) (Done u)) (no_room t)
+abbrev pub leads : Tape → Bool → Bool → Tape → Stepped
+leads t room again u = cond room (cond again (Err (Stop.Wrong Wrong.Repeated)) (Ok u)) (Err (no_room t))
 
 -- one letter more, where the buffer has this many
-unfoldable pub letter_step : Tape → Begun → ℕ → Step
+unfoldable pub letter_step : Tape → Begun → ℕ → Stepped
 letter_step t o size =
     leads t (ltb t.letters size && fits t 1 0) false (tape_of (t.letters + 1) t.lengths t.counts o)
 
@@ -77,24 +80,24 @@ unfoldable pub end_fits : Tape → ℕ → ℕ → ℕ → Bool
 end_fits t another letters lengths = leb t.letters letters && ltb t.lengths lengths && fits t 0 another
 
 -- the open variant ends
-unfoldable pub variant_step : Tape → Begun → ℕ → List ℕ → List ℕ → Step
+unfoldable pub variant_step : Tape → Begun → ℕ → List ℕ → List ℕ → Stepped
 variant_step t o another letters lengths =
     leads t (end_fits t another (length letters) (length lengths)) (repeated t letters lengths)
     (tape_of t.letters (t.lengths + 1) t.counts o)
 
 -- the open variant and its segment end
-unfoldable pub segment_step : Tape → Begun → Buffers → Step
+unfoldable pub segment_step : Tape → Begun → Buffers → Stepped
 segment_step t o b =
     leads t (ltb t.counts (length b.counts) && end_fits t 0 (length b.letters) (length b.lengths))
     (repeated t b.letters b.lengths) (tape_of t.letters (t.lengths + 1) (t.counts + 1) o)
 
 -- what an act comes to
-unfoldable pub step_of : Tape → Act → Buffers → Step
-step_of t (Pass o) b = Done (tape_of t.letters t.lengths t.counts o)
-step_of t (Letter o) b = letter_step t o (length b.letters)
-step_of t (Variant o) b = variant_step t o 1 b.letters b.lengths
-step_of t (Segment o) b = segment_step t o b
-step_of t (Wrong n) b = Step.Wrong n
+unfoldable pub step_of : Tape → Doing → Buffers → Stepped
+step_of t (Ok (Pass o)) b = Ok (tape_of t.letters t.lengths t.counts o)
+step_of t (Ok (Letter o)) b = letter_step t o (length b.letters)
+step_of t (Ok (Variant o)) b = variant_step t o 1 b.letters b.lengths
+step_of t (Ok (Segment o)) b = segment_step t o b
+step_of t (Err w) b = Err (Stop.Wrong w)
 
 -- the lengths with the open variant's, and the counts with the open segment's
 abbrev pub length_put : Tape → List ℕ → List ℕ
@@ -104,35 +107,33 @@ abbrev pub count_put : Tape → List ℕ → List ℕ
 count_put t counts = set counts t.counts (t.begun.variants + 1)
 
 -- what an act of the byte x puts into the buffers
-unfoldable pub puts : Tape → Act → ℕ → Buffers → Buffers
-puts t (Pass o) x b = b
-puts t (Letter o) x b = buffers (set b.letters t.letters x) b.lengths b.counts
-puts t (Variant o) x b = buffers b.letters (length_put t b.lengths) b.counts
-puts t (Segment o) x b = buffers b.letters (length_put t b.lengths) (count_put t b.counts)
-puts t (Wrong n) x b = b
+unfoldable pub puts : Tape → Doing → ℕ → Buffers → Buffers
+puts t (Ok (Pass o)) x b = b
+puts t (Ok (Letter o)) x b = buffers (set b.letters t.letters x) b.lengths b.counts
+puts t (Ok (Variant o)) x b = buffers b.letters (length_put t b.lengths) b.counts
+puts t (Ok (Segment o)) x b = buffers b.letters (length_put t b.lengths) (count_put t b.counts)
+puts t (Err w) x b = b
 
 -- what is there after an act: what it puts where it is done, else what was there
-unfoldable pub if_done : {A : Type 0} → Step → A → A → A
-if_done (Done u) new old = new
-if_done Full new old = old
-if_done (Step.Wrong n) new old = old
+unfoldable pub if_done : {A : Type 0} → Stepped → A → A → A
+if_done (Ok u) new old = new
+if_done (Err stop) new old = old
 
 -- what a piece comes to, and what the buffers have then
 pub record Came : Type 0 where
-  pub told : Filled
+  pub told : Result Tape Halt
   pub left : Buffers
 
-abbrev pub came : Filled → Buffers → Came
+abbrev pub came : Result Tape Halt → Buffers → Came
 came r b = record { told = r; left = b }
 
 -- on from the step of the byte at `at`
-abbrev pub on_from : Step → ℕ → Tape → Buffers → (Tape → Came) → Came
-on_from (Done u) at t b rest = rest u
-on_from Full at t b rest = came (Filled.Full at t) b
-on_from (Step.Wrong n) at t b rest = came (Filled.Wrong at n) b
+abbrev pub on_from : Stepped → ℕ → Tape → Buffers → (Tape → Came) → Came
+on_from (Ok u) at t b rest = rest u
+on_from (Err stop) at t b rest = came (Err (record { at = at; tape = t; stop = stop })) b
 
 -- the bytes of a piece from place `at` on, read onto a tape and its buffers: all of them, or up to one that has no room or is wrong
 unfoldable pub read_on : Tape → Buffers → ℕ → List ℕ → Came
-read_on t b at [] = came (All t) b
+read_on t b at [] = came (Ok t) b
 read_on t b at (x ∷ s) =
     on_from (step_of t (act_of t.begun x) b) at t b (λ u. read_on u (puts t (act_of t.begun x) x b) (at + 1) s)

@@ -1,12 +1,17 @@
--- The notation, byte by byte: what stands open before a byte, and what the byte does. The numbers are those of src/wrong.rt.
-use Rattle.std.specs.Prelude.{ℕ, ◌+◌, Bool, ◌||◌, cond, eqb, leb}
+-- The notation, byte by byte: what stands open before a byte, and what the byte does.
+use Rattle.std.specs.Prelude.{ℕ, ◌+◌, Bool, ◌||◌, cond, eqb, leb, Result, Ok, Err}
 use Rattle.text.specs.Letter.{letter}
 use Rattle.layout.specs.Bytes.{greatest_stretch}
 use Rattle.eds_notation.specs.declared.notation.Mode.{Mode}
 use Rattle.eds_notation.specs.declared.notation.Mode.TheVariants.{Between, Bare, Braced}
 use Rattle.eds_notation.specs.declared.notation.Begun.{Begun}
 use Rattle.eds_notation.specs.declared.notation.Act.{Act}
-use Rattle.eds_notation.specs.declared.notation.Act.TheVariants.{Pass, Letter, Variant, Segment, Wrong}
+use Rattle.eds_notation.specs.declared.notation.Act.TheVariants.{Pass, Letter, Variant, Segment}
+use Rattle.eds_notation.specs.declared.wrong.Wrong.{Wrong}
+
+-- what a byte does, or what is wrong with it
+abbrev pub Doing : Type 0
+Doing = Result Act Wrong
 
 -- space, tab and line ends
 unfoldable pub white : ℕ → Bool
@@ -27,43 +32,43 @@ inside Bare = Bare
 inside Braced = Braced
 
 -- a letter: one more of the open variant, unless the segment is too long
-unfoldable pub lettered : Begun → Act
+unfoldable pub lettered : Begun → Doing
 lettered o =
-    cond (leb greatest_stretch o.letters) (Wrong 8)
-    (cond (leb greatest_stretch o.spelt) (Wrong 8)
-    (Letter (record { mode = inside o.mode; variants = o.variants; letters = o.letters + 1; spelt = o.spelt + 1 })))
+    cond (leb greatest_stretch o.letters) (Err Wrong.Long)
+    (cond (leb greatest_stretch o.spelt) (Err Wrong.Long)
+    (Ok (Letter (record { mode = inside o.mode; variants = o.variants; letters = o.letters + 1; spelt = o.spelt + 1 }))))
 
 -- a brace that opens; letters outside braces end before it
-abbrev pub opened : Mode → Act
-opened Between = Pass brace
-opened Bare = Segment brace
-opened Braced = Wrong 2
+abbrev pub opened : Mode → Doing
+opened Between = Ok (Pass brace)
+opened Bare = Ok (Segment brace)
+opened Braced = Err Wrong.Opened
 
 -- a comma: the next variant of a segment in braces, of at most 255
-abbrev pub comma : Mode → ℕ → ℕ → Act
-comma Between variants letters = Wrong 4
-comma Bare variants letters = Wrong 4
+abbrev pub comma : Mode → ℕ → ℕ → Doing
+comma Between variants letters = Err Wrong.Comma
+comma Bare variants letters = Err Wrong.Comma
 comma Braced variants letters =
-    cond (leb 254 variants) (Wrong 6)
-    (Variant (record { mode = Braced; variants = variants + 1; letters = letters; spelt = 0 }))
+    cond (leb 254 variants) (Err Wrong.Variants)
+    (Ok (Variant (record { mode = Braced; variants = variants + 1; letters = letters; spelt = 0 })))
 
 -- a brace that closes
-abbrev pub closed : Mode → Act
-closed Between = Wrong 3
-closed Bare = Wrong 3
-closed Braced = Segment nothing
+abbrev pub closed : Mode → Doing
+closed Between = Err Wrong.Closed
+closed Bare = Err Wrong.Closed
+closed Braced = Ok (Segment nothing)
 
 -- what a byte does
-unfoldable pub act_of : Begun → ℕ → Act
+unfoldable pub act_of : Begun → ℕ → Doing
 act_of o x =
-    cond (white x) (Pass o)
+    cond (white x) (Ok (Pass o))
     (cond (letter x) (lettered o)
     (cond (eqb x 0x7B) (opened o.mode)
     (cond (eqb x 0x2C) (comma o.mode o.variants o.letters)
-    (cond (eqb x 0x7D) (closed o.mode) (Wrong 1)))))
+    (cond (eqb x 0x7D) (closed o.mode) (Err Wrong.Letter)))))
 
 -- what the end of the text does
-abbrev pub ended : Begun → Mode → Act
-ended o Between = Pass o
-ended o Bare = Segment nothing
-ended o Braced = Wrong 5
+abbrev pub ended : Begun → Mode → Doing
+ended o Between = Ok (Pass o)
+ended o Bare = Ok (Segment nothing)
+ended o Braced = Err Wrong.Ended

@@ -1,9 +1,9 @@
 -- What the bytes of a text put, one after another, into letters, variant lengths and variant counts, as a write takes them.
-use Rattle.std.specs.Prelude.{ℕ, ◌+◌, List, [], ◌∷◌, ◌++◌}
-use Rattle.eds_notation.specs.Notation.{act_of}
+use Rattle.std.specs.Prelude.{ℕ, ◌+◌, List, [], ◌∷◌, ◌++◌, Ok, Err}
+use Rattle.eds_notation.specs.Numbers.{number}
+use Rattle.eds_notation.specs.Notation.{Doing, act_of}
 use Rattle.eds_notation.specs.declared.notation.Begun.{Begun}
-use Rattle.eds_notation.specs.declared.notation.Act.{Act}
-use Rattle.eds_notation.specs.declared.notation.Act.TheVariants.{Pass, Letter, Variant, Segment, Wrong}
+use Rattle.eds_notation.specs.declared.notation.Act.TheVariants.{Pass, Letter, Variant, Segment}
 
 -- what is put, what stands open after it, and the number of what is wrong there, 0 where nothing is
 pub record Read : Type 0 where
@@ -30,12 +30,12 @@ onto letters lengths counts r =
 
 -- what an act of the byte x puts, before what comes of what is open then: a letter, the length of the open variant, the count of the
 -- open segment
-abbrev pub acted : Begun → ℕ → Act → (Begun → Read) → Read
-acted o x (Pass p) rest = rest p
-acted o x (Letter p) rest = onto (x ∷ []) [] [] (rest p)
-acted o x (Variant p) rest = onto [] (o.spelt ∷ []) [] (rest p)
-acted o x (Segment p) rest = onto [] (o.spelt ∷ []) ((o.variants + 1) ∷ []) (rest p)
-acted o x (Wrong n) rest = rests o n
+abbrev pub acted : Begun → ℕ → Doing → (Begun → Read) → Read
+acted o x (Ok (Pass p)) rest = rest p
+acted o x (Ok (Letter p)) rest = onto (x ∷ []) [] [] (rest p)
+acted o x (Ok (Variant p)) rest = onto [] (o.spelt ∷ []) [] (rest p)
+acted o x (Ok (Segment p)) rest = onto [] (o.spelt ∷ []) ((o.variants + 1) ∷ []) (rest p)
+acted o x (Err w) rest = rests o (number w)
 
 -- what the bytes put, up to one that is wrong
 unfoldable pub reads : Begun → List ℕ → Read

@@ -5,13 +5,6 @@ use lines::put_bytes;
 use stretch::{Checked, Got, check, letters, read};
 use text::Refusal;
 
-// The place after the braces, or why the stretch is refused.
-#[derive(Clone, Copy)]
-pub enum Braced {
-    Bytes(usize),
-    Refused(Refusal),
-}
-
 // Whether a segment of a sound stretch has a variant of this number.
 fn is_there(stretch: &[u8], segment: usize, variant: usize) -> bool
     ensures { ThereIs stretch.now segment variant result }
@@ -29,8 +22,7 @@ fn put_segment(stretch: &[u8], segment: usize, out: &mut [u8], at: usize) -> usi
 {
     let mut mark = b'{';
     let mut next = at;
-    let mut variant = 0;
-    while variant < 255 {
+    for variant in 0..255 {
         if !is_there(stretch, segment, variant) {
             return put_bytes(b"}", &mut *out, next);
         }
@@ -38,25 +30,22 @@ fn put_segment(stretch: &[u8], segment: usize, out: &mut [u8], at: usize) -> usi
         let start = put_bytes(&sign, &mut *out, next);
         next = put_bytes(letters(stretch, segment, variant), &mut *out, start);
         mark = b',';
-        variant += 1;
     }
     put_bytes(b"}", &mut *out, next)
 }
 
-// All segments, one after another.
-pub fn put_braces(stretch: &[u8], out: &mut [u8]) -> Braced
+// All segments, one after another. The place after the braces, or why the stretch is refused.
+pub fn put_braces(stretch: &[u8], out: &mut [u8]) -> Result<usize, Refusal>
     ensures { BracesPut stretch.now out.old result out.new }
 {
     match check(stretch) {
-        Checked::Refused(wrong) => Braced::Refused(wrong),
+        Checked::Refused(wrong) => Err(wrong),
         Checked::Sound { segments, .. } => {
             let mut next = 0;
-            let mut segment = 0;
-            while segment < segments {
+            for segment in 0..segments {
                 next = put_segment(stretch, segment, &mut *out, next);
-                segment += 1;
             }
-            Braced::Bytes(next)
+            Ok(next)
         }
     }
 }

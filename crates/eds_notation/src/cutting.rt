@@ -1,6 +1,6 @@
 // The cut between segments: the closed ones are gone, and what stands open begins the buffers anew.
-ghost use Rattle.std.specs.Prelude.{◌+◌, ◌≤◌, ◌≡◌, length};
-ghost use Rattle.layout.specs.Bytes.{part, over, left_by};
+ghost use Rattle.std.specs.Prelude.{◌≡◌, length};
+ghost use Rattle.layout.specs.Bytes.{left_by};
 ghost use Rattle.layout.specs.Encoding.{encode};
 ghost use Rattle.writer.specs.Answers.{written};
 ghost use Rattle.stretch.specs.Answers.{told_written};
@@ -11,43 +11,15 @@ use stretch::{Written, write};
 use text::{Refusal, refusal};
 
 // Whether a tape lies within buffers of these lengths, and what stands open within the tape.
+#[tactic(auto, unfolding(crate::specs::Cutting::within))]
 fn is_within(tape: Tape, letters: usize, lengths: usize) -> bool
     ensures { result ≡ within tape letters lengths }
 {
     let begun = tape.begun;
-    if letters < tape.letters {
-        return false;
-    }
-    if lengths < tape.lengths {
-        return false;
-    }
-    if tape.letters < begun.letters {
-        return false;
-    }
-    begun.variants <= tape.lengths
-}
-
-// Moves n members from place `from` on to the front.
-fn move_letters(letters: &mut [u8], from: usize, n: usize)
-    requires { from + n ≤ length letters.old }
-    ensures { letters.new ≡ over letters.old 0 (part letters.old from n) }
-{
-    let mut i = 0;
-    while i < n {
-        letters[i] = letters[from + i];
-        i += 1;
-    }
-}
-
-fn move_lengths(lengths: &mut [u16], from: usize, n: usize)
-    requires { from + n ≤ length lengths.old }
-    ensures { lengths.new ≡ over lengths.old 0 (part lengths.old from n) }
-{
-    let mut i = 0;
-    while i < n {
-        lengths[i] = lengths[from + i];
-        i += 1;
-    }
+    tape.letters <= letters
+        && tape.lengths <= lengths
+        && begun.letters <= tape.letters
+        && begun.variants <= tape.lengths
 }
 
 // Writes the closed segments as a stretch. Numbers that no tape has are refused as 14.
@@ -97,8 +69,8 @@ pub fn cut(tape: Tape, letters: &mut [u8], lengths: &mut [u16]) -> Tape
     if !is_within(tape, letters.len(), lengths.len()) {
         return tape;
     }
-    move_letters(&mut *letters, letters_end - spelt, spelt);
-    move_lengths(&mut *lengths, lengths_end - variants, variants);
+    letters.copy_within(letters_end - spelt..letters_end, 0);
+    lengths.copy_within(lengths_end - variants..lengths_end, 0);
     Tape {
         letters: spelt,
         lengths: variants,

@@ -7,7 +7,7 @@ ghost use Rattle.eds_notation.specs.Filling.{step_of, puts, if_done, came, read_
 
 use crate::notation::{Act, Begun};
 use crate::repetition::stands;
-use crate::wrong;
+use crate::wrong::Wrong;
 use layout::number::wide;
 use layout::text_bytes;
 use text::limits;
@@ -21,21 +21,29 @@ pub struct Tape {
     pub begun: Begun,
 }
 
-// What a byte comes to: it is done; or a stretch has no room for it, so that the closed segments are to be written and cut off
-// before; or it is wrong.
+// Why a byte is not put: a stretch has no room for it, so that the closed segments are to be written and cut off before; or it is wrong.
 #[derive(Clone, Copy)]
-pub enum Step {
-    Done(Tape),
+pub enum Stop {
     Full,
-    Wrong(u64),
+    Wrong(Wrong),
 }
 
-// What a piece of a text comes to: all of it is done; or all before the byte at `at`, which has no room or is wrong.
+impl From<Wrong> for Stop {
+    ghost use Rattle.eds_notation.specs.declared.filling.Stop.{Stop};
+
+    ghost from_gives = { λ wrong stop. stop ≡ Stop.Wrong wrong };
+
+    fn from(wrong: Wrong) -> Stop {
+        Stop::Wrong(wrong)
+    }
+}
+
+// Where a piece of a text is read no further: the place of the byte, the tape before it, and why.
 #[derive(Clone, Copy)]
-pub enum Filled {
-    All(Tape),
-    Full { at: usize, tape: Tape },
-    Wrong { at: usize, number: u64 },
+pub struct Halt {
+    pub at: usize,
+    pub tape: Tape,
+    pub stop: Stop,
 }
 
 impl Tape {
@@ -53,13 +61,13 @@ impl Tape {
 }
 
 // No room for what stands open: without a closed segment there never is.
-fn full(tape: Tape) -> Step
+fn full(tape: Tape) -> Stop
     ensures { result ≡ no_room tape }
 {
     if tape.counts == 0 {
-        return Step::Wrong(wrong::LONG);
+        return Stop::Wrong(Wrong::Long);
     }
-    Step::Full
+    Stop::Full
 }
 
 // Whether the open segment, with this many letters and variants more, can be closed within a stretch, and its numbers are sound.
@@ -97,28 +105,33 @@ fn fits(tape: Tape, more: u8, another: u8) -> bool
 }
 
 // One letter more.
-fn put_letter(tape: Tape, begun: Begun, byte: u8, letters: &mut [u8]) -> Step
+fn put_letter(tape: Tape, begun: Begun, byte: u8, letters: &mut [u8]) -> Result<Tape, Stop>
     ensures value { result ≡ letter_step tape begun (length letters.old) }
     ensures letters_after { letters.new ≡ if_done result (set letters.old tape.letters byte) letters.old }
 {
     let at = tape.letters;
     if letters.len() <= at {
-        return full(tape);
+        return Err(full(tape));
     }
     if !fits(tape, 1, 0) {
-        return full(tape);
+        return Err(full(tape));
     }
     letters[at] = byte;
-    Step::Done(Tape {
+    Ok(Tape {
         letters: at + 1,
-        lengths: tape.lengths,
-        counts: tape.counts,
         begun,
+        ..tape
     })
 }
 
 // The open variant ends, and `another` may follow it.
-fn put_variant(tape: Tape, begun: Begun, another: u8, letters: &[u8], lengths: &mut [u16]) -> Step
+fn put_variant(
+    tape: Tape,
+    begun: Begun,
+    another: u8,
+    letters: &[u8],
+    lengths: &mut [u16],
+) -> Result<Tape, Stop>
     ensures value { result ≡ variant_step tape begun another letters.now lengths.old }
     ensures lengths_after { lengths.new ≡ if_done result (length_put tape lengths.old) lengths.old }
 {
@@ -126,25 +139,24 @@ fn put_variant(tape: Tape, begun: Begun, another: u8, letters: &[u8], lengths: &
     let end = tape.letters;
     let before = tape.begun;
     if letters.len() < end {
-        return full(tape);
+        return Err(full(tape));
     }
     if lengths.len() <= at {
-        return full(tape);
+        return Err(full(tape));
     }
     if !fits(tape, 0, another) {
-        return full(tape);
+        return Err(full(tape));
     }
     let first = at - before.variants;
     let from = end - before.letters;
     if stands(&letters[from..end], &lengths[first..at], before.spelt) {
-        return Step::Wrong(wrong::REPEATED);
+        return Err(Stop::Wrong(Wrong::Repeated));
     }
     lengths[at] = before.spelt as u16;
-    Step::Done(Tape {
-        letters: end,
+    Ok(Tape {
         lengths: at + 1,
-        counts: tape.counts,
         begun,
+        ..tape
     })
 }
 
@@ -155,7 +167,7 @@ fn put_segment(
     letters: &[u8],
     lengths: &mut [u16],
     counts: &mut [u8],
-) -> Step
+) -> Result<Tape, Stop>
     ensures value { result ≡ segment_step tape begun (buffers letters.now lengths.old counts.old) }
     ensures lengths_after { lengths.new ≡ if_done result (length_put tape lengths.old) lengths.old }
     ensures counts_after { counts.new ≡ if_done result (count_put tape counts.old) counts.old }
@@ -163,49 +175,35 @@ fn put_segment(
     let at = tape.counts;
     let before = tape.begun;
     if counts.len() <= at {
-        return full(tape);
+        return Err(full(tape));
     }
-    let segments = at + 1;
-    match put_variant(tape, begun, 0, letters, &mut *lengths) {
-        Step::Full => Step::Full,
-        Step::Wrong(number) => Step::Wrong(number),
-        Step::Done(next) => {
-            counts[at] = (before.variants + 1) as u8;
-            Step::Done(Tape {
-                letters: next.letters,
-                lengths: next.lengths,
-                counts: segments,
-                begun,
-            })
-        }
-    }
+    let next = put_variant(tape, begun, 0, letters, &mut *lengths)?;
+    counts[at] = (before.variants + 1) as u8;
+    Ok(Tape {
+        counts: at + 1,
+        ..next
+    })
 }
 
-// What an act puts.
+// What an act puts, if no byte is wrong.
 fn put(
     tape: Tape,
-    act: Act,
+    act: Result<Act, Wrong>,
     byte: u8,
     letters: &mut [u8],
     lengths: &mut [u16],
     counts: &mut [u8],
-) -> Step
+) -> Result<Tape, Stop>
     ensures value { result ≡ step_of tape act (buffers letters.old lengths.old counts.old) }
     ensures counts_after { buffers letters.new lengths.new counts.new
         ≡ if_done result (puts tape act byte (buffers letters.old lengths.old counts.old))
         (buffers letters.old lengths.old counts.old) }
 {
-    match act {
-        Act::Pass(begun) => Step::Done(Tape {
-            letters: tape.letters,
-            lengths: tape.lengths,
-            counts: tape.counts,
-            begun,
-        }),
+    match act? {
+        Act::Pass(begun) => Ok(Tape { begun, ..tape }),
         Act::Letter(begun) => put_letter(tape, begun, byte, &mut *letters),
         Act::Variant(begun) => put_variant(tape, begun, 1, letters, &mut *lengths),
         Act::Segment(begun) => put_segment(tape, begun, letters, &mut *lengths, &mut *counts),
-        Act::Wrong(number) => Step::Wrong(number),
     }
 }
 
@@ -217,35 +215,36 @@ pub fn read_on(
     letters: &mut [u8],
     lengths: &mut [u16],
     counts: &mut [u8],
-) -> Filled
+) -> Result<Tape, Halt>
     ensures { came result (buffers letters.new lengths.new counts.new)
         ≡ read_on tape (buffers letters.old lengths.old counts.old) from
         (drop from piece.now) }
 {
     let mut done = tape;
-    let mut at = from;
-    while at < piece.len() {
+    for at in from..piece.len() {
         let byte = piece[at];
-        let begun = done.begun;
-        let act = begun.act(byte);
+        let act = done.begun.act(byte);
         match put(done, act, byte, &mut *letters, &mut *lengths, &mut *counts) {
-            Step::Full => {
-                return Filled::Full { at, tape: done };
-            }
-            Step::Wrong(number) => {
-                return Filled::Wrong { at, number };
-            }
-            Step::Done(next) => {
-                done = next;
-                at += 1;
+            Ok(next) => done = next,
+            Err(stop) => {
+                return Err(Halt {
+                    at,
+                    tape: done,
+                    stop,
+                });
             }
         }
     }
-    Filled::All(done)
+    Ok(done)
 }
 
 // The end of a text.
-pub fn finish(tape: Tape, letters: &mut [u8], lengths: &mut [u16], counts: &mut [u8]) -> Step
+pub fn finish(
+    tape: Tape,
+    letters: &mut [u8],
+    lengths: &mut [u16],
+    counts: &mut [u8],
+) -> Result<Tape, Stop>
     ensures value { result ≡ step_of tape (ended tape.begun tape.begun.mode)
         (buffers letters.old lengths.old counts.old) }
     ensures counts_after { buffers letters.new lengths.new counts.new
@@ -253,10 +252,9 @@ pub fn finish(tape: Tape, letters: &mut [u8], lengths: &mut [u16], counts: &mut 
         (buffers letters.old lengths.old counts.old))
         (buffers letters.old lengths.old counts.old) }
 {
-    let begun = tape.begun;
     put(
         tape,
-        begun.end(),
+        tape.begun.end(),
         0,
         &mut *letters,
         &mut *lengths,

@@ -8,10 +8,11 @@ mod filling;
 mod notation;
 mod place;
 mod repetition;
-pub mod wrong;
+mod wrong;
 
-pub use braced::{Braced, put_braces};
+pub use braced::put_braces;
 pub use cutting::{cut, write_closed};
-pub use filling::{Filled, Step, Tape, finish, read_on};
+pub use filling::{Halt, Stop, Tape, finish, read_on};
 pub use notation::{Begun, Mode};
 pub use place::Place;
+pub use wrong::Wrong;

@@ -2,7 +2,7 @@
 ghost use Rattle.std.specs.Prelude.{◌≡◌};
 ghost use Rattle.eds_notation.specs.Notation.{white, inside, nothing, brace, lettered, opened, comma, closed, act_of, ended};
 
-use crate::wrong;
+use crate::wrong::Wrong;
 use text::letter::is_letter;
 use text::limits;
 
@@ -23,31 +23,22 @@ pub struct Begun {
     pub spelt: usize,
 }
 
-// What a byte does, and what stands open after it: nothing is put, or the letter itself, or the open variant is closed, or it and its
-// segment are; or the byte is wrong here.
+// What a byte does that is not wrong, and what stands open after it: nothing is put, or the letter itself, or the open variant is closed, or it and its
+// segment are.
 #[derive(Clone, Copy)]
 pub enum Act {
     Pass(Begun),
     Letter(Begun),
     Variant(Begun),
     Segment(Begun),
-    Wrong(u64),
 }
 
 // Space, tab and line ends.
+#[tactic(auto, unfolding(crate::specs::Notation::white))]
 fn is_white(byte: u8) -> bool
     ensures { result ≡ white byte }
 {
-    if byte == b' ' {
-        return true;
-    }
-    if byte == b'\t' {
-        return true;
-    }
-    if byte == b'\r' {
-        return true;
-    }
-    byte == b'\n'
+    matches!(byte, b' ' | b'\t' | b'\r' | b'\n')
 }
 
 // A letter between segments begins one outside braces.
@@ -87,80 +78,82 @@ impl Begun {
     }
 
     // A letter: one more of the open variant, or the first of a segment outside braces.
-    fn letter(self) -> Act
+    #[tactic(auto, unfolding(crate::specs::Notation::lettered))]
+    fn letter(self) -> Result<Act, Wrong>
         ensures { result ≡ lettered self }
     {
         let letters = self.letters;
         let spelt = self.spelt;
         if limits::GREATEST_STRETCH <= letters {
-            return Act::Wrong(wrong::LONG);
+            return Err(Wrong::Long);
         }
         if limits::GREATEST_STRETCH <= spelt {
-            return Act::Wrong(wrong::LONG);
+            return Err(Wrong::Long);
         }
         let before = self.mode;
         let mode = inside(before);
-        Act::Letter(Begun {
+        Ok(Act::Letter(Begun {
             mode,
             variants: self.variants,
             letters: letters + 1,
             spelt: spelt + 1,
-        })
+        }))
     }
 
     // A brace that opens; letters outside braces end before it.
-    fn opened(self) -> Act
+    fn opened(self) -> Result<Act, Wrong>
         ensures { result ≡ opened self.mode }
     {
         let mode = self.mode;
         match mode {
-            Mode::Between => Act::Pass(Begun::brace()),
-            Mode::Bare => Act::Segment(Begun::brace()),
-            Mode::Braced => Act::Wrong(wrong::OPENED),
+            Mode::Between => Ok(Act::Pass(Begun::brace())),
+            Mode::Bare => Ok(Act::Segment(Begun::brace())),
+            Mode::Braced => Err(Wrong::Opened),
         }
     }
 
     // A comma: the next variant of the segment begins.
-    fn comma(self) -> Act
+    fn comma(self) -> Result<Act, Wrong>
         ensures { result ≡ comma self.mode self.variants self.letters }
     {
         let mode = self.mode;
         let variants = self.variants;
         match mode {
-            Mode::Between => Act::Wrong(wrong::COMMA),
-            Mode::Bare => Act::Wrong(wrong::COMMA),
+            Mode::Between => Err(Wrong::Comma),
+            Mode::Bare => Err(Wrong::Comma),
             Mode::Braced => {
                 if 254 <= variants {
-                    return Act::Wrong(wrong::VARIANTS);
+                    return Err(Wrong::Variants);
                 }
-                Act::Variant(Begun {
+                Ok(Act::Variant(Begun {
                     mode: Mode::Braced,
                     variants: variants + 1,
                     letters: self.letters,
                     spelt: 0,
-                })
+                }))
             }
         }
     }
 
     // A brace that closes.
-    fn closed(self) -> Act
+    fn closed(self) -> Result<Act, Wrong>
         ensures { result ≡ closed self.mode }
     {
         let mode = self.mode;
         match mode {
-            Mode::Between => Act::Wrong(wrong::CLOSED),
-            Mode::Bare => Act::Wrong(wrong::CLOSED),
-            Mode::Braced => Act::Segment(Begun::nothing()),
+            Mode::Between => Err(Wrong::Closed),
+            Mode::Bare => Err(Wrong::Closed),
+            Mode::Braced => Ok(Act::Segment(Begun::nothing())),
         }
     }
 
     // What a byte does.
-    pub(crate) fn act(self, byte: u8) -> Act
+    #[tactic(auto, unfolding(crate::specs::Notation::act_of))]
+    pub(crate) fn act(self, byte: u8) -> Result<Act, Wrong>
         ensures { result ≡ act_of self byte }
     {
         if is_white(byte) {
-            return Act::Pass(self);
+            return Ok(Act::Pass(self));
         }
         if is_letter(byte) {
             return self.letter();
@@ -174,18 +167,18 @@ impl Begun {
         if byte == b'}' {
             return self.closed();
         }
-        Act::Wrong(wrong::LETTER)
+        Err(Wrong::Letter)
     }
 
     // What the end of the text does.
-    pub(crate) fn end(self) -> Act
+    pub(crate) fn end(self) -> Result<Act, Wrong>
         ensures { result ≡ ended self self.mode }
     {
         let mode = self.mode;
         match mode {
-            Mode::Between => Act::Pass(self),
-            Mode::Bare => Act::Segment(Begun::nothing()),
-            Mode::Braced => Act::Wrong(wrong::ENDED),
+            Mode::Between => Ok(Act::Pass(self)),
+            Mode::Bare => Ok(Act::Segment(Begun::nothing())),
+            Mode::Braced => Err(Wrong::Ended),
         }
     }
 }

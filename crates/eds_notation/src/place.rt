@@ -1,21 +1,11 @@
 // Lines and columns of a text, both counted from 1. A column is a byte.
 ghost use Rattle.std.specs.Prelude.{◌≡◌, take};
-ghost use Rattle.eds_notation.specs.Places.{next, over_byte, behind};
+ghost use Rattle.eds_notation.specs.Places.{over_byte, behind};
 
 #[derive(Clone, Copy)]
 pub struct Place {
     pub line: usize,
     pub column: usize,
-}
-
-// One more; the greatest number stays.
-fn next(n: usize) -> usize
-    ensures { result ≡ next n }
-{
-    if n == usize::MAX {
-        return n;
-    }
-    n + 1
 }
 
 impl Place {
@@ -26,19 +16,20 @@ impl Place {
         Place { line: 1, column: 1 }
     }
 
-    // After one byte.
+    // After one byte. The greatest number stays.
+    #[tactic(auto, unfolding(crate::specs::Places::over_byte, crate::specs::Places::next))]
     fn over(self, byte: u8) -> Place
         ensures { result ≡ over_byte self byte }
     {
         if byte == b'\n' {
             return Place {
-                line: next(self.line),
+                line: self.line.saturating_add(1),
                 column: 1,
             };
         }
         Place {
             line: self.line,
-            column: next(self.column),
+            column: self.column.saturating_add(1),
         }
     }
 
@@ -47,13 +38,8 @@ impl Place {
         ensures { result ≡ behind self (take n bytes.now) }
     {
         let mut place = self;
-        let mut i = 0;
-        while i < bytes.len() {
-            if n <= i {
-                return place;
-            }
-            place = place.over(bytes[i]);
-            i += 1;
+        for byte in &bytes[..n.min(bytes.len())] {
+            place = place.over(*byte);
         }
         place
     }

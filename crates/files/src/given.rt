@@ -11,32 +11,30 @@ const EBADF: i32 = 9;
 // What the system says of a descriptor: the lines of its file in /proc/self/fdinfo.
 fn facts(rt: &HostRuntime, number: u32) -> io::Result<String> {
     let name = format!(in rt.alloc(); "/proc/self/fdinfo/{number}")?;
-    match fs::read_to_string(rt, name) {
-        Ok(text) => Ok(text),
-        Err(error) if error.kind() == ErrorKind::NotFound => Err(Error::from_raw_os_error(EBADF)),
-        Err(error) => Err(error),
-    }
+    fs::read_to_string(rt, name).map_err(|error| match error.kind() {
+        ErrorKind::NotFound => Error::from_raw_os_error(EBADF),
+        _ => error,
+    })
 }
 
 // What stands after a word at the start of a line.
 fn fact<'a>(facts: &'a str, word: &str) -> io::Result<&'a str> {
-    for line in facts.lines() {
-        if let Some(rest) = line.strip_prefix(word) {
-            return Ok(rest.trim());
-        }
-    }
-    Err(Error::from(ErrorKind::InvalidData))
+    facts
+        .lines()
+        .find_map(|line| line.strip_prefix(word))
+        .map(|rest| rest.trim())
+        .ok_or(Error::from(ErrorKind::InvalidData))
 }
 
 // How far the descriptor is read.
 fn position(rt: &HostRuntime, number: u32) -> io::Result<u64> {
     let text = facts(rt, number)?;
-    match fact(text.as_str(), "pos:")?.parse::<u64>() {
-        Ok(at) => Ok(at),
-        Err(_) => Err(Error::from(ErrorKind::InvalidData)),
-    }
+    fact(text.as_str(), "pos:")?
+        .parse::<u64>()
+        .map_err(|_| Error::from(ErrorKind::InvalidData))
 }
 
+// The digits stay bytes: they are the system's text.
 // Fails if the last digit of the descriptor's flags is not one of two: 0 for reading alone, 1 for writing alone, 2 for both.
 fn is_open_for(rt: &HostRuntime, number: u32, alone: u8) -> io::Result<()> {
     let text = facts(rt, number)?;

@@ -5,6 +5,7 @@
 mod given;
 mod names;
 mod opening;
+mod putting;
 mod reading;
 mod saying;
 mod words;
@@ -13,7 +14,8 @@ mod writing;
 pub use given::{given_to_append, given_to_read};
 pub use names::folder;
 pub use opening::opened;
-pub use reading::{Piece, Read, fill, read_all, read_file, read_piece};
-pub use saying::{fail, say};
+pub use putting::written;
+pub use reading::{fill, read_all, read_file, read_piece};
+pub use saying::{Told, fail, say, tell};
 pub use words::{WORD, count_words, word};
 pub use writing::{write_all, write_aside, write_new};

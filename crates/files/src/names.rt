@@ -5,10 +5,7 @@ ghost use Rattle.io.specs.Counts.{IsPrefixLen};
 pub fn folder(path: &[u8]) -> usize
     ensures { IsPrefixLen result path.now }
 {
-    for i in (0..path.len()).rev() {
-        if path[i] == b'/' {
-            return i + 1;
-        }
-    }
-    0
+    path.iter()
+        .rposition(|byte| *byte == b'/')
+        .map_or(0, |i| i + 1)
 }

@@ -8,13 +8,12 @@ pub const TRIES: u64 = 0xffff_ffff_ffff_ffff;
 
 // A path as text, which std's paths are. One that is not UTF-8 names no file that can be opened.
 pub fn path_text(path: &[u8]) -> io::Result<&str> {
-    match std::str::from_utf8(path) {
-        Ok(text) => Ok(text),
-        Err(_) => Err(Error::new(
+    std::str::from_utf8(path).map_err(|_| {
+        Error::new(
             ErrorKind::InvalidInput,
             "its name is not UTF-8, and no such file can be opened",
-        )),
-    }
+        )
+    })
 }
 
 // Opens a file for reading.

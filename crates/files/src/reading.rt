@@ -1,134 +1,98 @@
 // Files read to their end.
-ghost use Rattle.std.specs.Prelude.{◌≤◌, length};
+ghost use Rattle.std.specs.Prelude.{◌≤◌, length, IfOk, IfSome};
 ghost use Rattle.files.specs.Reads.{ReadInto, PieceInto};
 
 use crate::opening::{TRIES, opened};
-use crate::saying::fail;
+use crate::saying::{Told, fail};
 use std::io;
 use std::io::{Error, ErrorKind};
 
-// What one read finds: a number of bytes, at the start of the buffer, and at least one; the end of the file; or why it failed.
-#[derive(Clone, Copy)]
-pub enum Piece {
-    Bytes(usize),
-    End,
-    Failed(Error),
-}
-
-// What reading a file to its end finds: all its bytes, with their number, at the start of the buffer; more than the buffer holds; or why
-// a read failed.
-#[derive(Clone, Copy)]
-pub enum Read {
-    Whole(usize),
-    Full,
-    Failed(Error),
-}
-
-// What a read answered that did not fail.
-fn answered(got: usize, bytes: &[u8]) -> Piece
-    ensures { PieceInto bytes.now result }
+// One read, made again where a signal interrupts it: how many bytes it put at the start of the buffer, 0 at the end of the file.
+fn read_once<F: io::Read>(file: &mut F, bytes: &mut [u8]) -> io::Result<usize>
+    ensures { IfOk result (λ n. n ≤ length bytes.new) }
 {
-    let n = got.min(bytes.len());
-    if n == 0 {
-        return Piece::End;
-    }
-    Piece::Bytes(n)
-}
-
-// One read. Where the buffer is empty it fails, since nothing could tell the end of the file from no room.
-pub fn read_piece<F: io::Read>(file: &mut F, bytes: &mut [u8]) -> Piece
-    ensures { PieceInto bytes.new result }
-{
-    if bytes.len() == 0 {
-        return Piece::Failed(Error::from(ErrorKind::InvalidInput));
-    }
     for _ in 0..TRIES {
         match file.read(&mut *bytes) {
-            Ok(n) => return answered(n, bytes),
-            Err(error) => {
-                if error.kind() != ErrorKind::Interrupted {
-                    return Piece::Failed(error);
-                }
-            }
+            Err(error) if error.kind() == ErrorKind::Interrupted => {}
+            read => return read,
         }
     }
-    Piece::Failed(Error::from(ErrorKind::Interrupted))
+    Err(Error::from(ErrorKind::Interrupted))
 }
 
-// What a buffer was filled with.
-fn filled(at: usize, bytes: &[u8]) -> Piece
-    requires { at ≤ length bytes.now }
-    ensures { PieceInto bytes.now result }
+// The first n bytes of a buffer, as what was read; none where there are none.
+fn front(bytes: &[u8], n: usize) -> Option<&[u8]>
+    requires { n ≤ length bytes.now }
+    ensures { IfSome result (λ piece. PieceInto bytes.now piece.now) }
 {
-    if at == 0 {
-        return Piece::End;
+    if n == 0 {
+        return None;
     }
-    Piece::Bytes(at)
+    Some(&bytes[..n])
 }
 
-// Reads until the buffer is full or the file ends.
-pub fn fill<F: io::Read>(file: &mut F, bytes: &mut [u8]) -> Piece
-    ensures { PieceInto bytes.new result }
+// One read: the bytes that it found, at least one, or none at the end of the file. Where the buffer is empty it fails, since nothing could
+// tell the end of the file from no room.
+pub fn read_piece<'a, F: io::Read>(
+    file: &mut F,
+    bytes: &'a mut [u8],
+) -> io::Result<Option<&'a [u8]>>
+    ensures { IfOk result (λ read. IfSome read (λ piece. PieceInto bytes.old piece.now)) }
+{
+    if bytes.is_empty() {
+        return Err(Error::from(ErrorKind::InvalidInput));
+    }
+    let n = read_once(file, &mut *bytes)?;
+    Ok(front(bytes, n))
+}
+
+// Reads until the buffer is full or the file ends: the bytes that it found, at least one, or none at the end of the file.
+pub fn fill<'a, F: io::Read>(file: &mut F, bytes: &'a mut [u8]) -> io::Result<Option<&'a [u8]>>
+    ensures { IfOk result (λ read. IfSome read (λ piece. PieceInto bytes.old piece.now)) }
 {
     let mut at = 0;
+    // Stays a loop over a place: each read goes on where the last one ended, and no iterator lends the rest of a buffer.
     while at < bytes.len() {
-        match read_piece(&mut *file, &mut bytes[at..]) {
-            Piece::Bytes(n) => at += n,
-            Piece::End => return filled(at, bytes),
-            Piece::Failed(error) => return Piece::Failed(error),
+        match read_once(&mut *file, &mut bytes[at..])? {
+            0 => break,
+            n => at += n,
         }
     }
-    filled(at, bytes)
+    Ok(front(bytes, at))
 }
 
-// Whether the file ends here, where the buffer is full.
-fn at_end<F: io::Read>(file: &mut F, bytes: &[u8]) -> Read
-    ensures { ReadInto bytes.now result }
+// Reads a file to its end: all its bytes, or none where it has more than the buffer. After a full buffer it asks for one byte more, and so
+// knows whether there is any.
+pub fn read_all<'a, F: io::Read>(file: &mut F, bytes: &'a mut [u8]) -> io::Result<Option<&'a [u8]>>
+    ensures { IfOk result (λ read. IfSome read (λ whole. ReadInto bytes.old whole.now)) }
 {
-    let mut one = [0u8; 1];
-    match read_piece(&mut *file, &mut one) {
-        Piece::Bytes(_) => Read::Full,
-        Piece::End => Read::Whole(bytes.len()),
-        Piece::Failed(error) => Read::Failed(error),
+    let room = bytes.len();
+    let whole = fill(&mut *file, bytes)?.unwrap_or(&[]);
+    if 0 < room && whole.len() == room && read_piece(file, &mut [0])?.is_some() {
+        return Ok(None);
     }
-}
-
-// Reads a file to its end. After a full buffer it asks for one byte more, and so knows whether there is any.
-pub fn read_all<F: io::Read>(file: &mut F, bytes: &mut [u8]) -> Read
-    ensures { ReadInto bytes.new result }
-{
-    match fill(&mut *file, &mut *bytes) {
-        Piece::Failed(error) => Read::Failed(error),
-        Piece::End => Read::Whole(0),
-        Piece::Bytes(n) => {
-            if n < bytes.len() {
-                return Read::Whole(n);
-            }
-            at_end(&mut *file, bytes)
-        }
-    }
+    Ok(Some(whole))
 }
 
 // Opens a file by its name, and reads it to its end.
-fn read_named(rt: &HostRuntime, path: &[u8], bytes: &mut [u8]) -> Read
-    ensures { ReadInto bytes.new result }
+fn read_named<'a>(
+    rt: &HostRuntime,
+    path: &[u8],
+    bytes: &'a mut [u8],
+) -> io::Result<Option<&'a [u8]>>
+    ensures { IfOk result (λ read. IfSome read (λ whole. ReadInto bytes.old whole.now)) }
 {
-    match opened(rt, path) {
-        Ok(file) => {
-            let mut file = file;
-            read_all(&mut file, &mut *bytes)
-        }
-        Err(error) => Read::Failed(error),
-    }
+    let mut file = opened(rt, path)?;
+    read_all(&mut file, bytes)
 }
 
-// Reads a file to its end, by its name. Where that fails, the reason is said on standard error.
-pub fn read_file(rt: &HostRuntime, path: &[u8], bytes: &mut [u8]) -> Read
-    ensures { ReadInto bytes.new result }
+// Reads a file to its end, by its name: all its bytes, or none where it has more than the buffer. Where that fails, the reason is said.
+pub fn read_file<'a>(
+    rt: &HostRuntime,
+    path: &[u8],
+    bytes: &'a mut [u8],
+) -> Result<Option<&'a [u8]>, Told>
+    ensures { IfOk result (λ read. IfSome read (λ whole. ReadInto bytes.old whole.now)) }
 {
-    let read = read_named(rt, path, &mut *bytes);
-    if let Read::Failed(error) = read {
-        fail(rt, path, error);
-    }
-    read
+    read_named(rt, path, bytes).map_err(|error| fail(rt, path, error))
 }

@@ -1,35 +1,27 @@
 // The words of the command line, as bytes. The first is the program's own name, and has number 0.
-ghost use Rattle.io.specs.Counts.{IsPrefixLen};
+ghost use Rattle.std.specs.Prelude.{◌≤◌, length};
 
 use std::env::{Env, FillError};
 
 // Room for a word that names a file: the longest such name has fewer bytes.
 pub const WORD: usize = 4096;
 
-// Puts a word at the start of the buffer. How many bytes it has; 0 where it is missing or has no room.
-pub fn word(rt: &HostRuntime, number: usize, out: &mut [u8]) -> usize
-    ensures { IsPrefixLen result out.new }
+// A word, put into the buffer; empty where it is missing or has no room.
+pub fn word<'a>(rt: &HostRuntime, number: usize, out: &'a mut [u8]) -> &'a [u8]
+    ensures { length result.now ≤ length out.old }
 {
-    match rt.arg(number, &mut *out) {
-        Ok(n) => n,
-        Err(_) => 0,
-    }
+    let n = rt.arg(number, &mut *out).unwrap_or(0);
+    &out[..n]
 }
 
 // Whether the command line has a word of this number.
 fn is_there(rt: &HostRuntime, number: usize) -> bool {
-    match rt.arg(number, &mut []) {
-        Err(FillError::NotPresent) => false,
-        _ => true,
-    }
+    !matches!(rt.arg(number, &mut []), Err(FillError::NotPresent))
 }
 
 // How many words there are, the program's own name among them.
 pub fn count_words(rt: &HostRuntime) -> usize {
-    for n in 0..usize::MAX {
-        if !is_there(rt, n) {
-            return n;
-        }
-    }
-    usize::MAX
+    (0..usize::MAX)
+        .find(|n| !is_there(rt, *n))
+        .unwrap_or(usize::MAX)
 }

@@ -6,110 +6,90 @@ mod cards;
 mod lists;
 mod reads;
 mod searches;
-mod stretches;
 mod writes;
 
-use card::{Card, Made};
-use files::{Piece, fill};
-use test_examples::notation::number;
-use test_examples::{ExampleLine, call, tell, wanted};
-use test_reference::places::part;
+use cards::Cards;
+use files::fill;
+use search::{by_bits, by_borders, either};
+use test_examples::notation::{number, stretch, word};
+use test_examples::{call, run, wanted};
+use test_reference::Bytes;
 use test_tally::{Answer, Tally};
-use text::strand::Strand;
 
-// The answer of a call, which is known by its first letter. A line of no known call has none that is right.
-fn answer(call: usize, line: &[u8]) -> Answer {
+// The stretch that is the word of that number.
+fn text(line: &[u8], k: usize) -> Bytes<40000> {
+    Bytes::<40000>::put(|out| stretch(out, word(line, k), 2))
+}
+
+// The answer of a call, which is known by its first letter: S is a search by border tables, R a read by a reader that keeps the stretch.
+// A line of no known call has none that is right.
+fn answer(call: u8, line: &[u8]) -> Answer {
     match call {
-        83 | 115 | 117 => searches::sought(call, line),
-        102 => searches::feed(line),
-        108 => searches::lengths(line),
-        82 | 99 | 114 | 119 => stretches::answer(call, line),
-        107 | 116 => lists::answer(call, line),
+        b'S' => searches::sought(line, |p, strand, text, marks| {
+            by_borders(p, strand, text, marks)
+        }),
+        b's' => searches::sought(line, |p, strand, text, marks| {
+            by_bits(p, strand, text, marks)
+        }),
+        b'u' => searches::sought(line, |p, _, text, marks| either(p, text, marks)),
+        b'f' => searches::feed(line),
+        b'l' => searches::lengths(line),
+        b'c' => Answer::from(stretch::check(text(line, 1).as_slice())),
+        b'r' => reads::read(line, text(line, 1).as_slice()),
+        b'R' => reads::read_kept(line, text(line, 1).as_slice()),
+        b'w' => writes::write(line, text(line, 5).as_slice()),
+        b'k' => lists::known(line, text(line, 1).as_slice()),
+        b't' => lists::ticked(line, text(line, 1).as_slice()),
         _ => Answer::refused(101, 0),
     }
 }
 
 // What a line counts. A search and a read are done both ways.
-fn compare(rt: &HostRuntime, tally: Tally, group: usize, call: usize, line: &[u8]) -> Tally {
+fn compare(tally: &mut Tally, group: usize, call: u8, line: &[u8]) {
     let wanted = wanted(line);
-    let t = tally.compare(rt, group, answer(call, line), wanted);
+    tally.compare(group, answer(call, line), wanted);
     match call {
-        115 => t.compare(rt, group, answer(83, line), wanted),
-        114 => t.compare(rt, group, answer(82, line), wanted),
-        _ => t,
+        b's' => tally.compare(group, answer(b'S', line), wanted),
+        b'r' => tally.compare(group, answer(b'R', line), wanted),
+        _ => {}
     }
 }
 
-// What a line counts where the cards on the left and on the right are these: ask, broken, equal, join and make speak of them.
-fn judge(
-    rt: &HostRuntime,
-    tally: Tally,
-    group: usize,
-    left: Card,
-    right: Made,
-    line: &[u8],
-) -> Tally {
-    let card = right.card;
-    let call = call(line);
+// What a line counts, and does to the cards: ask, broken, equal, join, make and put speak of them.
+fn judge(tally: &mut Tally, group: usize, cards: &mut Cards, line: &[u8]) {
+    let Some(call) = call(line) else {
+        return;
+    };
     match call {
-        0 | 112 => tally,
-        97 => tally.compare(rt, group, cards::ask(card, number(line, 1)), wanted(line)),
-        98 => cards::broken(rt, tally, group, left, card),
-        101 => cards::rows(rt, tally, group, left.join(card), cards::of(line)),
-        106 => cards::compare(
-            rt,
-            tally,
-            group,
-            left.join(card),
-            number(line, 1),
-            wanted(line),
-        ),
-        109 => cards::compare(rt, tally, group, right, number(line, 3), wanted(line)),
-        _ => compare(rt, tally, group, call, line),
-    }
-}
-
-// The right card after a line: `make` and `put` change it.
-fn changed(right: Made, line: &[u8]) -> Made {
-    let call = call(line);
-    match call {
-        109 => cards::of(line),
-        112 => cards::put(right, line),
-        _ => right,
-    }
-}
-
-// Every line of the input, known by its number from 1 on. `make` puts what was on the right on the left.
-fn judged(rt: &HostRuntime, input: &[u8]) -> Tally {
-    let mut tally = Tally::NONE;
-    let mut right = Card::empty(b"A", Strand::Given);
-    let mut left = right.card;
-    let mut line = ExampleLine::NONE;
-    let mut k = 0;
-    while k < input.len() {
-        line = line.next(input);
-        let bytes = line.of(input);
-        k += 1;
-        if call(bytes) == 109 {
-            left = right.card;
+        b'a' => tally.compare(group, cards.ask(number(line, 1)), wanted(line)),
+        b'b' => cards.broken(&mut *tally, group),
+        b'e' => cards::rows(&mut *tally, group, &cards.joined(), &cards::of(line)),
+        b'j' => {
+            let joined = cards.joined();
+            cards::compare(&mut *tally, group, &joined, number(line, 1), wanted(line));
         }
-        right = changed(right, bytes);
-        tally = judge(rt, tally.next(k as u64), line.group, left, right, bytes);
-    }
-    tally
-}
-
-// Reads standard input to its end, or as much of it as there is room for. How many bytes that were; none where a read failed.
-fn read(rt: &HostRuntime, input: &mut [u8]) -> usize {
-    match fill(&mut rt.stdin(), &mut *input) {
-        Piece::Bytes(n) => n,
-        _ => 0,
+        b'm' => {
+            cards.make(line);
+            cards::compare(
+                &mut *tally,
+                group,
+                &cards.right,
+                number(line, 3),
+                wanted(line),
+            );
+        }
+        b'p' => cards.put(line),
+        _ => compare(&mut *tally, group, call, line),
     }
 }
 
 fn main(rt: HostRuntime) {
     let mut input = [0u8; 65536];
-    let n = read(&rt, &mut input);
-    let examples = part(&input, 0, n);
-    tell(&rt, judged(&rt, examples), examples);
+    let examples = fill(&mut rt.stdin(), &mut input)
+        .unwrap_or(None)
+        .unwrap_or(&[]);
+    let mut cards = Cards::new();
+    run(&rt, examples, |tally, group, line| {
+        judge(tally, group, &mut cards, line)
+    });
 }

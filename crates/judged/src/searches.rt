@@ -1,9 +1,10 @@
 // The calls on patterns and states, as the lines give them.
-use search::State;
-use test_examples::notation::{number, raw, word};
-use test_examples::{pattern, strand};
-use test_reference::places::part;
-use test_tally::{Answer, fed, held, searched};
+use search::{Searched, State};
+use test_examples::notation::{number, raw, stretch, word};
+use test_examples::pattern;
+use test_reference::Bytes;
+use test_tally::{Answer, held_in};
+use text::strand::Strand;
 
 // The state that is the word of that number.
 fn state(line: &[u8], k: usize) -> State {
@@ -14,10 +15,9 @@ fn state(line: &[u8], k: usize) -> State {
 
 // feed PATTERN state SEGMENT = state ends
 pub fn feed(line: &[u8]) -> Answer {
-    let mut bytes = [0u8; 40000];
-    let n = test_examples::notation::stretch(&mut bytes, word(line, 3), 0);
-    let next = state(line, 2).feed(pattern(line), strand(line), part(&bytes, 0, n));
-    fed(next)
+    let segment = Bytes::<40000>::put(|out| stretch(out, word(line, 3), 0));
+    let (p, strand) = pattern(line);
+    Answer::from(state(line, 2).feed(p, strand, segment.as_slice()))
 }
 
 // lengths state = count shortest: what a state carries.
@@ -26,23 +26,18 @@ pub fn lengths(line: &[u8]) -> Answer {
     Answer::told(carried.count as usize, carried.shortest as usize, 0)
 }
 
-// A search by bit-vectors, for S by border tables, and for u on both strands at once.
-fn search_into(marks: &mut [u8], call: usize, line: &[u8], text: &[u8]) -> Answer {
-    let p = pattern(line);
-    match call {
-        115 => searched(search::by_bits(p, strand(line), text, &mut *marks)),
-        117 => searched(search::either(p, text, &mut *marks)),
-        _ => searched(search::by_borders(p, strand(line), text, &mut *marks)),
-    }
-}
-
 // search PATTERN STRETCH MARKS = segments size ends, and united: into eight marks, each 7 before.
-pub fn sought(call: usize, line: &[u8]) -> Answer {
-    let mut bytes = [0u8; 40000];
-    let n = test_examples::notation::stretch(&mut bytes, word(line, 2), 2);
-    let mut left = [7u8; 8];
-    raw(&mut left, word(line, 3));
-    let mut marks = [7u8; 8];
-    let answer = search_into(&mut marks, call, line, part(&bytes, 0, n));
-    held(answer, &marks, &left)
+pub fn sought<F: FnOnce(&[u8], Strand, &[u8], &mut [u8]) -> Searched>(
+    line: &[u8],
+    search: F,
+) -> Answer
+    requires { F.IsAlwaysCallable search }
+{
+    let text = crate::text(line, 2);
+    let (p, strand) = pattern(line);
+    held_in::<8, _, _>(
+        7,
+        |left| raw(left, word(line, 3)),
+        |marks| Answer::from(search(p, strand, text.as_slice(), marks)),
+    )
 }

@@ -18,13 +18,13 @@ use Rattle.layout.proofs.Frames.{Opens, segment-met, whole-met, stretch-whole, c
 use Rattle.layout.proofs.Units.{variant-read}
 use Rattle.layout.proofs.Stands.{Bytes, stands-both, stands-byte, stands_word, stands-whole}
 use Rattle.layout.proofs.Lengths.{filled, filled-lengths}
-use Rattle.layout.proofs.Rows.{Row, Spans, many-row, row-all}
+use Rattle.layout.proofs.Rows.{Row, Parts, many-row, row-all}
 use Rattle.layout.proofs.Standing.{raised-variant, raised-segment, raised-segments, raised-bytes, letters-count, segments-count}
 
 module _ (s : List ℕ) where
   -- a variant that was read has the bytes from its length on, its letters in their own case
   pub variant-spans :
-      (seen : Segment) (at : ℕ) (x : Taken Variant ℕ) → variant_at s seen at ≡ ok x → Spans s at x.next (encode_variant (letters_at s at))
+      (seen : Segment) (at : ℕ) (x : Taken Variant ℕ) → variant_at s seen at ≡ ok x → Parts s at x.next (encode_variant (letters_at s at))
   unfolding encode_variant word_bytes
   variant-spans seen at x e =
       let r = variant-read s seen at x e in
@@ -52,7 +52,7 @@ module _ (s : List ℕ) where
   -- a row of variants: they are what stands there raised, and have its bytes
   record Letters (l : Segment) (at next : ℕ) : Type 0 where
     means : l ≡ map meant (letters_from s (length l) at)
-    spans : Spans s at next (bytes_of encode_variant (letters_from s (length l) at))
+    spans : Parts s at next (bytes_of encode_variant (letters_from s (length l) at))
 
   row-letters : (l seen : Segment) (at next : ℕ) → Row (variant_at s) seen at l next → Letters l at next
   unfolding Row letters_from bytes_of
@@ -119,7 +119,7 @@ module _ (s : List ℕ) where
     pub segment-means : x.value ≡ map meant (standing_segment s at)
     segment-means = rw (segment-read at x e).count segment-letters.means
 
-    pub segment-spans : Spans s at x.next (encode_segment (standing_segment s at))
+    pub segment-spans : Parts s at x.next (encode_segment (standing_segment s at))
     unfolding encode_segment
     segment-spans =
         let r = segment-read at x e in
@@ -157,7 +157,7 @@ module _ (s : List ℕ) where
   -- a row of segments: they are what stands there raised, and have its bytes
   record Segments (l : Text) (at next : ℕ) : Type 0 where
     means : l ≡ map (map meant) (segments_from s (length l) at)
-    spans : Spans s at next (bytes_of encode_segment (segments_from s (length l) at))
+    spans : Parts s at next (bytes_of encode_segment (segments_from s (length l) at))
 
   row-segments : (l seen : Text) (at next : ℕ) → Row (λ _. segment_at s) seen at l next → Segments l at next
   unfolding Row segments_from bytes_of

@@ -3,16 +3,13 @@
 use Rattle.std.proofs.Common.{◌≡◌, ℕ, ◌+◌, ◌<◌, ◌≤◌, Bool, true, false, eqb, ltb, leb, List, [], length, get_or, sym, ap, ◌∙◌, arith, ltb-true, le-ltb, lt-ltb, eq-eqb, ne_eqb, eqb-true, le-leb, leb-true}
 use borrow.Author.Tests.{lt-leb}
 use Rattle.text.specs.Text.{Segment, Text}
-use Rattle.text.specs.Refusal.{Outcome, ok, refused, demand, told_verdict, told_amount}
+use Rattle.text.specs.Refusal.{Outcome, ok, refused, demand, outcome}
 use Rattle.text.specs.declared.refusal.Refusal.{Refusal}
 use Rattle.text.proofs.Outcomes.{ok-inj, refused-ok, demand-met, after-met}
 use Rattle.layout.specs.Bytes.{greatest_stretch, word, word_at}
 use Rattle.layout.specs.Pieces.{fits_at, fits, open_at, variants_at, most_in_stretch, closed_at}
 use Rattle.layout.specs.Reading.{Taken, variant_at, many, segment_at, segments_of, whole_stretch, stretch_of}
-use Rattle.text.specs.declared.verdict.Amount.{Amount}
-use Rattle.text.specs.declared.verdict.Amount.TheVariants.{Is}
-use Rattle.text.specs.declared.verdict.Verdict.{Verdict}
-use Rattle.text.specs.declared.verdict.Verdict.TheVariants.{Sound}
+use Rattle.std.specs.Prelude.{Result, Ok, Err}
 
 -- a demand that is refused is refused whatever follows
 demand-refused :
@@ -43,17 +40,17 @@ module _ (s : List ℕ) where
   fits-short l = rw (le-leb (length s) greatest_stretch l)
 
   -- what `fits` tells, whatever is asked after it
-  module _ {v : Verdict} (told : told_verdict v ≡ fits_at s) where
-    pub fits_refused : {w : Refusal} → v ≡ Verdict.Refused w → {A : Type 0} (o : Outcome A) → fits s o ≡ refused w.number w.place
+  module _ {v : Result (Unit {0}) Refusal} (told : outcome v ≡ fits_at s) where
+    pub fits_refused : {w : Refusal} → v ≡ Err w → {A : Type 0} (o : Outcome A) → fits s o ≡ refused w.number w.place
     unfolding fits_at
     fits_refused {w} is o =
-        demand-refused (leb (length s) greatest_stretch) 4 0 tt o w.number w.place (sym told ∙ ap told_verdict is)
+        demand-refused (leb (length s) greatest_stretch) 4 0 tt o w.number w.place (sym told ∙ ap outcome is)
 
-    pub fits-met : v ≡ Sound → length s ≤ greatest_stretch
+    pub fits-met : v ≡ Ok tt → length s ≤ greatest_stretch
     unfolding fits_at
     fits-met is =
         leb-true (length s) greatest_stretch
-        (demand-met (leb (length s) greatest_stretch) 4 0 (ok tt) tt (sym told ∙ ap told_verdict is)).0
+        (demand-met (leb (length s) greatest_stretch) 4 0 (ok tt) tt (sym told ∙ ap outcome is)).0
 
   -- whoever asks it twice asks it once
   pub fits-once : {A : Type 0} (o : Outcome A) → length s ≤ greatest_stretch → fits s o ≡ o
@@ -165,7 +162,7 @@ module _ (s : List ℕ) where
   unfolding stretch_of
   stretch-is short = fits-once s (whole_stretch s) short
 
-  pub stretch-over : {v : Verdict} → told_verdict v ≡ fits_at s → {w : Refusal} → v ≡ Verdict.Refused w
+  pub stretch-over : {v : Result (Unit {0}) Refusal} → outcome v ≡ fits_at s → {w : Refusal} → v ≡ Err w
       → stretch_of s ≡ refused w.number w.place
   unfolding stretch_of
   stretch-over told is = fits_refused s told is (whole_stretch s)
@@ -177,6 +174,6 @@ module _ (s : List ℕ) where
       (leb-true (length s) greatest_stretch a.0, a.1)
 
 -- one segment, from what `variants` tells
-module _ (s : List ℕ) (at : ℕ) {r : Amount} (told : told_amount r ≡ variants_at s at) where
-  pub count-met : {n : ℕ} → r ≡ Is n → Counts s at n
-  count-met {n} is = variants-met s at n (sym told ∙ ap told_amount is)
+module _ (s : List ℕ) (at : ℕ) {r : Result ℕ Refusal} (told : outcome r ≡ variants_at s at) where
+  pub count-met : {n : ℕ} → r ≡ Ok n → Counts s at n
+  count-met {n} is = variants-met s at n (sym told ∙ ap outcome is)

@@ -3,21 +3,18 @@
 use Rattle.std.proofs.Common.{◌≡◌, ℕ, ◌+◌, ◌-◌, ◌*◌, ◌/◌, ◌%◌, ◌^◌, ◌<◌, ◌≤◌, min, List, [], ◌∷◌, ◌++◌, length, sym, refl, ap, ◌∙◌, mod-eq_of_lt, arith}
 use mathlib.Core.Path.{fun_ext}
 use Rattle.text.specs.Text.{Segment, Text, weight, total}
-use Rattle.text.specs.Refusal.{Outcome, ok, refused, after, told_verdict}
+use Rattle.text.specs.Refusal.{Outcome, ok, refused, after, outcome}
 use Rattle.text.specs.declared.refusal.Refusal.{Refusal}
 use Rattle.text.proofs.Outcomes.{told-met, told-refused, after-after}
 use Rattle.layout.specs.Bytes.{word}
 use Rattle.layout.specs.Pieces.{open_at, closed_at}
 use Rattle.layout.specs.Reading.{Taken, many, segment_at, segments_of, whole_stretch, lone_segment}
-use Rattle.layout.specs.Walk.{begun, opened_at, passed_to, end_at, told_walk, Begun}
-use Rattle.text.specs.declared.verdict.Verdict.{Verdict}
-use Rattle.text.specs.declared.verdict.Verdict.TheVariants.{Sound}
+use Rattle.layout.specs.Walk.{begun, opened_at, passed_to, end_at, Begun}
 use Rattle.layout.specs.declared.walk.Walk.{Walk}
-use Rattle.layout.specs.declared.walk.Opened.{Opened}
-use Rattle.layout.specs.declared.walk.Opened.TheVariants.{At}
 use Rattle.layout.proofs.Walks.{walk-length}
 use Rattle.layout.proofs.Frames.{open-cut, open-counts, open-met}
 use Rattle.layout.proofs.Stretches.{InStretch, through-none, through-more, through-refused, through-all, segment-bytes}
+use Rattle.std.specs.Prelude.{Result, Ok, Err}
 
 -- the answers of the steps, from the tests that lead there
 module _ (s : List ℕ) where
@@ -52,18 +49,18 @@ pub record Opening (s : List ℕ) (w : Walk) : Type 0 where
   pub opens : open_at s ≡ ok w.count
   pub whole : whole_stretch s ≡ segments_of s w.count w.at
 
-module _ (s : List ℕ) {r : Opened} (told : told_walk r ≡ opened_at s) where
-  pub open-not : {f : Refusal} → r ≡ Opened.Refused f
+module _ (s : List ℕ) {r : Result Walk Refusal} (told : outcome r ≡ opened_at s) where
+  pub open-not : {f : Refusal} → r ≡ Err f
       → (open_at s ≡ refused f.number f.place) × (whole_stretch s ≡ refused f.number f.place)
   unfolding opened_at whole_stretch
   open-not {f} is =
-      let e = told-refused (open_at s) (λ n. begun n 2) f.number f.place (sym told ∙ ap told_walk is) in
+      let e = told-refused (open_at s) (λ n. begun n 2) f.number f.place (sym told ∙ ap outcome is) in
       (e, rw e)
 
-  pub open_is : {w : Walk} → r ≡ At w → Opening s w
+  pub open_is : {w : Walk} → r ≡ Ok w → Opening s w
   unfolding opened_at whole_stretch
   open_is {w} is =
-      let (n, e, same) = told-met (open_at s) (λ n. begun n 2) w (sym told ∙ ap told_walk is) in
+      let (n, e, same) = told-met (open_at s) (λ n. begun n 2) w (sym told ∙ ap outcome is) in
       let o = open-met s n e in
       let count : n ≡ w.count = ap (λ (v : Walk). v.count) same in
       let at : 2 ≡ w.at = ap (λ (v : Walk). v.at) same in
@@ -159,11 +156,11 @@ module _ {s : List ℕ} {n from : ℕ} {seen : Text} {w : Walk} (q : Going s n f
     all : many (λ _. segment_at s) n [] from ≡ ok (record { value = seen; next = w.at })
     all = through-all s from w.passed seen w.at w.size q.sum n (omega (arith, done, q.few))
 
-    module _ {v : Verdict} (told : told_verdict v ≡ end_at s w) where
-      pub going-not : {f : Refusal} → v ≡ Verdict.Refused f → segments_of s n from ≡ refused f.number f.place
+    module _ {v : Result (Unit {0}) Refusal} (told : outcome v ≡ end_at s w) where
+      pub going-not : {f : Refusal} → v ≡ Err f → segments_of s n from ≡ refused f.number f.place
       unfolding segments_of end_at
       going-not is = rw (all, ← q.count, ← told, is)
 
-      pub going-sound : v ≡ Sound → segments_of s n from ≡ ok seen
+      pub going-sound : v ≡ Ok tt → segments_of s n from ≡ ok seen
       unfolding segments_of end_at
       going-sound is = rw (all, ← q.count, ← told, is)

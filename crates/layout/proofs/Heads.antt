@@ -8,8 +8,9 @@ use Rattle.text.specs.Refusal.{ok, refused}
 use Rattle.text.proofs.Likes.{meant-length}
 use Rattle.text.proofs.Outcomes.{ok-inj, demand-met, refused-ok}
 use Rattle.layout.specs.Bytes.{word}
-use Rattle.layout.specs.Pieces.{letters_at, next_of, Span, head_at}
+use Rattle.layout.specs.Pieces.{letters_at, next_of, head_at}
 use Rattle.layout.specs.Reading.{value_of}
+use Rattle.layout.specs.declared.pieces.Part.{Part}
 
 -- a variant that is whole: where its letters start, and where the next one begins
 pub record Whole (s : List ℕ) (at start next : ℕ) : Type 0 where
@@ -31,10 +32,10 @@ pub head-is : (s : List ℕ) (at start next : ℕ) → head_at s at ≡ ok (reco
 unfolding head_at
 head-is s at start next e =
     let (fits, is) = demand-met (leb (next_of s at) (length s)) 5 at _ (record { start = start; next = next }) e in
-    let p : ◌≡◌ {A = Span} (record { start = at + 2; next = next_of s at }) (record { start = start; next = next }) = ok-inj is in
+    let p : ◌≡◌ {A = Part} (record { start = at + 2; next = next_of s at }) (record { start = start; next = next }) = ok-inj is in
     record {
-      starts = sym (ap (λ (x : Span). x.start) p);
-      ends = sym (ap (λ (x : Span). x.next) p);
+      starts = sym (ap (λ (x : Part). x.start) p);
+      ends = sym (ap (λ (x : Part). x.next) p);
       inside = leb-true (next_of s at) (length s) fits;
     }
 

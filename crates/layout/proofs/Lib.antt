@@ -1,5 +1,4 @@
 -- Laws of the definitions in specs/, and the theorems about the bytes.
-pub mod Told
 pub mod Theorems
 -- numbers, parts and raised letters in the bytes
 pub mod Stands

@@ -73,19 +73,19 @@ module _ {A B : Type 0} (f : List A → B → Outcome (Taken A B)) where
       and_both (g a) (all g l) (h seen at _ r.1) (row-all g h l (seen ++ (a ∷ [])) r.0 next r.2)
 
 -- what was read from `at` to `next` has the bytes b, and they stand there
-pub record Spans (s : List ℕ) (at next : ℕ) (b : List ℕ) : Type 0 where
+pub record Parts (s : List ℕ) (at next : ℕ) (b : List ℕ) : Type 0 where
   pub ends : next ≡ at + length b
   pub stands : Bytes s → Stands s at b
 
 module _ {A : Type 0} (s : List ℕ) (f : List A → ℕ → Outcome (Taken A ℕ)) (e : A → List ℕ) where
   -- where each thing read spans its bytes, a row spans theirs
   pub row-spans :
-      ((seen : List A) (at : ℕ) (x : Taken A ℕ) → f seen at ≡ ok x → Spans s at x.next (e x.value)) →
-      (l seen : List A) (at next : ℕ) → Row f seen at l next → Spans s at next (bytes_of e l)
+      ((seen : List A) (at : ℕ) (x : Taken A ℕ) → f seen at ≡ ok x → Parts s at x.next (e x.value)) →
+      (l seen : List A) (at next : ℕ) → Row f seen at l next → Parts s at next (bytes_of e l)
   unfolding Row bytes_of
   row-spans h [] seen at next r = record { ends = omega arith; stands = λ _. refl }
   row-spans h (a ∷ l) seen at next r =
-      let p : Spans s at r.0 (e a) = h seen at (record { value = a; next = r.0 }) r.1 in
+      let p : Parts s at r.0 (e a) = h seen at (record { value = a; next = r.0 }) r.1 in
       let q = row-spans h l (seen ++ (a ∷ [])) r.0 next r.2 in
       record {
         ends = rw length-append (omega arith);

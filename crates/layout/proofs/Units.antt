@@ -3,17 +3,18 @@ use Rattle.std.proofs.Common.{◌≡◌, ℕ, ◌+◌, ◌-◌, ◌<◌, ◌≤�
 use borrow.Author.Tests.{not-true, not-false}
 use Rattle.text.specs.Letter.{letter, every}
 use Rattle.text.specs.Text.{Variant, Segment}
-use Rattle.text.specs.Refusal.{ok, refused, demand, after}
+use Rattle.text.specs.Refusal.{ok, refused, demand, after, outcome}
 use Rattle.text.specs.declared.refusal.Refusal.{Refusal}
 use Rattle.text.proofs.Outcomes.{ok-inj, demand-met, after-met}
 use Rattle.layout.specs.Skips.{UpTo}
-use Rattle.layout.specs.Pieces.{letters_at, next_of, head_at, misspelt_at, told_part}
+use Rattle.layout.specs.Pieces.{letters_at, next_of, head_at, misspelt_at}
 use Rattle.layout.specs.Reading.{Taken, among, value_of, formed, variant_at, values_from}
 use Rattle.layout.specs.Prints.{suspected_at, repeats_at, Noted}
 use Rattle.layout.specs.declared.pieces.Part.{Part}
 use Rattle.layout.proofs.Heads.{Whole, head-found, head-is, whole_part}
 use Rattle.layout.proofs.RepeatsInBytes.{repeats-at-walk}
 use Rattle.layout.proofs.Prints.{unsuspected}
+use Rattle.std.specs.Prelude.{Result, Err}
 
 -- a variant that was read: its letters, whole, and where the next one begins
 pub record Read (s : List ℕ) (seen : Segment) (at : ℕ) (x : Taken Variant ℕ) : Type 0 where
@@ -31,7 +32,7 @@ variant-read s seen at x e =
     record { inside = (head-is s at _ _ h.1).inside; letters = b.0; new = c.0; is = sym (ok-inj c.1) }
 
 -- it is cut off
-pub head-refused : (s : List ℕ) (at : ℕ) {r : Part} {f : Refusal} → told_part r ≡ head_at s at → r ≡ Part.Refused f → (seen : Segment)
+pub head-refused : (s : List ℕ) (at : ℕ) {r : Result Part Refusal} {f : Refusal} → outcome r ≡ head_at s at → r ≡ Err f → (seen : Segment)
     → variant_at s seen at ≡ refused f.number f.place
 unfolding variant_at formed
 head-refused s at told is seen = rw (← told, is)

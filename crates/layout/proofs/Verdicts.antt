@@ -2,14 +2,15 @@
 use Rattle.std.proofs.Common.{◌≡◌, ℕ, ◌+◌, ◌-◌, ◌≤◌, List, length, take, drop, refl, ap, ◌∙◌, arith}
 use Rattle.text.specs.Letter.{letter, first_not}
 use Rattle.text.specs.Text.{Variant}
-use Rattle.text.specs.Refusal.{refused}
+use Rattle.text.specs.Refusal.{refused, outcome}
 use Rattle.text.specs.declared.refusal.Refusal.{Refusal}
 use Rattle.text.proofs.Letters.{first-le}
-use Rattle.layout.specs.Pieces.{head_at, misspelt_at, told_part}
+use Rattle.layout.specs.Pieces.{head_at, misspelt_at}
 use Rattle.layout.specs.declared.pieces.Part.{Part}
 use Rattle.layout.proofs.Heads.{Whole, head-found, whole_part, whole_length}
+use Rattle.std.specs.Prelude.{Result, Err}
 
-pub misspelt-cut : (s : List ℕ) (at : ℕ) {r : Part} {f : Refusal} → told_part r ≡ head_at s at → r ≡ Part.Refused f
+pub misspelt-cut : (s : List ℕ) (at : ℕ) {r : Result Part Refusal} {f : Refusal} → outcome r ≡ head_at s at → r ≡ Err f
     → misspelt_at s at ≡ refused f.number f.place
 unfolding misspelt_at
 misspelt-cut s at told is = rw (← told, is)

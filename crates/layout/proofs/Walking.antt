@@ -5,35 +5,30 @@ use borrow.Author.Tests.{not-true}
 use lib.Bits.{bit_or}
 use Rattle.text.specs.Letter.{letter, every}
 use Rattle.text.specs.Text.{Variant, Segment, counted, weight}
-use Rattle.text.specs.Refusal.{Outcome, ok, refused, demand, after, told_verdict, told_amount}
+use Rattle.text.specs.Refusal.{Outcome, ok, refused, demand, after, outcome}
 use Rattle.text.specs.declared.refusal.Refusal.{Refusal}
 use Rattle.text.proofs.Outcomes.{refused-ok, refused-inj, demand-met, told-met, told-refused}
-use Rattle.layout.specs.Pieces.{next_of, variants_at, head_at, misspelt_at, told_part}
+use Rattle.layout.specs.Pieces.{next_of, variants_at, head_at, misspelt_at}
 use Rattle.layout.specs.Reading.{Taken, value_of, variant_at, values_from, many, segment_at}
 use Rattle.layout.specs.Prints.{print_at, suspected_at, repeats_at, Noted}
 use Rattle.layout.specs.Skips.{UpTo}
-use Rattle.layout.specs.Cursor.{started, enter_at, compared_at, past_at, told_entered}
-use Rattle.text.specs.declared.verdict.Amount.{Amount}
-use Rattle.text.specs.declared.verdict.Amount.TheVariants.{Is}
+use Rattle.layout.specs.Cursor.{started, enter_at, compared_at, past_at}
 use Rattle.layout.specs.declared.pieces.Part.{Part}
-use Rattle.text.specs.declared.verdict.Verdict.{Verdict}
-use Rattle.text.specs.declared.verdict.Verdict.TheVariants.{Sound}
 use Rattle.layout.specs.declared.cursor.Cursor.{Cursor}
-use Rattle.layout.specs.declared.cursor.Entered.{Entered}
-use Rattle.layout.specs.declared.cursor.Entered.TheVariants.{At}
 use Rattle.layout.proofs.Heads.{Whole, whole_part, whole-letters, value-length}
 use Rattle.layout.proofs.Frames.{variants-met}
 use Rattle.layout.proofs.Prints.{noted-none, noted_more}
 use Rattle.layout.proofs.Units.{variant-read, head-refused, misspelt-refused, again-refused, new-read, unsuspected-new}
 use Rattle.layout.proofs.Segments.{InSegment, in-none, in-values, in_whole, in-next, in-not, in_all}
+use Rattle.std.specs.Prelude.{Result, Ok, Err}
 
 -- the answers of the steps, from the tests and the callees that lead there
-module _ (s : List ℕ) (at : ℕ) {r : Amount} (told : told_amount r ≡ variants_at s at) where
-  pub enter-not : {w : Refusal} → r ≡ Amount.Refused w → enter_at s at ≡ refused w.number w.place
+module _ (s : List ℕ) (at : ℕ) {r : Result ℕ Refusal} (told : outcome r ≡ variants_at s at) where
+  pub enter-not : {w : Refusal} → r ≡ Err w → enter_at s at ≡ refused w.number w.place
   unfolding enter_at
   enter-not is = rw (← told, is)
 
-  pub enter-is : {n : ℕ} → r ≡ Is n → enter_at s at ≡ ok (started n at)
+  pub enter-is : {n : ℕ} → r ≡ Ok n → enter_at s at ≡ ok (started n at)
   unfolding enter_at
   enter-is is = rw (← told, is)
 
@@ -89,20 +84,20 @@ walk-started s from n e small =
       noted = rw none (noted-none s n (from + 1));
     }
 
-module _ (s : List ℕ) (from : ℕ) {r : Entered} (told : told_entered r ≡ enter_at s from) where
-  pub walk-not : {w : Refusal} → r ≡ Entered.Refused w → segment_at s from ≡ refused w.number w.place
+module _ (s : List ℕ) (from : ℕ) {r : Result Cursor Refusal} (told : outcome r ≡ enter_at s from) where
+  pub walk-not : {w : Refusal} → r ≡ Err w → segment_at s from ≡ refused w.number w.place
   unfolding enter_at segment_at
   walk-not {w} is =
-      let e = told-refused (variants_at s from) (λ n. started n from) w.number w.place (sym told ∙ ap told_entered is) in
+      let e = told-refused (variants_at s from) (λ n. started n from) w.number w.place (sym told ∙ ap outcome is) in
       ap (λ (o : Outcome ℕ). after o (λ n. many (variant_at s) n [] (from + 1))) e
 
-  pub sound-enter : {w : Refusal} {x : Taken Segment ℕ} → segment_at s from ≡ ok x → r ≡ Entered.Refused w → ⊥
+  pub sound-enter : {w : Refusal} {x : Taken Segment ℕ} → segment_at s from ≡ ok x → r ≡ Err w → ⊥
   sound-enter {w} {x} sound is = refused-ok w.number w.place x (sym (walk-not is) ∙ sound)
 
-  pub walk_none : {c : Cursor} → r ≡ At c → c.count < 2 ^ 64 → Walking s from [] c
+  pub walk_none : {c : Cursor} → r ≡ Ok c → c.count < 2 ^ 64 → Walking s from [] c
   unfolding enter_at
   walk_none {c} is small =
-      let (n, e, same) = told-met (variants_at s from) (λ n. started n from) c (sym told ∙ ap told_entered is) in
+      let (n, e, same) = told-met (variants_at s from) (λ n. started n from) c (sym told ∙ ap outcome is) in
       subst (Walking s from []) same (walk-started s from n e (rw (ap (λ (x : Cursor). x.count) same) small))
 
 module _ {s : List ℕ} {from : ℕ} {seen : Segment} {c : Cursor} (w : Walking s from seen c) where
@@ -124,7 +119,7 @@ module _ {s : List ℕ} {from : ℕ} {seen : Segment} {c : Cursor} (w : Walking 
     pub walk-less : (next letters : ℕ) {d : Cursor} → d ≡ past_at s c next letters → d.left < c.left
     walk-less next letters e = let near : c.left < 2 ^ 64 = omega (arith, w.few, w.small) in past-less s c more near next letters e
 
-    pub walk-cut : {r : Part} {f : Refusal} → told_part r ≡ head_at s c.at → r ≡ Part.Refused f
+    pub walk-cut : {r : Result Part Refusal} {f : Refusal} → outcome r ≡ head_at s c.at → r ≡ Err f
         → segment_at s from ≡ refused f.number f.place
     walk-cut told is = not-read (head-refused s c.at told is (values_from s (c.count - c.left) c.first))
 
@@ -156,7 +151,7 @@ module _ {s : List ℕ} {from : ℕ} {seen : Segment} {c : Cursor} (w : Walking 
 
     -- in a segment that is known to be sound nothing is refused, and no letter and no variant need be looked at again
     module _ {x : Taken Segment ℕ} (sound : segment_at s from ≡ ok x) where
-      pub sound-head : {r : Part} {f : Refusal} → told_part r ≡ head_at s c.at → r ≡ Part.Refused f → ⊥
+      pub sound-head : {r : Result Part Refusal} {f : Refusal} → outcome r ≡ head_at s c.at → r ≡ Err f → ⊥
       sound-head {r} {f} told is = refused-ok f.number f.place x (sym (walk-cut told is) ∙ sound)
 
       sound-read : (o : Outcome (Taken Variant ℕ)) → variant_at s (values_from s (c.count - c.left) c.first) c.at ≡ o
@@ -181,18 +176,18 @@ module _ {s : List ℕ} {from : ℕ} {seen : Segment} {c : Cursor} (w : Walking 
           → segment_at s from ≡ refused f.number f.place
       walk-misspelt is told = not-read (misspelt-refused up here spelt is told)
 
-      pub walk-again : wrong ≡ false → {v : Verdict} → told_verdict v ≡ compared_at s c → {f : Refusal} → v ≡ Verdict.Refused f
+      pub walk-again : wrong ≡ false → {v : Result (Unit {0}) Refusal} → outcome v ≡ compared_at s c → {f : Refusal} → v ≡ Err f
           → segment_at s from ≡ refused f.number f.place
       unfolding compared_at
       walk-again is told {f} not =
           let (again, eight, place) = refused-again tt (repeats_at s c.first c.at) c.at f.number f.place
-          (sym told ∙ ap told_verdict not) in
+          (sym told ∙ ap outcome not) in
           not-read (again-refused up here spelt is again (eight, place))
 
       -- it is new, as the comparison tells or the set
-      pub walk-new : {v : Verdict} → told_verdict v ≡ compared_at s c → v ≡ Sound → repeats_at s c.first c.at ≡ false
+      pub walk-new : {v : Result (Unit {0}) Refusal} → outcome v ≡ compared_at s c → v ≡ Ok tt → repeats_at s c.first c.at ≡ false
       unfolding compared_at
-      walk-new told sound = not-true _ (demand-met _ 8 c.at (ok tt) tt (sym told ∙ ap told_verdict sound)).0
+      walk-new told sound = not-true _ (demand-met _ 8 c.at (ok tt) tt (sym told ∙ ap outcome sound)).0
 
       pub walk-unsuspected : suspected_at s c.count c.prints c.at ≡ false → repeats_at s c.first c.at ≡ false
       walk-unsuspected none = unsuspected-new up here w.noted ahead none

@@ -1,12 +1,10 @@
 -- A walk over the variants of a segment, as a value: what each step answers, for any bytes and any numbers.
 use Rattle.std.specs.Prelude.{ℕ, ◌+◌, ◌%◌, ◌^◌, not, List, bit_or}
 use Rattle.text.specs.Text.{counted}
-use Rattle.text.specs.Refusal.{Outcome, ok, refused, demand, after}
+use Rattle.text.specs.Refusal.{Outcome, ok, demand, after}
 use Rattle.layout.specs.Pieces.{variants_at}
 use Rattle.layout.specs.Prints.{print_at, repeats_at}
 use Rattle.layout.specs.declared.cursor.Cursor.{Cursor}
-use Rattle.layout.specs.declared.cursor.Entered.{Entered}
-use Rattle.layout.specs.declared.cursor.Entered.TheVariants.{At}
 
 -- before the first of the n variants of the segment at `at`
 abbrev pub started : ℕ → ℕ → Cursor
@@ -31,8 +29,3 @@ past_at s c next letters =
       prints = bit_or c.prints (print_at s c.count c.at);
       size = (c.size + counted letters) % 2 ^ 64;
     }
-
--- what the answer says
-abbrev pub told_entered : Entered → Outcome Cursor
-told_entered (At c) = ok c
-told_entered (Entered.Refused r) = refused r.number r.place

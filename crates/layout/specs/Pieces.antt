@@ -6,7 +6,6 @@ use Rattle.text.specs.Compare.{alike}
 use Rattle.text.specs.Refusal.{Outcome, ok, refused, demand, after}
 use Rattle.layout.specs.Bytes.{greatest_stretch, word, part}
 use Rattle.layout.specs.declared.pieces.Part.{Part}
-use Rattle.layout.specs.declared.pieces.Part.TheVariants.{At}
 
 -- at most 32,768 bytes before o, else 4; and that alone
 abbrev pub fits : {A : Type 0} → List ℕ → Outcome A → Outcome A
@@ -30,13 +29,8 @@ letters_at s at = part s (at + 2) (word s at)
 abbrev pub next_of : List ℕ → ℕ → ℕ
 next_of s at = at + 2 + word s at
 
--- where a variant's letters start, and where the next variant begins, right after them
-pub record Span : Type 0 where
-  pub start : ℕ
-  pub next : ℕ
-
 -- the head of the variant at `at`: 5 where its length or its letters are cut off
-unfoldable pub head_at : List ℕ → ℕ → Outcome Span
+unfoldable pub head_at : List ℕ → ℕ → Outcome Part
 head_at s at = demand (nat_le (next_of s at) (length s)) 5 at (ok (record { start = at + 2; next = next_of s at }))
 
 -- the place of its first byte that is no letter
@@ -63,8 +57,3 @@ most_in_stretch = 10922
 -- after the last of n segments, at `at`: 9 where bytes are left, then 16
 unfoldable pub closed_at : List ℕ → ℕ → ℕ → Outcome (Unit {0})
 closed_at s at n = demand (at == length s) 9 at (demand (nat_le n most_in_stretch) 16 0 (ok tt))
-
--- what the answer of a head says
-abbrev pub told_part : Part → Outcome Span
-told_part (At start next) = ok (record { start = start; next = next })
-told_part (Part.Refused r) = refused r.number r.place

@@ -1,10 +1,8 @@
 -- A walk over the segments of a stretch, as a value: what each step answers, for any bytes and any numbers.
 use Rattle.std.specs.Prelude.{◌≡◌, ℕ, ◌+◌, ◌-◌, ◌/◌, ◌%◌, ◌^◌, ◌≤◌, min, List, length}
-use Rattle.text.specs.Refusal.{Outcome, ok, refused, after}
+use Rattle.text.specs.Refusal.{Outcome, ok, after}
 use Rattle.layout.specs.Pieces.{open_at, closed_at}
 use Rattle.layout.specs.declared.walk.Walk.{Walk}
-use Rattle.layout.specs.declared.walk.Opened.{Opened}
-use Rattle.layout.specs.declared.walk.Opened.TheVariants.{At}
 
 -- before the first of n segments that stand from `at` on
 abbrev pub begun : ℕ → ℕ → Walk
@@ -22,11 +20,6 @@ passed_to w next size =
 -- after the last segment: 9 where bytes are left, then 16
 unfoldable pub end_at : List ℕ → Walk → Outcome (Unit {0})
 end_at s w = closed_at s w.at w.count
-
--- what the answer says
-abbrev pub told_walk : Opened → Outcome Walk
-told_walk (At w) = ok w
-told_walk (Opened.Refused r) = refused r.number r.place
 
 -- a walk that stands before its first segment, within the bytes
 pub record Begun (s : List ℕ) (w : Walk) : Type 0 where

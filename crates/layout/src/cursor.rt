@@ -2,17 +2,17 @@
 // enter; then for each variant head, its own pass over the letters, misspelt if one of them was wrong, compared if it suspects the
 // variant, and past. Any bytes and any numbers are fine.
 ghost use Rattle.std.specs.Prelude.{◌≡◌};
-ghost use Rattle.text.specs.Refusal.{refused, told_verdict};
-ghost use Rattle.layout.specs.Pieces.{head_at, misspelt_at, told_part};
+ghost use Rattle.text.specs.Refusal.{refused, outcome};
+ghost use Rattle.layout.specs.Pieces.{head_at, misspelt_at};
 ghost use Rattle.layout.specs.Prints.{suspected_at};
-ghost use Rattle.layout.specs.Cursor.{enter_at, compared_at, past_at, told_entered};
+ghost use Rattle.layout.specs.Cursor.{enter_at, compared_at, past_at};
 
 use crate::pieces::{Part, head, misspelt, variants};
 use crate::repetition::{again, print, repeated_at, suspected};
 use crate::sizes::FIRST_VARIANT;
 use std::num::wrapping_add_usize;
+use text::Refusal;
 use text::size::counted;
-use text::{Amount, Refusal, Verdict};
 
 #[derive(Clone, Copy)]
 pub struct Cursor {
@@ -27,37 +27,26 @@ pub struct Cursor {
     pub size: usize,
 }
 
-// A cursor before a segment's first variant.
-#[derive(Clone, Copy)]
-pub enum Entered {
-    At(Cursor),
-    Refused(Refusal),
-}
-
 impl Cursor {
     // The segment at `at`: refusals 5 and 6 of its count.
-    pub fn enter(stretch: &[u8], at: usize) -> Entered
-        ensures { told_entered result ≡ enter_at stretch.now at }
+    pub fn enter(stretch: &[u8], at: usize) -> Result<Cursor, Refusal>
+        ensures { outcome result ≡ enter_at stretch.now at }
     {
-        match variants(stretch, at) {
-            Amount::Refused(wrong) => Entered::Refused(wrong),
-            Amount::Is(count) => {
-                let first = at + FIRST_VARIANT;
-                Entered::At(Cursor {
-                    count,
-                    left: count,
-                    first,
-                    at: first,
-                    prints: 0,
-                    size: 0,
-                })
-            }
-        }
+        let count = variants(stretch, at)?;
+        let first = at + FIRST_VARIANT;
+        Ok(Cursor {
+            count,
+            left: count,
+            first,
+            at: first,
+            prints: 0,
+            size: 0,
+        })
     }
 
     // Where the letters of the next variant stand: refusal 5.
-    pub fn head(self, stretch: &[u8]) -> Part
-        ensures { told_part result ≡ head_at stretch.now self.at }
+    pub fn head(self, stretch: &[u8]) -> Result<Part, Refusal>
+        ensures { outcome result ≡ head_at stretch.now self.at }
     {
         head(stretch, self.at)
     }
@@ -77,14 +66,14 @@ impl Cursor {
     }
 
     // Refusal 8 of the next variant. Each walk calls this itself: from a step that they share it would be compiled into every loop.
-    pub fn compared(self, stretch: &[u8]) -> Verdict
-        ensures { told_verdict result ≡ compared_at stretch.now self }
+    pub fn compared(self, stretch: &[u8]) -> Result<(), Refusal>
+        ensures { outcome result ≡ compared_at stretch.now self }
     {
         let at = self.at;
         if repeated_at(stretch, self.first, at) {
-            return Verdict::Refused(again(at));
+            return Err(again(at));
         }
-        Verdict::Sound
+        Ok(())
     }
 
     // After the next variant, which has that many letters and ends before `next`. Numbers wrap, since a test here would cost every

@@ -6,7 +6,7 @@ ghost use Rattle.layout.specs.Bytes.{word, word_at, word_bytes, put};
 pub fn wide(byte: u8) -> usize
     ensures { (result ≡ byte) × (result < 256) }
 {
-    byte as usize
+    usize::from(byte)
 }
 
 // The number of the two bytes at place `at`, which are there.
@@ -14,9 +14,7 @@ pub(crate) fn pair(bytes: &[u8], at: usize) -> usize
     requires { at + 2 ≤ length bytes.now }
     ensures { (result ≡ word bytes.now at) × (result < 65536) }
 {
-    let low = wide(bytes[at]);
-    let high = wide(bytes[at + 1]);
-    low + high * 256
+    usize::from(u16::from_le_bytes([bytes[at], bytes[at + 1]]))
 }
 
 // The same of any place: 0 where the two bytes are not there.

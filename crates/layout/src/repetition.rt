@@ -6,7 +6,7 @@ ghost use Rattle.layout.specs.Pieces.{repeats};
 ghost use Rattle.layout.specs.Prints.{print_at, suspected_at, repeats_at};
 
 use crate::number::{pair, wide};
-use crate::pieces::{Part, head};
+use crate::pieces::head;
 use text::from_end::alike_from_end;
 use text::{Refusal, refusal};
 
@@ -23,7 +23,7 @@ fn stands(stretch: &[u8], start: usize, letters: usize, variant: &[u8]) -> bool
 }
 
 // Whether a variant that has room at `at` is equal to one that stands before it, of those from `first` on. Whatever stands before it
-// and is as long lies within the bytes too, so that the loop tests nothing.
+// and is as long lies within the bytes too, so that the loop tests nothing: it goes from length to length, as no iterator does.
 fn repeated(stretch: &[u8], first: usize, at: usize, variant: &[u8]) -> bool
     ensures { result ≡ repeats stretch.now variant.now first at }
 {
@@ -55,8 +55,8 @@ pub fn repeated_at(stretch: &[u8], first: usize, at: usize) -> bool
     ensures { result ≡ repeats_at stretch.now first at }
 {
     match head(stretch, at) {
-        Part::Refused(_) => false,
-        Part::At { start, next } => repeated(stretch, first, at, &stretch[start..next]),
+        Err(_) => false,
+        Ok(part) => repeated(stretch, first, at, &stretch[part.start..part.next]),
     }
 }
 
@@ -80,10 +80,10 @@ pub fn print(stretch: &[u8], count: usize, at: usize) -> u64
         return 0;
     }
     match head(stretch, at) {
-        Part::Refused(_) => 0,
-        Part::At { start, next } => {
-            let letters = next - start;
-            let last = wide(stretch[next - 1]);
+        Err(_) => 0,
+        Ok(part) => {
+            let letters = part.next - part.start;
+            let last = wide(stretch[part.next - 1]);
             let number = letters % 16 * 4 + last / 2 % 4;
             1 << number
         }

@@ -27,9 +27,7 @@ pub fn put_variant(variant: &[u8], out: &mut [u8], at: usize)
     }
     put_word(variant.len(), &mut *out, at);
     let start = at + FIRST_LETTER;
-    let mut i = 0;
-    while i < variant.len() {
-        out[start + i] = raise(variant[i]);
-        i += 1;
+    for (i, letter) in variant.iter().enumerate() {
+        out[start + i] = raise(*letter);
     }
 }

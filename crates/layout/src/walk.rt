@@ -2,14 +2,14 @@
 // open; then for each segment its own pass over it, by a cursor, and past; and end. A lone segment is a walk of its own. Any bytes and
 // any numbers are fine; whether the bytes are too many is asked before, by `fits`.
 ghost use Rattle.std.specs.Prelude.{◌≡◌};
-ghost use Rattle.text.specs.Refusal.{told_verdict};
+ghost use Rattle.text.specs.Refusal.{outcome};
 ghost use Rattle.layout.specs.Bytes.{word_at};
-ghost use Rattle.layout.specs.Walk.{begun, opened_at, passed_to, end_at, told_walk};
+ghost use Rattle.layout.specs.Walk.{begun, opened_at, passed_to, end_at};
 
 use crate::number::{pair, word_at};
 use crate::sizes::FIRST_SEGMENT;
 use std::num::wrapping_add_usize;
-use text::{Refusal, Verdict, limits, refusal};
+use text::{Refusal, limits, refusal};
 
 #[derive(Clone, Copy)]
 pub struct Walk {
@@ -22,13 +22,6 @@ pub struct Walk {
     pub size: usize,
 }
 
-// A walk before a stretch's first segment.
-#[derive(Clone, Copy)]
-pub enum Opened {
-    At(Walk),
-    Refused(Refusal),
-}
-
 // How many segments a stretch states; none where its count is cut off.
 pub fn stated(stretch: &[u8]) -> usize
     ensures { result ≡ word_at stretch.now 0 }
@@ -38,17 +31,17 @@ pub fn stated(stretch: &[u8]) -> usize
 
 impl Walk {
     // The segments of a stretch, as many as it states: refusal 5 where the count is cut off.
-    pub fn open(stretch: &[u8]) -> Opened
-        ensures { told_walk result ≡ opened_at stretch.now }
+    pub fn open(stretch: &[u8]) -> Result<Walk, Refusal>
+        ensures { outcome result ≡ opened_at stretch.now }
     {
         if stretch.len() < 2 {
-            return Opened::Refused(Refusal {
+            return Err(Refusal {
                 number: refusal::BYTES_END,
                 place: 0,
             });
         }
         let count = pair(stretch, 0);
-        Opened::At(Walk {
+        Ok(Walk {
             count,
             passed: 0,
             at: FIRST_SEGMENT,
@@ -84,21 +77,21 @@ impl Walk {
     }
 
     // What is asked after the last segment: refusal 9, then 16.
-    pub fn end(self, stretch: &[u8]) -> Verdict
-        ensures { told_verdict result ≡ end_at stretch.now self }
+    pub fn end(self, stretch: &[u8]) -> Result<(), Refusal>
+        ensures { outcome result ≡ end_at stretch.now self }
     {
         if self.at != stretch.len() {
-            return Verdict::Refused(Refusal {
+            return Err(Refusal {
                 number: refusal::BYTES_LEFT,
                 place: self.at,
             });
         }
         if limits::MOST_IN_STRETCH < self.count {
-            return Verdict::Refused(Refusal {
+            return Err(Refusal {
                 number: refusal::SEGMENTS_MANY,
                 place: 0,
             });
         }
-        Verdict::Sound
+        Ok(())
     }
 }

@@ -1,14 +1,15 @@
 -- Laws of decimal digits: how they are had one by one, how many there are, and how they are spelt from the last one on.
-use Prim.Native.Nat.{ℕ, zero, suc, ◌+◌, ◌-◌, ◌/◌, ◌%◌, ◌^◌, ◌≤◌, ◌<◌}
+use Prim.Native.Nat.{ℕ, zero, suc, ◌+◌, ◌/◌, ◌%◌, ◌^◌, ◌≤◌, ◌<◌}
 use native.Mathlib.Omega.{arith}
 use native.Mathlib.Decide.{dec_lt}
 use native.Mathlib.Nat.{pow-suc}
 use mathlib.Core.Path.{◌≡◌, sym, ap, ◌∙◌}
 use mathlib.Core.Logic.{by_cases}
-use mathlib.Core.List.{List, [], ◌∷◌, ◌++◌, append-nil, append_assoc}
+use mathlib.Core.List.{List, [], ◌∷◌, ◌++◌}
 use borrow.Author.Tests.{lt-ltb, le-ltb}
-use lib.ListN.{length, drop, set, get_or, length-append, length-drop, length-set, drop_of_length-le, get_or-append}
-use lib.Seq.{drop-cons, get_or-set_same, drop-set-lt}
+use lib.ListN.{length, get_or, length-append, get_or-append}
+use Rattle.std.proofs.lemmas.Fmt.{decimal_by_steps}
+use Rattle.std.specs.Prelude.{decimal}
 use Rattle.lines.specs.Decimal.{digit, digits_in, digits}
 
 -- enough steps are enough
@@ -79,51 +80,7 @@ front_below (suc k) n l =
 pub digits-front : (n : ℕ) → Front n (get_or (digits n) 0 0)
 digits-front n = front_below (suc n) n (omega arith)
 
--- digits put from the last of 20 places on: after place i stand those after the digits of `rest`
-pub record Spelling (number : ℕ) (out : List ℕ) (rest i : ℕ) : Type 0 where
-  pub small : number < 2 ^ 64
-  pub full : length out ≡ 20
-  pub upto : i ≤ 19
-  pub split : digits number ≡ digits rest ++ drop (i + 1) out
-
-pub spelling-none : (number : ℕ) (out : List ℕ) → number < 2 ^ 64 → 20 ≡ length out → Spelling number out number 19
-spelling-none number out s l =
-    let all : length out ≤ 19 + 1 = omega arith in
-    record { small = s; full = sym l; upto = omega arith; split = sym (rw (drop_of_length-le out all) (append-nil (digits number))) }
-
-drop-set : (l : List ℕ) (i a : ℕ) → i < length l → drop i (set l i a) ≡ a ∷ drop (i + 1) l
-drop-set l i a h =
-    let inside : i < length (set l i a) = omega (arith, length-set l i a) in
-    let next : i < suc i = omega arith in
-    let one : i + 1 ≡ suc i = omega arith in
-    rw one (drop-cons (set l i a) i 0 inside ∙ rw (get_or-set_same l i a 0 h, drop-set-lt (suc i) l i a next))
-
-module _ {number : ℕ} {out : List ℕ} {rest i : ℕ} (s : Spelling number out rest i) where
-  -- where there are two digits more, there is a place before this one
-  pub spelling-room : 10 ≤ rest → 0 < i
-  spelling-room l =
-      let below : number < 10 ^ 20 = omega (arith, s.small) in
-      let sum : length (digits number) ≡ length (digits rest) + length (drop (i + 1) out) =
-      ap length s.split ∙ length-append (digits rest) (drop (i + 1) out) in
-      omega (arith, digits-few 19 number below, sum, length_more rest l, digits-some (rest / 10), length-drop (i + 1) out, s.full, s.upto)
-
-  pub spelling-more : 10 ≤ rest → Spelling number (set out i (digit (rest % 10))) (rest / 10) (i - 1)
-  spelling-more l =
-      let some : 0 < i = spelling-room l in
-      let back : i - 1 + 1 ≡ i = omega arith in
-      let d : ℕ = digit (rest % 10) in
-      let inside : i < length out = omega (arith, s.full, s.upto) in
-      let behind : drop (i - 1 + 1) (set out i d) ≡ d ∷ drop (i + 1) out = rw back (drop-set out i d inside) in
-      let next : digits rest ++ drop (i + 1) out ≡ digits (rest / 10) ++ (d ∷ drop (i + 1) out) =
-      rw (digits_more rest l) (append_assoc (digits (rest / 10)) (d ∷ []) (drop (i + 1) out)) in
-      record {
-        small = s.small;
-        full = length-set out i d ∙ s.full;
-        upto = omega (arith, s.upto);
-        split = s.split ∙ next ∙ ap (λ (t : List ℕ). digits (rest / 10) ++ t) (sym behind);
-      }
-
-  pub spelling-end : rest < 10 → drop i (set out i (digit rest)) ≡ digits number
-  spelling-end l =
-      let inside : i < length out = omega (arith, s.full, s.upto) in
-      drop-set out i (digit rest) inside ∙ sym (s.split ∙ rw (digits-one rest l))
+-- they are those that std writes of a number
+pub decimal-digits : (n : ℕ) → n < 2 ^ 64 → decimal n ≡ digits n
+decimal-digits = decimal_by_steps (λ n ds. ds ≡ digits n) (λ n l. sym (digits-one n l))
+    (λ n ds l e. ap (λ (s : List ℕ). s ++ (digit (n % 10) ∷ [])) e ∙ sym (digits_more n l))

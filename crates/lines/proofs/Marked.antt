@@ -1,5 +1,6 @@
 -- Laws of the lines of marked segments, mark by mark.
-use Prim.Native.Nat.{ℕ, suc, ◌+◌, ◌≤◌, ◌<◌}
+use Prim.Native.Nat.{ℕ, zero, suc, ◌+◌, ◌≤◌, ◌<◌}
+use native.Mathlib.Numerals.{add-one}
 use native.Mathlib.Omega.{arith}
 use mathlib.Core.Path.{◌≡◌, refl, sym, ap, ◌∙◌}
 use mathlib.Core.Bool.{Bool, true, false, cond}
@@ -73,22 +74,24 @@ module _ {marks d : List ℕ} {at : ℕ} {out : List ℕ} {next k : ℕ} (e : En
       let all : end_lines (marked_from 0 marks) ≡ e.done = e.split ∙ ap (λ (t : List ℕ). e.done ++ t) none ∙ append-nil e.done in
       rw all e.put
 
--- no segment before k is marked
-pub record Seeking (marks : List ℕ) (k : ℕ) : Type 0 where
-  pub upto : k ≤ length marks
-  pub same : marked_from 0 marks ≡ from marks k
+-- where no segment before k is marked, the marked ones are those from k on
+unmarked-before :
+    (marks : List ℕ) (k : ℕ) → k ≤ length marks → ((i : ℕ) → i < k → get_or marks i 0 ≡ 1 → ⊥) → marked_from 0 marks ≡ from marks k
+unmarked-before marks zero l none = refl
+unmarked-before marks (suc k) l none =
+    unmarked-before marks k (omega arith) (λ i b. none i (omega arith))
+    ∙ from-unmarked marks k (omega arith) (none k (omega arith))
+    ∙ ap (from marks) (add-one k)
 
-pub seeking-none : (marks : List ℕ) → Seeking marks 0
-seeking-none marks = record { upto = omega arith; same = refl }
-
-module _ {marks : List ℕ} {k : ℕ} (s : Seeking marks k) where
-  pub seeking-unmarked : k < length marks → (get_or marks k 0 ≡ 1 → ⊥) → Seeking marks (k + 1)
-  seeking-unmarked l is = record { upto = omega arith; same = s.same ∙ from-unmarked marks k l is }
-
-  pub seeking-marked : k < length marks → get_or marks k 0 ≡ 1 → line first_word k ≡ first_line (marked_from 0 marks)
+-- the first mark that is 1, or none
+module _ (marks : List ℕ) where
+  pub first-marked :
+      (k : ℕ) → k < length marks → get_or marks k 0 ≡ 1 → ((i : ℕ) → i < k → get_or marks i 0 ≡ 1 → ⊥) →
+      line first_word k ≡ first_line (marked_from 0 marks)
   unfolding first_line
-  seeking-marked l is = sym (ap first_line (s.same ∙ from-marked marks k l is))
+  first-marked k l is none = sym (ap first_line (unmarked-before marks k (omega arith) none ∙ from-marked marks k l is))
 
-  pub seeking-end : length marks ≤ k → none_line ≡ first_line (marked_from 0 marks)
+  pub none-marked : ((i : ℕ) → i < length marks → get_or marks i 0 ≡ 1 → ⊥) → none_line ≡ first_line (marked_from 0 marks)
   unfolding first_line
-  seeking-end l = sym (ap first_line (s.same ∙ from_end marks k l))
+  none-marked none =
+      sym (ap first_line (unmarked-before marks (length marks) (omega arith) none ∙ from_end marks (length marks) (omega arith)))

@@ -5,11 +5,11 @@ use native.Mathlib.Decide.{dec_lt}
 use mathlib.Core.Path.{◌≡◌, refl, sym, ap, ap₂, ◌∙◌}
 use mathlib.Core.Logic.{by_cases}
 use mathlib.Core.List.{List, [], ◌∷◌, ◌++◌}
-use lib.ListN.{length, take, drop, get_or, set, length-take, length-drop, length-append}
-use lib.Seq.{take_all, take_at, get_or-take, take-nil, length-take-le}
+use lib.ListN.{length, take, drop, length-take, length-append}
+use lib.Seq.{take_all, take_at, take-nil, length-take-le, drop-drop}
+use borrow.Rule.Slice.PartMut.{put_mid}
 use Rattle.layout.specs.Bytes.{over}
-use Rattle.layout.proofs.Overs.{over_none, length_over, over-over, emitted-length}
-use Rattle.layout.proofs.Overs.{Copied, copied_none, copied-room, copied_more, copied-end}
+use Rattle.layout.proofs.Overs.{over_none, length_over, over-over}
 use Rattle.lines.specs.Puts.{fitting, Put}
 
 take-append : (n : ℕ) (xs ys : List ℕ) → take n (xs ++ ys) ≡ take n xs ++ take (n - length xs) ys
@@ -97,47 +97,16 @@ take-least n k xs e =
     let b : length xs ≤ k = omega arith in
     take_all n xs a ∙ sym (take_all k xs b))
 
--- bytes copied one by one: i of those n for which there is room
-pub record Filling (bytes d : List ℕ) (at n : ℕ) (out : List ℕ) (i : ℕ) : Type 0 where
-  pub few : n ≤ length bytes
-  pub upto : i ≤ n
-  pub room : n ≡ min (length bytes) (length d - at)
-  pub near : at ≤ length d
-  pub copied : Copied d at (take n bytes) out i
-
-pub filling-none : (bytes d : List ℕ) (at n : ℕ) → at ≤ length d → n ≡ min (length bytes) (length d - at) → Filling bytes d at n d 0
-filling-none bytes d at n l e =
-    let few : n ≤ length bytes = omega arith in
-    let long : length (take n bytes) ≡ n = length-take-le n bytes few in
-    let fits : at + length (take n bytes) ≤ length d = omega arith in
-    record { few = few; upto = omega arith; room = e; near = l; copied = copied_none d at (take n bytes) fits }
-
-module _ {bytes d : List ℕ} {at n : ℕ} {out : List ℕ} {i : ℕ} (f : Filling bytes d at n out i) where
-  long : length (take n bytes) ≡ n
-  long = length-take-le n bytes f.few
-
-  pub filling-length : length out ≡ length d
-  filling-length = emitted-length f.copied.emitted
-
-  pub filling-room : i < n → at + i < length out
-  filling-room l = let inside : i < length (take n bytes) = omega (arith, long) in copied-room f.copied inside
-
-  pub filling-more : i < n → Filling bytes d at n (set out (at + i) (get_or bytes i 0)) (i + 1)
-  filling-more l =
-      let inside : i < length (take n bytes) = omega (arith, long) in
-      let same : get_or (take n bytes) i 0 ≡ get_or bytes i 0 = get_or-take n bytes i 0 l in
-      record { few = f.few; upto = omega arith; room = f.room; near = f.near; copied = rw same at (copied_more f.copied inside) }
-
-  pub filling-end : n ≤ i → Put d at bytes out (at + n)
-  filling-end l =
-      let whole : length (take n bytes) ≤ i = omega (arith, long) in
-      let same : take n bytes ≡ fitting d at bytes = take-least n (length d - at) bytes f.room in
-      record { left = copied-end f.copied whole ∙ ap (over d at) same; place = omega (arith, long, ap length same) }
-
--- a part from a place to the end is all that stands there
-pub spelt :
-    (d xs ds out : List ℕ) (at first next n : ℕ) → length xs ≡ n → drop first xs ≡ ds →
-    Put d at (take (n - first) (drop first xs)) out next → Put d at ds out next
-spelt d xs ds out at first next n l e p =
-    let left : length (drop first xs) ≤ n - first = omega (arith, length-drop first xs) in
-    rw (take_all (n - first) (drop first xs) left, e) at p
+-- bytes copied to a place: those for which there is room
+pub put-copied :
+    (bytes d : List ℕ) (at n : ℕ) → at ≤ length d → n ≡ min (length bytes) (length d - at) → (xs : List ℕ) → xs ≡ take n bytes →
+    Put d at bytes (put_mid at (at + n - at) d xs) (at + n)
+unfolding over
+put-copied bytes d at n l e xs is =
+    let same : xs ≡ fitting d at bytes = is ∙ take-least n (length d - at) bytes e in
+    let size : length xs ≡ n = ap length is ∙ length-take-le n bytes (omega arith) in
+    let far : at + n - at ≡ length xs = omega arith in
+    record {
+      left = rw (far, drop-drop, ← same) refl;
+      place = omega (arith, ap length same);
+    }

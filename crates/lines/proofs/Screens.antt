@@ -6,6 +6,7 @@ use mathlib.Core.Logic.{◌⊎◌, inl, inr, ⊎_elim, ◌↔◌}
 use mathlib.Core.Bool.{Bool, true, false, cond}
 use mathlib.Core.List.{List, [], ◌∷◌}
 use lib.ListN.{length, get_or}
+use Rattle.std.proofs.Common.{Some, None}
 use Rattle.text.specs.Text.{Text, total, size}
 use Rattle.text.specs.State.{fresh, ends, next, marks, marks_from}
 use Rattle.text.specs.Strand.{opposite, on_strand}
@@ -23,7 +24,6 @@ use Rattle.search.proofs.Eithers.{either-length}
 use Rattle.lines.specs.Screening.{marks_on, sums_on, EndsOn, given_word, opposite_word, either_word, named_by}
 use Rattle.lines.specs.declared.strands.Strands.{Strands}
 use Rattle.lines.specs.declared.strands.Strands.TheVariants.{One, Either}
-use Rattle.lines.specs.declared.strands.Named.TheVariants.{Are, Unknown}
 
 -- each mark is 0 or 1
 abbrev pub Row : List ℕ → Type 0
@@ -105,21 +105,21 @@ module _ (P : List ℕ) (t : Text) where
 
 -- the strands that a word names, test by test
 module _ (w : List ℕ) where
-  pub named-given : same w given_word ≡ true → Are (One Given) ≡ named_by w
+  pub named-given : same w given_word ≡ true → Some (One Given) ≡ named_by w
   unfolding named_by
   named-given a = rw a refl
 
   module _ (a : same w given_word ≡ false) where
-    pub named-opposite : same w opposite_word ≡ true → Are (One Opposite) ≡ named_by w
+    pub named-opposite : same w opposite_word ≡ true → Some (One Opposite) ≡ named_by w
     unfolding named_by
     named-opposite b = rw (a, b) refl
 
     module _ (b : same w opposite_word ≡ false) where
-      pub named-either : same w either_word ≡ true → Are Either ≡ named_by w
+      pub named-either : same w either_word ≡ true → Some Either ≡ named_by w
       unfolding named_by
       named-either e = rw (a, b, e) refl
 
-      pub named-unknown : same w either_word ≡ false → Unknown ≡ named_by w
+      pub named-unknown : same w either_word ≡ false → None ≡ named_by w
       unfolding named_by
       named-unknown e = rw (a, b, e) refl
 

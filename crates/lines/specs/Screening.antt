@@ -1,5 +1,5 @@
 -- The strands that are screened: the words that name them, what a search on them marks and tells, and where occurrences end on them.
-use Rattle.std.specs.Prelude.{ℕ, cond, ◌⊎◌, List, [], ◌∷◌}
+use Rattle.std.specs.Prelude.{ℕ, cond, ◌⊎◌, List, [], ◌∷◌, Option, Some, None}
 use Rattle.text.specs.Text.{Text}
 use Rattle.text.specs.Compare.{same}
 use Rattle.text.specs.State.{marks}
@@ -10,8 +10,6 @@ use Rattle.search.specs.Answers.{Sums, sums_of}
 use Rattle.search.specs.Either.{either_marks, either_sums}
 use Rattle.lines.specs.declared.strands.Strands.{Strands}
 use Rattle.lines.specs.declared.strands.Strands.TheVariants.{One, Either}
-use Rattle.lines.specs.declared.strands.Named.{Named}
-use Rattle.lines.specs.declared.strands.Named.TheVariants.{Are, Unknown}
 
 -- the marks of a text on these strands
 abbrev pub marks_on : Strands → List ℕ → Text → List ℕ
@@ -41,7 +39,7 @@ abbrev pub either_word : List ℕ
 either_word = 0x65 ∷ 0x69 ∷ 0x74 ∷ 0x68 ∷ 0x65 ∷ 0x72 ∷ []
 
 -- the strands that a word names
-unfoldable pub named_by : List ℕ → Named
+unfoldable pub named_by : List ℕ → Option Strands
 named_by w =
-    cond (same w given_word) (Are (One Given))
-    (cond (same w opposite_word) (Are (One Opposite)) (cond (same w either_word) (Are Either) Unknown))
+    cond (same w given_word) (Some (One Given))
+    (cond (same w opposite_word) (Some (One Opposite)) (cond (same w either_word) (Some Either) None))

@@ -25,12 +25,10 @@ fn put_ends(marks: &[u8], out: &mut [u8], at: usize) -> usize
     ensures { Put out.old at (end_lines (marked_from 0 marks.now)) out.new result }
 {
     let mut next = at;
-    let mut k = 0;
-    while k < marks.len() {
-        if marks[k] == 1 {
+    for (k, mark) in marks.iter().enumerate() {
+        if *mark == 1 {
             next = put_line(b"end ", k as u64, &mut *out, next);
         }
-        k += 1;
     }
     next
 }
@@ -39,14 +37,10 @@ fn put_ends(marks: &[u8], out: &mut [u8], at: usize) -> usize
 fn put_first(marks: &[u8], out: &mut [u8], at: usize) -> usize
     ensures { Put out.old at (first_line (marked_from 0 marks.now)) out.new result }
 {
-    let mut j = 0;
-    while j < marks.len() {
-        if marks[j] == 1 {
-            return put_line(b"first ", j as u64, &mut *out, at);
-        }
-        j += 1;
+    match marks.iter().position(|mark| *mark == 1) {
+        Some(j) => put_line(b"first ", j as u64, &mut *out, at),
+        None => put_bytes(b"first none\n", &mut *out, at),
     }
-    put_bytes(b"first none\n", &mut *out, at)
 }
 
 // A sound stretch: its segment count, its size, the number of marked segments, each of them, and the first.

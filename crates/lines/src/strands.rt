@@ -10,33 +10,27 @@ use text::compare::same;
 use text::strand::Strand;
 
 // The strands that are screened: one of them, or both at once.
+// Stays an enum of its own: both are no missing one.
 #[derive(Clone, Copy)]
 pub enum Strands {
     One(Strand),
     Either,
 }
 
-// The strands that a word names.
-#[derive(Clone, Copy)]
-pub enum Named {
-    Are(Strands),
-    Unknown,
-}
-
 // The strands that a word names: `given`, `opposite` or `either`.
-pub fn by_word(word: &[u8]) -> Named
+pub fn by_word(word: &[u8]) -> Option<Strands>
     ensures { result ≡ named_by word.now }
 {
     if same(word, b"given") {
-        return Named::Are(Strands::One(Strand::Given));
+        return Some(Strands::One(Strand::Given));
     }
     if same(word, b"opposite") {
-        return Named::Are(Strands::One(Strand::Opposite));
+        return Some(Strands::One(Strand::Opposite));
     }
     if same(word, b"either") {
-        return Named::Are(Strands::Either);
+        return Some(Strands::Either);
     }
-    Named::Unknown
+    None
 }
 
 // The search on these strands.

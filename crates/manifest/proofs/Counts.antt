@@ -11,7 +11,7 @@ use Rattle.text.proofs.Truth.{and_left, and_right}
 use Rattle.text.proofs.Strings.{suffix-is}
 use Rattle.lines.specs.Decimal.{digits}
 use Rattle.lines.proofs.Theorems.{value, told}
-use Rattle.manifest.specs.Kinds.{of}
+use Rattle.manifest.specs.Kinds.{in_line, hex_digit, of_name}
 use Rattle.manifest.specs.Lines.{Entry}
 use Rattle.manifest.specs.Written.{comment_line, stretches_word, segments_word, bytes_word, counts_line, manifest_of}
 use Rattle.manifest.specs.Check.{before_seal, counts_stand}
@@ -93,7 +93,7 @@ words_same n s b i j k e =
     (same_number n i first.0, same_number s j second.0, same_number b k third)
 
 ours-plain : (n s b : ℕ) → every (other 10) (0x23 ∷ counts_words n s b) ≡ true
-unfolding every of
+unfolding every in_line hex_digit of_name
 ours-plain n s b = counts-plain n s b
 
 pub counts-only :

@@ -3,7 +3,6 @@ use Prim.Native.Nat.{ℕ, suc, ◌+◌, ◌*◌, ◌/◌, ◌%◌, ◌≤◌, �
 use native.Mathlib.Omega.{arith}
 use mathlib.Core.Path.{◌≡◌, refl, sym, ap, ◌∙◌}
 use mathlib.Core.List.{List, [], ◌∷◌, ◌++◌, append-nil, append_assoc}
-use borrow.Author.Tests.{lt-ltb, le-ltb}
 use lib.ListN.{length, drop, get_or, drop_of_length-le}
 use lib.Seq.{drop-cons}
 use Rattle.digest.specs.Blake2b.{blake2b256}
@@ -11,12 +10,6 @@ use Rattle.lines.specs.Puts.{Put}
 use Rattle.lines.proofs.Putting.{put-none, put-more}
 use Rattle.manifest.specs.Line.{blanks}
 use Rattle.manifest.specs.Written.{glyph, hex_of, entry_for, entry_line}
-
-pub glyph-low : (d : ℕ) → d < 10 → 48 + d ≡ glyph d
-glyph-low d l = rw (lt-ltb d 10 l) refl
-
-pub glyph-high : (d : ℕ) → 10 ≤ d → 87 + d ≡ glyph d
-glyph-high d l = rw (le-ltb d 10 l) refl
 
 pub hex-length : (s : List ℕ) → length (hex_of s) ≡ 2 * length s
 unfolding hex_of

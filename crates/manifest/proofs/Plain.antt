@@ -16,9 +16,8 @@ use Rattle.digest.specs.Words.{at, low_bytes, first32}
 use Rattle.digest.specs.Blake2b.{blake2b256}
 use Rattle.lines.specs.Decimal.{digit, digits}
 use Rattle.lines.proofs.Digits.{digits-one, digits_more}
-use Rattle.manifest.specs.Kinds.{of}
+use Rattle.manifest.specs.Kinds.{in_line, hex_digit, of_name}
 use Rattle.manifest.specs.Written.{glyph, hex_of}
-use Rattle.manifest.specs.declared.classes.Kind.TheVariants.{InLine, Digit, Name}
 
 -- what each byte passes that passes another test
 every-weaker : (f g : ℕ → Bool) → ((c : ℕ) → f c ≡ true → g c ≡ true) → (s : List ℕ) → every f s ≡ true → every g s ≡ true
@@ -31,27 +30,27 @@ pub both-every : (f : ℕ → Bool) (s r : List ℕ) → every f s ≡ true → 
 both-every f s r a b = every_append f s r ∙ and_both (every f s) (every f r) a b
 
 -- a byte of another kind is no line feed
-plain_byte : (c : ℕ) → (c ≡ 10 → ⊥) → of InLine c ≡ true
-unfolding of
+plain_byte : (c : ℕ) → (c ≡ 10 → ⊥) → in_line c ≡ true
+unfolding in_line hex_digit of_name
 plain_byte c h = rw (ne_eqb c 10 h) refl
 
-digit-plain : (c : ℕ) → of Digit c ≡ true → of InLine c ≡ true
-unfolding of
+digit-plain : (c : ℕ) → hex_digit c ≡ true → in_line c ≡ true
+unfolding in_line hex_digit of_name
 digit-plain c e = plain_byte c (λ h. true≢false (sym e ∙ rw h refl))
 
-name-plain : (c : ℕ) → of Name c ≡ true → of InLine c ≡ true
-unfolding of
+name-plain : (c : ℕ) → of_name c ≡ true → in_line c ≡ true
+unfolding in_line hex_digit of_name
 name-plain c e = plain_byte c (λ h. true≢false (sym e ∙ rw h refl))
 
-pub digits-plain : (s : List ℕ) → every (of Digit) s ≡ true → every (of InLine) s ≡ true
-digits-plain = every-weaker (of Digit) (of InLine) digit-plain
+pub digits-plain : (s : List ℕ) → every hex_digit s ≡ true → every in_line s ≡ true
+digits-plain = every-weaker hex_digit in_line digit-plain
 
-pub names-plain : (s : List ℕ) → every (of Name) s ≡ true → every (of InLine) s ≡ true
-names-plain = every-weaker (of Name) (of InLine) name-plain
+pub names-plain : (s : List ℕ) → every of_name s ≡ true → every in_line s ≡ true
+names-plain = every-weaker of_name in_line name-plain
 
 -- a digit is no `#`
-pub digit-no-comment : (c : ℕ) → of Digit c ≡ true → eqb c 0x23 ≡ false
-unfolding of
+pub digit-no-comment : (c : ℕ) → hex_digit c ≡ true → eqb c 0x23 ≡ false
+unfolding in_line hex_digit of_name
 digit-no-comment c e = ne_eqb c 0x23 (λ h. true≢false (sym e ∙ rw h refl))
 
 -- a byte other than c
@@ -77,13 +76,13 @@ decimal-below c low (suc k) n l =
 pub decimal-other : (c : ℕ) → c < 48 → (n : ℕ) → every (other c) (digits n) ≡ true
 decimal-other c low n = decimal-below c low (suc n) n (omega arith)
 
-pub decimal-plain : (n : ℕ) → every (of InLine) (digits n) ≡ true
-unfolding of
+pub decimal-plain : (n : ℕ) → every in_line (digits n) ≡ true
+unfolding in_line hex_digit of_name
 decimal-plain n = decimal-other 10 (omega arith) n
 
 -- hex digits of a byte
-glyph-digit : (d : ℕ) → d < 16 → of Digit (glyph d) ≡ true
-unfolding of
+glyph-digit : (d : ℕ) → d < 16 → hex_digit (glyph d) ≡ true
+unfolding in_line hex_digit of_name
 glyph-digit d l =
     by_cases (dec_lt d 10)
     (λ (few : d < 10).
@@ -103,15 +102,15 @@ unfolding hex_of
 hex-append [] r = refl
 hex-append (b ∷ s) r = ap (λ (t : List ℕ). glyph (b / 16) ∷ glyph (b % 16) ∷ t) (hex-append s r)
 
-hex-low : (n x : ℕ) → every (of Digit) (hex_of (low_bytes n x)) ≡ true
+hex-low : (n x : ℕ) → every hex_digit (hex_of (low_bytes n x)) ≡ true
 unfolding low_bytes hex_of every
 hex-low zero x = refl
 hex-low (suc n) x =
     let b : ℕ = x % 256 in
-    and_both (of Digit (glyph (b / 16))) _ (glyph-digit (b / 16) (omega arith))
-    (and_both (of Digit (glyph (b % 16))) _ (glyph-digit (b % 16) (omega arith)) (hex-low n (x / 256)))
+    and_both (hex_digit (glyph (b / 16))) _ (glyph-digit (b / 16) (omega arith))
+    (and_both (hex_digit (glyph (b % 16))) _ (glyph-digit (b % 16) (omega arith)) (hex-low n (x / 256)))
 
-hex-first : (h : List ℕ) → every (of Digit) (hex_of (first32 h)) ≡ true
+hex-first : (h : List ℕ) → every hex_digit (hex_of (first32 h)) ≡ true
 unfolding first32
 hex-first h =
     let a : List ℕ = low_bytes 8 (at h 0) in
@@ -119,18 +118,18 @@ hex-first h =
     let c : List ℕ = low_bytes 8 (at h 2) in
     let d : List ℕ = low_bytes 8 (at h 3) in
     rw (hex-append a (b ++ (c ++ d)), hex-append b (c ++ d), hex-append c d)
-    (both-every (of Digit) (hex_of a) (hex_of b ++ (hex_of c ++ hex_of d)) (hex-low 8 (at h 0))
-    (both-every (of Digit) (hex_of b) (hex_of c ++ hex_of d) (hex-low 8 (at h 1))
-    (both-every (of Digit) (hex_of c) (hex_of d) (hex-low 8 (at h 2)) (hex-low 8 (at h 3)))))
+    (both-every hex_digit (hex_of a) (hex_of b ++ (hex_of c ++ hex_of d)) (hex-low 8 (at h 0))
+    (both-every hex_digit (hex_of b) (hex_of c ++ hex_of d) (hex-low 8 (at h 1))
+    (both-every hex_digit (hex_of c) (hex_of d) (hex-low 8 (at h 2)) (hex-low 8 (at h 3)))))
 
 -- the digits of a digest are hex digits
-pub digest-digits : (s : List ℕ) → every (of Digit) (hex_of (blake2b256 s)) ≡ true
+pub digest-digits : (s : List ℕ) → every hex_digit (hex_of (blake2b256 s)) ≡ true
 unfolding blake2b256
 digest-digits s = hex-first _
 
 -- where the first line feed stands
-pub first-feed : (l r : List ℕ) → every (of InLine) l ≡ true → first_not (of InLine) (l ++ (10 ∷ r)) ≡ length l
-unfolding first_not every of
+pub first-feed : (l r : List ℕ) → every in_line l ≡ true → first_not in_line (l ++ (10 ∷ r)) ≡ length l
+unfolding first_not every in_line hex_digit of_name
 first-feed [] r e = refl
 first-feed (c ∷ l) r e =
-    rw (and_left (of InLine c) (every (of InLine) l) e) (ap suc (first-feed l r (and_right (of InLine c) (every (of InLine) l) e)))
+    rw (and_left (in_line c) (every in_line l) e) (ap suc (first-feed l r (and_right (in_line c) (every in_line l) e)))

@@ -5,6 +5,7 @@ use mathlib.Core.Path.{◌≡◌, refl, sym, ap, ◌∙◌}
 use mathlib.Core.Bool.{true, false, not}
 use mathlib.Core.List.{List, [], ◌∷◌, ◌++◌, append-nil, append_assoc}
 use borrow.Author.Tests.{lt-leb}
+use Rattle.std.proofs.Common.{Some, None}
 use lib.Dec.{eqb, ltb}
 use lib.ListN.{length, take, drop, get_or, length-append}
 use lib.Seq.{take_at, drop_at, drop-drop, drop-append_seam}
@@ -12,12 +13,11 @@ use Rattle.text.specs.Letter.{every, first_not}
 use Rattle.text.specs.Compare.{same, from_to}
 use Rattle.text.proofs.Strings.{same_refl}
 use Rattle.text.proofs.Truth.{and_left, and_right, and_both}
-use Rattle.manifest.specs.Kinds.{of, is_name}
-use Rattle.manifest.specs.Line.{blanks, is_comment, is_entry, said_by, line_to, end_from, line_of}
+use Rattle.manifest.specs.Kinds.{in_line, hex_digit, of_name, is_name}
+use Rattle.manifest.specs.Line.{blanks, is_comment, is_entry, comment, entry, said_by, line_to, end_from, line_of}
 use Rattle.manifest.specs.Lines.{Entry, entry_at, entries_from, wrong_from}
 use Rattle.manifest.specs.Written.{comment_line, comment_lines, entry_for, entry_line, entry_lines}
-use Rattle.manifest.specs.declared.classes.Kind.TheVariants.{InLine, Digit, Name}
-use Rattle.manifest.specs.declared.reading.Line.{Line}
+use Rattle.manifest.proofs.Entries.{line-none}
 use Rattle.manifest.proofs.Lines.{entries_none, entries-more, wrong-none, wrong-more}
 use Rattle.manifest.proofs.Seals.{hex-digest}
 use Rattle.manifest.proofs.Plain.{both-every, digits-plain, names-plain, digit-no-comment, digest-digits, first-feed}
@@ -25,7 +25,7 @@ use Rattle.manifest.proofs.Plain.{both-every, digits-plain, names-plain, digit-n
 -- an entry that can be put: 64 digits and a name
 pub record SoundEntry (e : Entry) : Type 0 where
   pub size : length e.digest ≡ 64
-  pub digits : every (of Digit) e.digest ≡ true
+  pub digits : every hex_digit e.digest ≡ true
   pub named : is_name e.name ≡ true
 
 -- that of a stretch under a name is one
@@ -38,14 +38,16 @@ pub record Reads (m : List ℕ) (at : ℕ) (es : List Entry) : Type 0 where
   pub right : wrong_from m at ≡ false
 
 pub reads_end : (m : List ℕ) → Reads m (length m) []
-reads_end m = record { entries = entries_none m (length m) (omega arith); right = wrong-none m (length m) (omega arith) }
+reads_end m =
+    let none : line_of m (length m) ≡ None = sym (line-none m (length m) (omega arith)) in
+    record { entries = entries_none m (length m) none; right = wrong-none m (length m) none }
 
 -- what a comment's line and an entry's line say
-comment-said : (at end : ℕ) (l : List ℕ) → is_comment l ≡ true → said_by at end l ≡ Line.Comment (end + 1)
+comment-said : (at end : ℕ) (l : List ℕ) → is_comment l ≡ true → said_by at end l ≡ comment (end + 1)
 unfolding said_by
 comment-said at end l e = rw e refl
 
-entry-said : (at end : ℕ) (l : List ℕ) → is_comment l ≡ false → is_entry l ≡ true → said_by at end l ≡ Line.Stretch (at + 66) end (end + 1)
+entry-said : (at end : ℕ) (l : List ℕ) → is_comment l ≡ false → is_entry l ≡ true → said_by at end l ≡ entry (at + 66) end (end + 1)
 unfolding said_by
 entry-said at end l c e = rw (c, e) refl
 
@@ -53,17 +55,17 @@ entry-said at end l c e = rw (c, e) refl
 abbrev content_of : Entry → List ℕ
 content_of e = e.digest ++ blanks ++ e.name
 
-no-comment : (d r : List ℕ) → length d ≡ 64 → every (of Digit) d ≡ true → is_comment (d ++ r) ≡ false
+no-comment : (d r : List ℕ) → length d ≡ 64 → every hex_digit d ≡ true → is_comment (d ++ r) ≡ false
 unfolding is_comment every
 no-comment [] r n e = absurd (let z : ⊥ = omega arith in z)
-no-comment (c ∷ d) r n e = digit-no-comment c (and_left (of Digit c) (every (of Digit) d) e)
+no-comment (c ∷ d) r n e = digit-no-comment c (and_left (hex_digit c) (every hex_digit d) e)
 
-name-bytes : (n : List ℕ) → is_name n ≡ true → every (of Name) n ≡ true
+name-bytes : (n : List ℕ) → is_name n ≡ true → every of_name n ≡ true
 unfolding is_name
-name-bytes n e = and_right (not (eqb (get_or n 0 0) 0x2F)) (every (of Name) n) (and_right (ltb 0 (length n)) _ e)
+name-bytes n e = and_right (not (eqb (get_or n 0 0) 0x2F)) (every of_name n) (and_right (ltb 0 (length n)) _ e)
 
-blanks-plain : every (of InLine) blanks ≡ true
-unfolding every of
+blanks-plain : every in_line blanks ≡ true
+unfolding every in_line hex_digit of_name
 blanks-plain = refl
 
 module _ (e : Entry) (s : SoundEntry e) where
@@ -73,10 +75,10 @@ module _ (e : Entry) (s : SoundEntry e) where
   content-length : length (content_of e) ≡ 66 + length e.name
   content-length = length-append (e.digest ++ blanks) e.name ∙ ap (λ (n : ℕ). n + length e.name) front
 
-  content-plain : every (of InLine) (content_of e) ≡ true
+  content-plain : every in_line (content_of e) ≡ true
   content-plain =
-      both-every (of InLine) (e.digest ++ blanks) e.name
-      (both-every (of InLine) e.digest blanks (digits-plain e.digest s.digits) blanks-plain)
+      both-every in_line (e.digest ++ blanks) e.name
+      (both-every in_line e.digest blanks (digits-plain e.digest s.digits) blanks-plain)
       (names-plain e.name (name-bytes e.name s.named))
 
   content-no-comment : is_comment (content_of e) ≡ false
@@ -90,10 +92,10 @@ module _ (e : Entry) (s : SoundEntry e) where
       let blank : drop 64 (content_of e) ≡ blanks ++ e.name = ap (drop 64) parted ∙ drop_at e.digest (blanks ++ e.name) 64 s.size in
       let name : drop 66 (content_of e) ≡ e.name = drop_at (e.digest ++ blanks) e.name 66 front in
       rw (digest, blank, name)
-      (and_both (every (of Digit) e.digest) _ s.digits (and_both (same blanks blanks) _ (same_refl blanks) s.named))
+      (and_both (every hex_digit e.digest) _ s.digits (and_both (same blanks blanks) _ (same_refl blanks) s.named))
 
 -- a line l that begins after u
-module _ (u l r : List ℕ) (plain : every (of InLine) l ≡ true) where
+module _ (u l r : List ℕ) (plain : every in_line l ≡ true) where
   abbrev whole : List ℕ
   whole = u ++ (l ++ (10 ∷ r))
 
@@ -107,14 +109,14 @@ module _ (u l r : List ℕ) (plain : every (of InLine) l ≡ true) where
   begins = omega (arith, size)
 
   ends : end_from whole (length u) ≡ length u + length l
-  ends = ap (λ (n : ℕ). length u + n) (ap (first_not (of InLine)) at-line ∙ first-feed l r plain)
+  ends = ap (λ (n : ℕ). length u + n) (ap (first_not in_line) at-line ∙ first-feed l r plain)
 
   content : from_to whole (length u) (length u + length l) ≡ l
   content =
       let n : length u + length l - length u ≡ length l = omega arith in
       rw (n, at-line) (take_at l (10 ∷ r) (length l) refl)
 
-  line-there : line_of whole (length u) ≡ said_by (length u) (length u + length l) l
+  line-there : line_of whole (length u) ≡ Some (said_by (length u) (length u + length l) l)
   unfolding line_of line_to
   line-there =
       let inside : length u + length l < length whole = omega (arith, size) in
@@ -122,23 +124,23 @@ module _ (u l r : List ℕ) (plain : every (of InLine) l ≡ true) where
 
   comment-there : is_comment l ≡ true → {es : List Entry} → Reads whole (length u + length l + 1) es → Reads whole (length u) es
   comment-there c {es} rest =
-      let line : line_of whole (length u) ≡ Line.Comment (length u + length l + 1) =
-      line-there ∙ comment-said (length u) (length u + length l) l c in
+      let line : line_of whole (length u) ≡ Some (comment (length u + length l + 1)) =
+      line-there ∙ ap Some (comment-said (length u) (length u + length l) l c) in
       record {
-        entries = entries-more whole (length u) begins ∙ rw line rest.entries;
-        right = wrong-more whole (length u) begins ∙ rw line rest.right;
+        entries = entries-more whole (length u) line ∙ rest.entries;
+        right = wrong-more whole (length u) line ∙ rest.right;
       }
 
   entry-there :
       is_comment l ≡ false → is_entry l ≡ true → {es : List Entry} → Reads whole (length u + length l + 1) es →
       Reads whole (length u) (entry_at whole (length u + 66) (length u + length l) ∷ es)
   entry-there c e {es} rest =
-      let line : line_of whole (length u) ≡ Line.Stretch (length u + 66) (length u + length l) (length u + length l + 1) =
-      line-there ∙ entry-said (length u) (length u + length l) l c e in
+      let line : line_of whole (length u) ≡ Some (entry (length u + 66) (length u + length l) (length u + length l + 1)) =
+      line-there ∙ ap Some (entry-said (length u) (length u + length l) l c e) in
       record {
-        entries = entries-more whole (length u) begins
-            ∙ rw line (ap (λ (fs : List Entry). entry_at whole (length u + 66) (length u + length l) ∷ fs) rest.entries);
-        right = wrong-more whole (length u) begins ∙ rw line rest.right;
+        entries = entries-more whole (length u) line
+            ∙ ap (λ (fs : List Entry). entry_at whole (length u + 66) (length u + length l) ∷ fs) rest.entries;
+        right = wrong-more whole (length u) line ∙ rest.right;
       }
 
 -- the entry that is read is the one that was put
@@ -171,9 +173,9 @@ module _ (e : Entry) (s : SoundEntry e) (u r : List ℕ) where
 
 -- a line after u, in a manifest m
 pub reads-comment :
-    (m u c r : List ℕ) {es : List Entry} → m ≡ u ++ (comment_line c ++ r) → every (of InLine) c ≡ true →
+    (m u c r : List ℕ) {es : List Entry} → m ≡ u ++ (comment_line c ++ r) → every in_line c ≡ true →
     Reads m (length (u ++ comment_line c)) es → Reads m (length u) es
-unfolding comment_line is_comment every of
+unfolding comment_line is_comment every in_line hex_digit of_name
 reads-comment m u c r {es} e plain rest =
     let l : List ℕ = 0x23 ∷ c in
     let same : m ≡ u ++ (l ++ (10 ∷ r)) = e ∙ ap (λ (x : List ℕ). u ++ (0x23 ∷ x)) (append_assoc c (10 ∷ []) r) in
@@ -201,7 +203,7 @@ reads-entry m u e r {es} is s rest =
 -- comments without a line feed
 abbrev pub Plain : List (List ℕ) → Type 0
 Plain [] = Unit {0}
-Plain (c ∷ cs) = (every (of InLine) c ≡ true) × Plain cs
+Plain (c ∷ cs) = (every in_line c ≡ true) × Plain cs
 
 -- entries that can be put
 abbrev pub Sound : List Entry → Type 0

@@ -4,11 +4,11 @@ use native.Mathlib.Omega.{arith}
 use native.Mathlib.Decide.{dec_lt}
 use mathlib.Core.Path.{◌≡◌, refl, sym, ap, ap₂, ◌∙◌}
 use mathlib.Core.Logic.{by_cases}
-use mathlib.Core.Bool.{Bool, true, false}
+use mathlib.Core.Bool.{Bool, false}
 use mathlib.Core.List.{List, [], ◌∷◌, ◌++◌, append_assoc}
 use lib.ListN.{length, take, drop, length-append, length-take, length-drop}
 use lib.Seq.{take_all, take_at, drop_at, take-add, length-take-le}
-use Rattle.text.specs.Compare.{same, prefix, suffix}
+use Rattle.text.specs.Compare.{same, suffix}
 use Rattle.text.proofs.Strings.{same-lengths, suffix-short, part_end}
 use Rattle.layout.specs.Bytes.{over}
 use Rattle.digest.specs.Words.{low_bytes, first32}
@@ -18,9 +18,8 @@ use Rattle.lines.specs.Puts.{fitting, Put}
 use Rattle.lines.proofs.Putting.{put-length, put-behind, put-more, put_all}
 use Rattle.lines.proofs.Digits.{digits-few}
 use Rattle.manifest.specs.Lines.{digest_at}
-use Rattle.manifest.specs.Written.{hex_of, head_line, counts_line, digest_line, end_lines}
-use Rattle.manifest.specs.Check.{before_seal, sealed, listed_of, checked_of, vouches, counts_stand}
-use Rattle.manifest.specs.declared.checking.Checked.{Checked}
+use Rattle.manifest.specs.Written.{hex_of, counts_line, digest_line, end_lines}
+use Rattle.manifest.specs.Check.{before_seal, sealed, vouches, counts_stand}
 use Rattle.manifest.proofs.Hex.{hex-length}
 
 pub digest-length : (s : List ℕ) → length (blake2b256 s) ≡ 32
@@ -184,18 +183,3 @@ module _ {d o : List ℕ} {at end : ℕ} (n s b : ℕ) (first : Put d at (counts
       let room : at + length xs ≤ length d = omega arith in
       let q : Put o end (digest_line (blake2b256 (take at d ++ xs))) out next = rw (is ∙ ap blake2b256 (fits-front room)) at p in
       put-more first q)
-
--- what a manifest is, asked in this order
-module _ (m : List ℕ) {a : Bool} (begins : a ≡ prefix head_line m) where
-  pub checked-foreign : a ≡ false → Checked.Foreign ≡ checked_of m
-  unfolding checked_of
-  checked-foreign h = rw (← begins, h) refl
-
-  module _ (own : a ≡ true) {b : Bool} (ends : b ≡ sealed m) where
-    pub checked-altered : b ≡ false → Checked.Altered ≡ checked_of m
-    unfolding checked_of
-    checked-altered h = rw (← begins, own, ← ends, h) refl
-
-    pub checked-listed : b ≡ true → {r : Checked} → r ≡ listed_of m → r ≡ checked_of m
-    unfolding checked_of
-    checked-listed h {r} e = rw (← begins, own, ← ends, h) e

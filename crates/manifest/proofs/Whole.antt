@@ -13,13 +13,12 @@ use Rattle.digest.specs.Blake2b.{blake2b256}
 use Rattle.lines.specs.Decimal.{digits}
 use Rattle.lines.specs.Puts.{Put}
 use Rattle.lines.proofs.Putting.{put-more, put_all}
-use Rattle.manifest.specs.Kinds.{of}
+use Rattle.manifest.specs.Kinds.{in_line, hex_digit, of_name}
 use Rattle.manifest.specs.Line.{blanks}
 use Rattle.manifest.specs.Lines.{Entry}
 use Rattle.manifest.specs.Written.{hex_of, head_line, comment_line, comment_lines, entry_line, entry_lines, stretches_word, segments_word}
 use Rattle.manifest.specs.Written.{bytes_word, digest_word, counts_line, digest_line, end_lines, front_of, manifest_of}
 use Rattle.manifest.specs.Check.{before_seal, sealed, counts_stand}
-use Rattle.manifest.specs.declared.classes.Kind.TheVariants.{InLine}
 use Rattle.manifest.proofs.Seals.{seal-length}
 use Rattle.manifest.proofs.Plain.{both-every, digits-plain, decimal-plain, digest-digits}
 use Rattle.manifest.proofs.ReadBack.{Plain, Sound, Reads, reads_end, reads-comment, reads-comments, reads-entries}
@@ -46,14 +45,14 @@ seal-is : (d : List ℕ) → digest_line d ≡ comment_line (seal_words d)
 unfolding digest_line comment_line seal_words
 seal-is d = refl
 
-head_plain : every (of InLine) head_words ≡ true
-unfolding every of head_words
+head_plain : every in_line head_words ≡ true
+unfolding every in_line hex_digit of_name head_words
 head_plain = refl
 
-pub counts-plain : (n s b : ℕ) → every (of InLine) (counts_words n s b) ≡ true
-unfolding every of counts_words
+pub counts-plain : (n s b : ℕ) → every in_line (counts_words n s b) ≡ true
+unfolding every in_line hex_digit of_name counts_words
 counts-plain n s b =
-    let f : ℕ → Bool = of InLine in
+    let f : ℕ → Bool = in_line in
     let w : List ℕ = drop 1 stretches_word in
     let one = both-every f w (digits n) refl (decimal-plain n) in
     let two = both-every f (w ++ digits n) segments_word one refl in
@@ -61,14 +60,14 @@ counts-plain n s b =
     let four = both-every f (w ++ digits n ++ segments_word ++ digits s) bytes_word three refl in
     both-every f (w ++ digits n ++ segments_word ++ digits s ++ bytes_word) (digits b) four (decimal-plain b)
 
-seal-plain : (s : List ℕ) → every (of InLine) (seal_words (blake2b256 s)) ≡ true
-unfolding every of seal_words
+seal-plain : (s : List ℕ) → every in_line (seal_words (blake2b256 s)) ≡ true
+unfolding every in_line hex_digit of_name seal_words
 seal-plain s =
-    both-every (of InLine) (drop 1 digest_word) (hex_of (blake2b256 s)) refl (digits-plain (hex_of (blake2b256 s)) (digest-digits s))
+    both-every in_line (drop 1 digest_word) (hex_of (blake2b256 s)) refl (digits-plain (hex_of (blake2b256 s)) (digest-digits s))
 
 -- a line that is a comment
 reads-own :
-    (m u x c r : List ℕ) {es : List Entry} → x ≡ comment_line c → m ≡ u ++ (x ++ r) → every (of InLine) c ≡ true →
+    (m u x c r : List ℕ) {es : List Entry} → x ≡ comment_line c → m ≡ u ++ (x ++ r) → every in_line c ≡ true →
     Reads m (length (u ++ x)) es → Reads m (length u) es
 reads-own m u x c r {es} is e p rest =
     let a : m ≡ u ++ (comment_line c ++ r) = rw is at e in

@@ -1,10 +1,10 @@
 -- What a manifest is, whose digest a line has, and which counts stand in it.
-use Rattle.std.specs.Prelude.{ℕ, zero, suc, ◌-◌, Bool, not, cond, List, ◌∷◌, length, take, drop}
+use Rattle.std.specs.Prelude.{ℕ, zero, suc, ◌-◌, Bool, not, cond, List, ◌∷◌, length, take, drop, Result, Ok, Err}
 use Rattle.text.specs.Compare.{same, prefix, suffix}
 use Rattle.digest.specs.Blake2b.{blake2b256}
 use Rattle.manifest.specs.Lines.{entries_of, wrong_from, digest_at}
 use Rattle.manifest.specs.Written.{hex_of, head_line, counts_line, digest_line}
-use Rattle.manifest.specs.declared.checking.Checked.{Checked}
+use Rattle.manifest.specs.declared.checking.Unsound.{Unsound}
 
 -- the bytes before the last line, which has 74
 abbrev pub before_seal : List ℕ → List ℕ
@@ -15,17 +15,17 @@ unfoldable pub sealed : List ℕ → Bool
 sealed m = same (drop (length m - 74) m) (digest_line (blake2b256 (before_seal m)))
 
 -- right lines, by the number of their stretches
-abbrev pub counted : ℕ → Checked
-counted zero = Checked.Empty
-counted (suc n) = Checked.Sound (suc n)
+abbrev pub counted : ℕ → Result ℕ Unsound
+counted zero = Err Unsound.Empty
+counted (suc n) = Ok (suc n)
 
 -- what the lines of a manifest are
-unfoldable pub listed_of : List ℕ → Checked
-listed_of m = cond (wrong_from m 0) Checked.Wrong (counted (length (entries_of m)))
+unfoldable pub listed_of : List ℕ → Result ℕ Unsound
+listed_of m = cond (wrong_from m 0) (Err Unsound.Wrong) (counted (length (entries_of m)))
 
 -- what a manifest is
-unfoldable pub checked_of : List ℕ → Checked
-checked_of m = cond (not (prefix head_line m)) Checked.Foreign (cond (not (sealed m)) Checked.Altered (listed_of m))
+unfoldable pub checked_of : List ℕ → Result ℕ Unsound
+checked_of m = cond (not (prefix head_line m)) (Err Unsound.Foreign) (cond (not (sealed m)) (Err Unsound.Altered) (listed_of m))
 
 -- the line whose name begins at `start` has the digest of this stretch
 unfoldable pub vouches : List ℕ → ℕ → List ℕ → Bool

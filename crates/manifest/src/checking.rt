@@ -4,16 +4,15 @@ ghost use Rattle.std.specs.Prelude.{◌≡◌};
 ghost use Rattle.manifest.specs.Check.{sealed, counted, listed_of, checked_of, vouches, counts_stand};
 
 use crate::putting::{HEAD, put_counts, put_digest, put_seal};
-use crate::reading::{Line, next_stretch};
+use crate::reading::next_stretch;
 use digest::digest;
 use lines::put_bytes;
 use text::compare::{prefix, same};
 
-// What a manifest is, asked in this order: it does not begin with the first line; its last line is not the digest of the bytes before; a
-// line is wrong; it has no stretch; or it is sound, with that many stretches.
+// What is wrong with a manifest, asked in this order: it does not begin with the first line; its last line is not the digest of the bytes
+// before; a line is wrong; or it has no stretch.
 #[derive(Clone, Copy)]
-pub enum Checked {
-    Sound(usize),
+pub enum Unsound {
     Foreign,
     Altered,
     Wrong,
@@ -37,47 +36,42 @@ fn is_sealed(manifest: &[u8]) -> bool
 }
 
 // What right lines are, by the number of their stretches.
-fn counted(count: usize) -> Checked
+#[tactic(auto, unfolding(crate::specs::Check::counted))]
+fn counted(count: usize) -> Result<usize, Unsound>
     ensures { result ≡ counted count }
 {
     if count == 0 {
-        return Checked::Empty;
+        return Err(Unsound::Empty);
     }
-    Checked::Sound(count)
+    Ok(count)
 }
 
 // What the lines of a manifest are.
-fn listed(manifest: &[u8]) -> Checked
+fn listed(manifest: &[u8]) -> Result<usize, Unsound>
     ensures { result ≡ listed_of manifest.now }
 {
     let mut at = 0;
     let mut count = 0;
-    loop {
-        match next_stretch(manifest, at) {
-            Line::Stretch {
-                start: _,
-                end: _,
-                next,
-            } => {
-                count += 1;
-                at = next;
-            }
-            Line::Comment { next: _ } => return Checked::Wrong,
-            Line::Wrong { next: _ } => return Checked::Wrong,
-            Line::End => return counted(count),
+    while let Some(line) = next_stretch(manifest, at) {
+        if line.said.is_err() {
+            return Err(Unsound::Wrong);
         }
+        count += 1;
+        at = line.next;
     }
+    counted(count)
 }
 
-// What a manifest is.
-pub fn check(manifest: &[u8]) -> Checked
+// The number of the stretches of a manifest, if it is sound.
+#[tactic(auto, unfolding(crate::specs::Check::checked_of))]
+pub fn check(manifest: &[u8]) -> Result<usize, Unsound>
     ensures { result ≡ checked_of manifest.now }
 {
     if !prefix(&HEAD, manifest) {
-        return Checked::Foreign;
+        return Err(Unsound::Foreign);
     }
     if !is_sealed(manifest) {
-        return Checked::Altered;
+        return Err(Unsound::Altered);
     }
     listed(manifest)
 }

@@ -9,8 +9,8 @@ mod putting;
 mod reading;
 mod space;
 
-pub use checking::{Checked, check, counts_stand, vouches};
+pub use checking::{Unsound, check, counts_stand, vouches};
 pub use classes::is_name;
 pub use putting::{put_digest, put_end, put_head, put_stretch};
-pub use reading::{Line, line_at, next_stretch};
+pub use reading::{Line, Stretch, Wrong, line_at, next_stretch};
 pub use space::{MOST_BYTES, room};

@@ -23,12 +23,9 @@ fn put_hex(bytes: &[u8], out: &mut [u8], at: usize) -> usize
     ensures { Put out.old at (hex_of bytes.now) out.new result }
 {
     let mut next = at;
-    let mut i = 0;
-    while i < bytes.len() {
-        let byte = bytes[i];
-        let pair = [glyph(byte / 16), glyph(byte % 16)];
+    for byte in bytes {
+        let pair = [glyph(*byte / 16), glyph(*byte % 16)];
         next = put_bytes(&pair, &mut *out, next);
-        i += 1;
     }
     next
 }

@@ -1,57 +1,51 @@
 // Where a text comes from: the comment lines at the head of its manifest.
 use crate::source::Source;
-use crate::walk::{Walk, next_position};
-use crate::words::CHROMOSOME;
-use files::{WORD, folder};
-use lines::{put_bytes, put_line, put_number};
+use crate::walk::Walk;
+use crate::words::{CHROMOSOME, REFERENCE, VARIANTS};
+use files::{WORD, folder, word};
 use manifest::{is_name, put_digest};
-use text::part;
+use std::io::{Cursor, Write};
+
+// Room for the lines: two names of files, and a chromosome's.
+const ABOUT: usize = 16384;
 
 // Puts the name that a word of the command line ends with; one that no line may have is put as a question mark.
-fn put_word(rt: &HostRuntime, word: usize, out: &mut [u8], at: usize) -> usize {
+fn put_name(rt: &HostRuntime, number: usize, out: &mut Cursor<[u8; ABOUT]>) {
     let mut path = [0u8; WORD];
-    let n = files::word(rt, word, &mut path);
-    let from = folder(&path[..n]);
-    let name = part(&path, from, n);
-    if is_name(name) {
-        return put_bytes(name, &mut *out, at);
-    }
-    put_bytes(b"?", &mut *out, at)
+    let path = word(rt, number, &mut path);
+    let name = &path[folder(path)..];
+    let _ = if is_name(name) {
+        out.write_all(name)
+    } else {
+        out.write_all(b"?")
+    };
 }
 
-// A file by its digest and its name.
-fn put_source(rt: &HostRuntime, word: &[u8], source: Source, out: &mut [u8], at: usize) -> usize {
-    let hashing = source.hashing;
-    let from = put_bytes(word, &mut *out, at);
-    let end = put_digest(hashing.end(), &mut *out, from);
-    let name = put_bytes(b"  ", &mut *out, end);
-    let feed = put_word(rt, source.word, &mut *out, name);
-    put_bytes(b"\n", &mut *out, feed)
+// Puts a file by its digest and its name.
+fn put_source(rt: &HostRuntime, number: usize, source: &Source, out: &mut Cursor<[u8; ABOUT]>) {
+    let mut digest = [0u8; 64];
+    put_digest(source.hashing.end(), &mut digest, 0);
+    let _ = out.write_all(&digest);
+    let _ = out.write_all(b"  ");
+    put_name(rt, number, out);
 }
 
-// The chromosome.
-fn put_chromosome(rt: &HostRuntime, out: &mut [u8]) -> usize {
-    let name = put_bytes(b"# chromosome ", &mut *out, 0);
-    let feed = put_word(rt, CHROMOSOME, &mut *out, name);
-    put_bytes(b"\n", &mut *out, feed)
-}
-
-// How much of both files the text has.
-fn put_counts(walk: Walk, out: &mut [u8], at: usize) -> usize {
-    let records = walk.records;
-    let bases = std::num::wrapping_sub_usize(next_position(walk), 1);
-    let own = put_bytes(b"# records ", &mut *out, at);
-    let others = put_number(records.own, &mut *out, own);
-    let word = put_bytes(b", others ", &mut *out, others);
-    let last = put_number(records.others, &mut *out, word);
-    put_line(b", bases ", bases as u64, &mut *out, last)
-}
-
-// The chromosome, both files, and how much of them the text has. The place after the lines.
-pub fn put_about(rt: &HostRuntime, walk: Walk, out: &mut [u8]) -> usize {
-    let records = walk.records;
-    let first = put_chromosome(rt, &mut *out);
-    let second = put_source(rt, b"# reference ", walk.reference, &mut *out, first);
-    let third = put_source(rt, b"# variants ", records.source, &mut *out, second);
-    put_counts(walk, &mut *out, third)
+// The chromosome, both files by their digests and names, and how much of them the text has.
+pub fn written_about(walk: &Walk<'_>) -> Cursor<[u8; ABOUT]> {
+    let rt = walk.rt;
+    let mut out = Cursor::new([0u8; ABOUT]);
+    let _ = out.write_all(b"# chromosome ");
+    put_name(rt, CHROMOSOME, &mut out);
+    let _ = out.write_all(b"\n# reference ");
+    put_source(rt, REFERENCE, &walk.reference.source, &mut out);
+    let _ = out.write_all(b"\n# variants ");
+    put_source(rt, VARIANTS, &walk.records.source, &mut out);
+    let _ = writeln!(
+        out,
+        "\n# records {}, others {}, bases {}",
+        walk.records.own,
+        walk.records.others,
+        walk.bases()
+    );
+    out
 }

@@ -1,73 +1,30 @@
 // What a ##contig line says of a sequence's length: VCF 4.3, section 1.4.7.
-use desk_list::{Number, told};
-use text::compare::{prefix, same};
+use desk_list::told;
 use text::part;
 
-// What the fields of a line have said so far: whether one of them is the name, and the length, 0 where none is told.
-#[derive(Clone, Copy)]
-struct Said {
-    named: bool,
-    length: u64,
-}
-
-// A field of the line: ID= and the name, length= and a number, or any other.
-fn with_field(said: Said, field: &[u8], name: &[u8]) -> Said {
-    let mut next = said;
-    if prefix(b"ID=", field) {
-        next.named = same(part(field, 3, field.len()), name);
-    }
-    if prefix(b"length=", field) {
-        next.length = number(part(field, 7, field.len()));
-    }
-    next
-}
-
-// The number that digits tell; 0 where it is over 64 bits.
-fn number(digits: &[u8]) -> u64 {
-    match told(digits) {
-        Number::Is(n) => n,
-        Number::Large => 0,
-    }
-}
-
-// Whether what follows a byte is in quotes.
-fn turned(quoted: bool, byte: u8) -> bool {
-    if byte == b'"' {
-        return !quoted;
-    }
-    quoted
-}
-
-// Whether a byte ends a field: a comma in quotes does not.
-fn ends_field(quoted: bool, byte: u8) -> bool {
-    if quoted {
-        return false;
-    }
-    match byte {
-        b',' | b'>' => true,
-        _ => false,
-    }
-}
-
-// How many bases a ##contig line, without its first #, says that the sequence of this name has; 0 where it says nothing of it.
-pub fn length_said(line: &[u8], name: &[u8]) -> u64 {
-    let mut said = Said {
-        named: false,
-        length: 0,
-    };
-    if !prefix(b"#contig=<", line) {
-        return 0;
-    }
-    let mut from = 9;
-    let mut i = 9;
-    let mut quoted = false;
-    while i < line.len() {
-        quoted = turned(quoted, line[i]);
-        if ends_field(quoted, line[i]) {
-            said = with_field(said, part(line, from, i), name);
-            from = i + 1;
+// How many bases a ##contig line, without its first #, says that the sequence of this name has, if it says so: 0 says nothing. Its fields
+// are ID= and the name, length= and a number, or any other; a comma in quotes ends none.
+pub fn length_said(line: &[u8], name: &[u8]) -> Option<u64> {
+    let fields = line.strip_prefix(b"#contig=<")?;
+    let mut is_named = false;
+    let mut length = None;
+    let mut from = 0;
+    let mut is_quoted = false;
+    for (i, byte) in fields.iter().enumerate() {
+        match byte {
+            b'"' => is_quoted = !is_quoted,
+            b',' | b'>' if !is_quoted => {
+                let field = part(fields, from, i);
+                if let Some(id) = field.strip_prefix(b"ID=") {
+                    is_named = id == name;
+                }
+                if let Some(digits) = field.strip_prefix(b"length=") {
+                    length = told(digits);
+                }
+                from = i + 1;
+            }
+            _ => {}
         }
-        i += 1;
     }
-    if said.named { said.length } else { 0 }
+    length.filter(|n| is_named && *n != 0)
 }

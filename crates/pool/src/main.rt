@@ -6,26 +6,27 @@
 #![tactic(auto)]
 
 mod about;
-mod chromosome;
 mod contig;
-mod record;
 mod records;
-mod sequence;
+mod reference;
 mod source;
 mod walk;
+mod window;
 mod words;
 
-use chromosome::pool;
-use files::{WORD, count_words};
-use text::compare::same;
-use text_files::is_nameable;
-use words::{CHROMOSOME, TEXT, UNENDED, say};
+use files::{Told, WORD, count_words, word};
+use records::Records;
+use reference::Reference;
+use source::Source;
+use text_files::Built;
+use walk::Walk;
+use window::Window;
+use words::{CHROMOSOME, REFERENCE, TEXT, UNENDED, VARIANTS};
 
 // Whether a last line without a line feed is taken as it is.
 fn is_unended(rt: &HostRuntime) -> bool {
-    let mut word = [0u8; WORD];
-    let n = files::word(rt, UNENDED, &mut word);
-    same(&word[..n], b"--unended")
+    let mut option = [0u8; WORD];
+    word(rt, UNENDED, &mut option) == b"--unended".as_slice()
 }
 
 // Whether the command line has the words that it needs.
@@ -34,20 +35,31 @@ fn is_asked(rt: &HostRuntime) -> bool {
     words == 5 || words == 6 && is_unended(rt)
 }
 
-fn main(rt: HostRuntime) {
-    if !is_asked(&rt) {
-        say(
-            &rt,
-            b"usage: pool REFERENCE.fa CHROMOSOME FILE.vcf OUT [--unended]\n",
-        );
-        return;
-    }
+// Writes the text of the chromosome, from the files that the command line names.
+fn pool(rt: &HostRuntime) -> Result<(), Told> {
     let mut out = [0u8; WORD];
-    let m = files::word(&rt, TEXT, &mut out);
-    if !is_nameable(&rt, &out[..m]) {
-        return;
-    }
     let mut name = [0u8; WORD];
-    let n = files::word(&rt, CHROMOSOME, &mut name);
-    pool(&rt, &name[..n], is_unended(&rt));
+    let built = Built::begin(rt, word(rt, TEXT, &mut out))?;
+    let name = word(rt, CHROMOSOME, &mut name);
+    let reference = Source::open(rt, REFERENCE);
+    let variants = Source::open(rt, VARIANTS);
+    let reference = Reference::begin(rt, name, reference?);
+    let records = Records::begin(rt, name, variants?, is_unended(rt))?;
+    let mut walk = Walk {
+        rt,
+        window: Window::begin(1),
+        reference,
+        records,
+        built,
+    };
+    walk.run()
+}
+
+fn main(rt: HostRuntime) {
+    if is_asked(&rt) {
+        // What failed has been said, and the script reads the rest off what is printed.
+        let _ = pool(&rt);
+    } else {
+        let _ = eprintln!(rt; "usage: pool REFERENCE.fa CHROMOSOME FILE.vcf OUT [--unended]");
+    }
 }

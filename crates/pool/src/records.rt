@@ -1,242 +1,232 @@
-// The records of the chromosome, one after another, each as its line in short.
+// The records of the chromosome, one after another, each as its line in short. A line that is wrong is said and passed over; from then on
+// nothing is built or written.
 use crate::contig::length_said;
-use crate::source::{ENDED, FAILED, Source, next_piece};
-use crate::words::{VARIANTS, tell, tell_line};
-use lines::put_bytes;
-use pool_files::{Come, ShortLine, read_line};
-use std::fs::File;
-use text::compare::prefix;
+use crate::source::{PIECE, Source};
+use crate::words::{TOO_LONG, VARIANTS, tell, tell_at, wrong_record};
+use files::Told;
+use pool_files::{ShortLine, read_line};
 use text::part;
 use vcf::records::heading;
+use vcf::{Measured, measure};
 
-// How many bytes the heading has, with its line feed.
-pub const HEADING: usize = 20;
+// The most faults that are told.
+const MOST_FAULTS: u64 = 20;
 
-// What a turn comes to: nothing yet; a record of the chromosome; none is left; a line is wrong, which is said, and passed over; or the file
-// cannot be read, which is said too.
-pub const NOTHING: u64 = 0;
+// What a turn comes to: nothing yet; a record of the chromosome; or none is left.
+enum Got {
+    Nothing,
+    Record(Measured),
+    End,
+}
 
-pub const RECORD: u64 = 1;
-
-pub const NONE: u64 = 2;
-
-pub const FAULT: u64 = 3;
-
-pub const STOP: u64 = 4;
-
-// How far the variant file has come: the file, the line that is read, the number of the last one that was read whole, the place after the
+// How far the variant file has come: the line that is read, in short, the number of the last one that was read whole, the place after the
 // record's line in short, how many records of the chromosome and of others there were, how many columns a record has and how many bases
-// the chromosome (0 where nothing says so), whether the last line may have no line feed, and what the last turn came to.
-#[derive(Clone, Copy)]
-pub struct Records {
+// the chromosome, where something says so, whether the last line may have no line feed, and how many faults were told.
+#[derive(Drop)]
+pub struct Records<'a> {
+    rt: &'a HostRuntime,
+    name: &'a [u8],
     pub source: Source,
-    pub line: ShortLine,
-    pub number: u64,
-    pub behind: usize,
+    line: ShortLine,
+    // Stays an array with a place below: the memory is fixed.
+    short: [u8; PIECE],
+    number: u64,
+    behind: usize,
     pub own: u64,
     pub others: u64,
-    pub columns: usize,
-    pub bases: u64,
-    pub unended: bool,
-    pub got: u64,
+    columns: Option<usize>,
+    pub bases: Option<u64>,
+    pub is_unended: bool,
+    pub faults: u64,
 }
 
-// With the first piece at hand.
-pub fn first_records(source: Source, unended: bool) -> Records {
-    Records {
-        source,
-        line: ShortLine::at(0),
-        number: 0,
-        behind: 0,
-        own: 0,
-        others: 0,
-        columns: 0,
-        bases: 0,
-        unended,
-        got: NOTHING,
-    }
-}
-
-// Puts the heading into a buffer, for the lines of a window to stand after.
-pub fn put_heading(out: &mut [u8], at: usize) -> usize {
-    let end = put_bytes(&heading::HEADING, &mut *out, at);
-    put_bytes(b"\n", &mut *out, end)
-}
-
-// What is wrong with a file that does not begin as a variant file does.
-fn tell_heading(rt: &HostRuntime, piece: &[u8]) {
-    if prefix(&[0x1F, 0x8B], piece) {
-        tell(
-            rt,
-            VARIANTS,
-            b"it is compressed; unpack it into a file first, by gunzip",
-        );
+// What is wrong with a file that does not begin as a variant file does, if anything is.
+fn wrong_heading(first: &[u8]) -> Option<&'static str> {
+    if first.is_empty() {
+        Some("the file is empty")
+    } else if heading::is_headed(first) {
+        None
+    } else if first.starts_with(&[0x1F, 0x8B]) {
+        Some("it is compressed; unpack it into a file first, by gunzip")
     } else {
-        tell(
+        Some("this is no file in Variant Call Format 4: it does not begin with ##fileformat=VCFv4.")
+    }
+}
+
+impl Records<'_> {
+    // The records of the chromosome of this name in a variant file, of which the first piece is read. One that does not begin as such a file
+    // is said, and not taken.
+    pub fn begin<'a>(
+        rt: &'a HostRuntime,
+        name: &'a [u8],
+        source: Source,
+        is_unended: bool,
+    ) -> Result<Records<'a>, Told> {
+        let mut source = source;
+        source.next_piece(rt)?;
+        if let Some(reason) = wrong_heading(source.piece()) {
+            return Err(tell(rt, VARIANTS, reason));
+        }
+        Ok(Records {
             rt,
+            name,
+            source,
+            line: ShortLine::at(0),
+            short: [0; PIECE],
+            number: 0,
+            behind: 0,
+            own: 0,
+            others: 0,
+            columns: None,
+            bases: None,
+            is_unended,
+            faults: 0,
+        })
+    }
+
+    // The record's line in short.
+    pub fn line(&self) -> &[u8] {
+        part(&self.short, 0, self.behind)
+    }
+
+    // Counts a fault that was told, up to the last.
+    pub fn count_fault(&mut self) -> Result<(), Told> {
+        self.faults = self.faults.wrapping_add(1);
+        if self.faults == MOST_FAULTS {
+            let _ = eprintln!(self.rt; "pool: 20 faults; the rest is not looked at");
+            return Err(Told);
+        }
+        Ok(())
+    }
+
+    // What is wrong with the line that was read last.
+    pub fn refuse(&mut self, reason: &str) -> Result<(), Told> {
+        tell_at(
+            self.rt,
             VARIANTS,
-            b"this is no file in Variant Call Format 4: it does not begin with ##fileformat=VCFv4.",
+            format_args!(", line {}", self.number),
+            reason,
         );
+        self.count_fault()
     }
-}
 
-// Reads the first piece of a variant file. One that does not begin as such a file is said, and not taken.
-pub fn begin(rt: &HostRuntime, source: Source, file: &mut File, piece: &mut [u8]) -> Source {
-    let mut next = next_piece(rt, source, &mut *file, &mut *piece);
-    let first = part(piece, 0, next.end);
-    if next.state == ENDED {
-        tell(rt, VARIANTS, b"the file is empty");
-        next.state = FAILED;
-    } else if next.state != FAILED && !heading::is_headed(first) {
-        tell_heading(rt, first);
-        next.state = FAILED;
+    // A line that is wrong: nothing comes of it.
+    fn passed(&mut self, reason: &str) -> Result<Got, Told> {
+        self.refuse(reason)?;
+        Ok(Got::Nothing)
     }
-    next
-}
 
-// A turn that came to this.
-fn came(records: Records, got: u64) -> Records {
-    let mut next = records;
-    next.got = got;
-    next
-}
-
-// A line that is wrong.
-fn fault(rt: &HostRuntime, records: Records, reason: &[u8]) -> Records {
-    tell_line(rt, records.number, reason);
-    came(records, FAULT)
-}
-
-// After a line that begins with #, of which this is kept: the line of the columns' names, or what is said of the chromosome's length.
-fn after_comment(records: Records, columns: usize, name: &[u8], kept: &[u8]) -> Records {
-    let mut next = came(records, NOTHING);
-    if prefix(b"CHROM", kept) {
-        next.columns = columns;
-        return next;
-    }
-    let said = length_said(kept, name);
-    if said != 0 {
-        next.bases = said;
-    }
-    next
-}
-
-// After a record's line: one with fewer columns than the others may have been cut.
-fn after_record(
-    rt: &HostRuntime,
-    records: Records,
-    line: ShortLine,
-    columns: usize,
-    name: &[u8],
-) -> Records {
-    let mut next = records;
-    if !line.has_fields() {
-        return fault(rt, next, b"it has fewer than eight fields, parted by tabs");
-    }
-    if next.columns == 0 {
-        next.columns = columns;
-    }
-    if columns != next.columns {
-        return fault(
-            rt,
-            next,
-            b"it does not have as many columns as the #CHROM line, or as the first record where there is none",
-        );
-    }
-    if !line.is_of(name) {
-        next.others = std::num::wrapping_add_u64(records.others, 1);
-        return came(next, NOTHING);
-    }
-    if !line.whole {
-        return fault(
-            rt,
-            next,
-            b"the record is too long: alone it needs a stretch of more than 32,768 bytes",
-        );
-    }
-    next.own = std::num::wrapping_add_u64(records.own, 1);
-    next.behind = line.behind;
-    came(next, RECORD)
-}
-
-// After a line that has ended.
-fn after_line(rt: &HostRuntime, name: &[u8], records: Records, short: &[u8]) -> Records {
-    let line = records.line;
-    let mut next = records;
-    next.line = ShortLine::at(0);
-    next.number = std::num::wrapping_add_u64(records.number, 1);
-    let columns = std::num::wrapping_add_usize(line.tabs, 1);
-    if line.is_comment() {
-        return after_comment(next, columns, name, part(short, 0, line.behind));
-    }
-    after_record(rt, next, line, columns, name)
-}
-
-// The file has ended, perhaps in a line: the next turn ends the work.
-fn at_end(rt: &HostRuntime, name: &[u8], records: Records, short: &[u8]) -> Records {
-    let line = records.line;
-    let source = records.source;
-    if line.is_new() {
-        return came(records, NONE);
-    }
-    if !records.unended && !source.feed {
-        let mut next = records;
-        next.number = std::num::wrapping_add_u64(records.number, 1);
-        next.line = ShortLine::at(0);
-        return fault(
-            rt,
-            next,
-            b"it does not end with a line feed: the file may have been cut (--unended takes it as it is)",
-        );
-    }
-    after_line(rt, name, records, short)
-}
-
-// The next piece, after one that is used up.
-fn turn_page(
-    rt: &HostRuntime,
-    file: &mut File,
-    name: &[u8],
-    records: Records,
-    piece: &mut [u8],
-    short: &[u8],
-) -> Records {
-    let before = records.source;
-    let source = next_piece(rt, before, &mut *file, &mut *piece);
-    let mut next = records;
-    next.source = source;
-    let state = source.state;
-    match state {
-        ENDED => at_end(rt, name, next, short),
-        FAILED => came(next, STOP),
-        _ => came(next, NOTHING),
-    }
-}
-
-// Reads on to the end of the line or of the piece. The line in short is put into the buffer.
-pub fn read_on(
-    rt: &HostRuntime,
-    file: &mut File,
-    name: &[u8],
-    records: Records,
-    piece: &mut [u8],
-    short: &mut [u8],
-) -> Records {
-    let mut next = records;
-    let mut source = records.source;
-    let held = part(piece, 0, source.end);
-    match read_line(name, records.line, held, source.at, &mut *short) {
-        Come::On(line) => {
-            source.at = source.end;
-            next.line = line;
-            next.source = source;
-            turn_page(rt, &mut *file, name, next, &mut *piece, short)
+    // After a line that begins with #: the line of the columns' names, or what is said of the chromosome's length.
+    fn after_comment(&mut self, line: ShortLine, columns: usize) {
+        let kept = part(&self.short, 0, line.behind);
+        if kept.starts_with(b"CHROM") {
+            self.columns = Some(columns);
+        } else if let Some(bases) = length_said(kept, self.name) {
+            self.bases = Some(bases);
         }
-        Come::End { line, next: at } => {
-            source.at = at;
-            next.line = line;
-            next.source = source;
-            after_line(rt, name, next, short)
+    }
+
+    // The record of the line in short, or why it is refused.
+    fn measured(&mut self) -> Result<Got, Told> {
+        let line = part(&self.short, 0, self.behind);
+        match measure(line, b"") {
+            Ok(record) => Ok(Got::Record(record)),
+            Err(wrong) => {
+                let reason = wrong_record(wrong, line);
+                self.passed(reason)
+            }
         }
+    }
+
+    // After a record's line: one with fewer columns than the others may have been cut.
+    fn after_record(&mut self, line: ShortLine, columns: usize) -> Result<Got, Told> {
+        if !line.has_fields() {
+            return self.passed("it has fewer than eight fields, parted by tabs");
+        }
+        let wanted = self.columns.unwrap_or(columns);
+        self.columns = Some(wanted);
+        if columns != wanted {
+            return self.passed(
+                "it does not have as many columns as the #CHROM line, or as the first record where there is none",
+            );
+        }
+        if !line.is_of(self.name) {
+            self.others = self.others.wrapping_add(1);
+            return Ok(Got::Nothing);
+        }
+        if !line.whole {
+            return self.passed(TOO_LONG);
+        }
+        self.own = self.own.wrapping_add(1);
+        self.behind = line.behind;
+        self.measured()
+    }
+
+    // After a line that has ended.
+    fn after_line(&mut self) -> Result<Got, Told> {
+        let line = self.line;
+        let columns = line.tabs.wrapping_add(1);
+        self.line = ShortLine::at(0);
+        self.number = self.number.wrapping_add(1);
+        if line.is_comment() {
+            self.after_comment(line, columns);
+            return Ok(Got::Nothing);
+        }
+        self.after_record(line, columns)
+    }
+
+    // The file has ended, perhaps in a line: the next turn ends the work.
+    fn at_end(&mut self) -> Result<Got, Told> {
+        if self.line.is_new() {
+            return Ok(Got::End);
+        }
+        if self.is_unended || self.source.feed {
+            return self.after_line();
+        }
+        self.number = self.number.wrapping_add(1);
+        self.line = ShortLine::at(0);
+        self.passed(
+            "it does not end with a line feed: the file may have been cut (--unended takes it as it is)",
+        )
+    }
+
+    // Reads on to the end of the line or of the piece, after which the next one is read.
+    fn turn(&mut self) -> Result<Got, Told> {
+        let come = read_line(
+            self.name,
+            self.line,
+            self.source.piece(),
+            self.source.at,
+            &mut self.short,
+        );
+        self.line = come.line;
+        if let Some(at) = come.next {
+            self.source.at = at;
+            return self.after_line();
+        }
+        if !self.source.next_piece(self.rt)? {
+            return self.at_end();
+        }
+        Ok(Got::Nothing)
+    }
+
+    // The next record of the chromosome; none after the last. A file with records, but none of this name, most likely has another name for
+    // it. Nothing counts the turns, so the loop counts to a number that no run uses up.
+    pub fn next_record(&mut self) -> Result<Option<Measured>, Told> {
+        for _ in 0..u64::MAX {
+            match self.turn()? {
+                Got::Nothing => {}
+                Got::Record(record) => return Ok(Some(record)),
+                Got::End => break,
+            }
+        }
+        if self.own == 0 && 0 < self.others {
+            return Err(tell(
+                self.rt,
+                VARIANTS,
+                "none of its records has that name for its chromosome",
+            ));
+        }
+        Ok(None)
     }
 }

@@ -1,217 +1,218 @@
 // The walk along a chromosome: its bases go into a window, which is cut, built and written whenever its stretch has no room for what
-// comes next. So every stretch is as full as it can be, and no record lies across a cut. A line that is wrong is said and passed over;
-// from then on nothing more is built or written, and the rest is only looked through.
-use crate::records::{HEADING, Records};
-use crate::sequence::{Spot, take_bases, turn_page};
-use crate::source::{Inputs, Source};
-use crate::words::{REFERENCE, TEXT, say, say_number, tell};
-use eds_notation::Place;
-use files::WORD;
-use pool_files::{Held, Reading};
+// comes next. So every stretch is as full as it can be, and no record lies across a cut. Once there was a fault nothing more is built or
+// written, and the rest is only looked through.
+use crate::about::written_about;
+use crate::records::Records;
+use crate::reference::Reference;
+use crate::window::Window;
+use crate::words::{REFERENCE, VARIANTS, tell};
+use files::{Told, written};
 use stretch::Written;
+use text::compare::alike;
 use text::numbers::least;
-use text::{Refusal, limits, part};
-use text_files::{Built, write_stretch};
-use vcf::build;
+use text::{limits, part};
+use text_files::Built;
+use vcf::records::record::field;
+use vcf::{Measured, build};
 
-// One buffer has the window's bases and, from this place on, the heading and its records' lines in short.
-pub const LINES: usize = limits::GREATEST_STRETCH;
-
-// Room for the lines of every window too: a stretch of the most bytes has at most 8,191 records, and a record of so few bytes has a line
-// of 20.
-pub const ROOM: usize = LINES + 196608;
-
-// What comes next: the next record is read; the bases before it are taken; those of its REF; or the rest of them, after the last record.
-pub const NEXT: u64 = 0;
-
-pub const BEFORE: u64 = 1;
-
-pub const INSIDE: u64 = 2;
-
-pub const REST: u64 = 3;
-
-// It goes on; the chromosome's last base is behind; or it ends here, and it is said why.
-pub const GOES: u64 = 0;
-
-pub const OVER: u64 = 1;
-
-pub const STOPPED: u64 = 2;
-
-// The most faults that are told.
-const MOST_FAULTS: u64 = 20;
-
-// How far both files have come.
-#[derive(Clone, Copy)]
-pub struct Walk {
-    // The position of the window's first base, how many bases it has, what its stretch holds, and the place after its lines.
-    pub first: usize,
-    pub count: usize,
-    pub held: Held,
-    pub lines: usize,
-    // What is written.
-    pub built: Built,
-    // The reference, and where in it the reading stands.
-    pub reference: Source,
-    pub spot: Spot,
-    // What comes next, the position before which bases are taken for it, the bases of the record's REF and the bytes of its segment.
-    pub aim: u64,
-    pub until: usize,
-    pub bases: usize,
-    pub segment: usize,
-    // The variant file.
-    pub records: Records,
-    // How many faults were told, and whether it goes on.
-    pub faults: u64,
-    pub state: u64,
+// How far both files have come, the window at hand, and what is written.
+#[derive(Drop)]
+pub struct Walk<'a> {
+    pub rt: &'a HostRuntime,
+    pub window: Window,
+    pub reference: Reference<'a>,
+    pub records: Records<'a>,
+    pub built: Built<'a>,
 }
 
-// Before the first base: nothing of the reference is read yet.
-pub fn start(reference: Source, records: Records) -> Walk {
-    let held = Held::nothing();
-    let place = Place::first();
-    Walk {
-        first: 1,
-        count: 0,
-        held,
-        lines: LINES + HEADING,
-        built: Built::nothing(),
-        reference,
-        spot: Spot {
-            reading: Reading::Start,
-            place,
-        },
-        aim: NEXT,
-        until: 0,
-        bases: 0,
-        segment: 0,
-        records,
-        faults: 0,
-        state: GOES,
+impl Walk<'_> {
+    // How many bases the text has so far.
+    pub fn bases(&self) -> usize {
+        self.window.next_position().wrapping_sub(1)
     }
-}
 
-// The walk ends here.
-pub fn stop(walk: Walk) -> Walk {
-    let mut next = walk;
-    next.state = STOPPED;
-    next
-}
-
-// A fault was told: the walk goes on to the next record, up to the last fault that is told.
-pub fn with_fault(rt: &HostRuntime, walk: Walk) -> Walk {
-    let mut next = walk;
-    next.aim = NEXT;
-    next.faults = std::num::wrapping_add_u64(walk.faults, 1);
-    if next.faults == MOST_FAULTS {
-        say(rt, b"pool: 20 faults; the rest is not looked at\n");
-        return stop(next);
-    }
-    next
-}
-
-// The position of the next base.
-pub fn next_position(walk: Walk) -> usize {
-    std::num::wrapping_add_usize(walk.first, walk.count)
-}
-
-// Why a window could not be built.
-fn tell_window(rt: &HostRuntime, wrong: Refusal) {
-    tell(rt, REFERENCE, b"a window could not be built");
-    say_number(rt, b"refused ", wrong.number);
-    say_number(rt, b" at ", wrong.place as u64);
-    say(rt, b"\n");
-}
-
-// Progress, each hundred stretches.
-fn tell_done(rt: &HostRuntime, walk: Walk) {
-    let built = walk.built;
-    if built.stretches % 100 == 0 {
-        say_number(rt, b"", built.stretches);
-        say_number(
-            rt,
-            b" stretches, ",
-            std::num::wrapping_sub_usize(next_position(walk), 1) as u64,
-        );
-        say(rt, b" bases\n");
-    }
-}
-
-// Writes the window's stretch.
-fn write_window(rt: &HostRuntime, walk: Walk, stretch: &[u8], text: &mut [u8]) -> Walk {
-    let mut name = [0u8; WORD];
-    let n = files::word(rt, TEXT, &mut name);
-    let built = write_stretch(rt, &name[..n], walk.built, stretch, &mut *text);
-    let mut next = walk;
-    next.built = built;
-    if !built.whole {
-        return stop(next);
-    }
-    tell_done(rt, next);
-    next
-}
-
-// The window's stretch, built and written.
-fn build_window(rt: &HostRuntime, walk: Walk, window: &[u8], text: &mut [u8]) -> Walk {
-    let mut out = [0u8; limits::GREATEST_STRETCH];
-    let lines = part(window, LINES, walk.lines);
-    let bases = part(window, 0, walk.count);
-    match build(lines, bases, walk.first, b"", &mut out) {
-        Written::Refused(wrong) => {
-            tell_window(rt, wrong);
-            stop(walk)
+    // The window's stretch, built and written. Progress is said each hundred stretches.
+    fn build_window(&mut self) -> Result<(), Told> {
+        let rt = self.rt;
+        let mut out = [0u8; limits::GREATEST_STRETCH];
+        match build(
+            self.window.lines(),
+            self.window.bases(),
+            self.window.first,
+            b"",
+            &mut out,
+        ) {
+            Written::Bytes(n) => self.built.write_stretch(rt, part(&out, 0, n))?,
+            Written::Refused(wrong) => {
+                tell(rt, REFERENCE, "a window could not be built");
+                let _ = eprintln!(rt; "refused {} at {}", wrong.number, wrong.place);
+                return Err(Told);
+            }
         }
-        Written::Bytes(n) => write_window(rt, walk, part(&out, 0, n), &mut *text),
+        if self.built.stretches % 100 == 0 {
+            let _ = eprintln!(rt;
+                "{} stretches, {} bases",
+                self.built.stretches,
+                self.bases()
+            );
+        }
+        Ok(())
     }
-}
 
-// The next window begins after this one.
-fn next_window(walk: Walk) -> Walk {
-    let nothing = Held::nothing();
-    let mut next = walk;
-    next.first = next_position(walk);
-    next.count = 0;
-    next.held = nothing;
-    next.lines = LINES + HEADING;
-    next
-}
-
-// Builds the window's stretch and writes it, unless something is wrong, and the next window begins.
-pub fn cut_window(rt: &HostRuntime, walk: Walk, window: &[u8], text: &mut [u8]) -> Walk {
-    if walk.faults != 0 {
-        return next_window(walk);
+    // Builds the window's stretch and writes it, unless something is wrong, and the next window begins.
+    fn cut_window(&mut self) -> Result<(), Told> {
+        if self.records.faults == 0 {
+            self.build_window()?;
+        }
+        self.window.pass();
+        Ok(())
     }
-    let written = build_window(rt, walk, window, &mut *text);
-    next_window(written)
-}
 
-// How many bases more there is room for. Those of a record's REF have room, since its segment has.
-fn room(walk: Walk) -> usize {
-    if walk.aim == INSIDE {
-        return usize::MAX;
+    // One step towards a position that many bases away: a cut where there is no room, the next piece after one that is used up, or bases of
+    // the one that is held. Whether the chromosome goes on.
+    fn step(&mut self, wanted: usize) -> Result<bool, Told> {
+        let most = self.window.room();
+        if most == 0 {
+            self.cut_window()?;
+            Ok(true)
+        } else if self.reference.source.at == self.reference.source.end {
+            self.reference.turn_page(self.records.is_unended)
+        } else {
+            self.reference.take(&mut self.window, least(wanted, most))
+        }
     }
-    let held = walk.held;
-    held.room()
-}
 
-// One step towards the position that is aimed at: a cut where there is no room, the next piece after one that is used up, or bases of the
-// one that is held.
-pub fn step(
-    inputs: &mut Inputs,
-    name: &[u8],
-    walk: Walk,
-    piece: &mut [u8],
-    window: &mut [u8],
-    text: &mut [u8],
-) -> Walk {
-    let rt = &inputs.rt;
-    let reference = walk.reference;
-    let most = room(walk);
-    if most == 0 {
-        cut_window(rt, walk, window, &mut *text)
-    } else if reference.at == reference.end {
-        turn_page(&mut *inputs, walk, &mut *piece)
-    } else {
-        let wanted = std::num::wrapping_sub_usize(walk.until, next_position(walk));
-        take_bases(rt, name, walk, least(wanted, most), piece, &mut *window)
+    // Takes the bases before a position. Whether the chromosome has as many. Nothing counts the steps, so the loop counts to a number that no
+    // run uses up.
+    fn take_to(&mut self, position: usize) -> Result<bool, Told> {
+        for _ in 0..u64::MAX {
+            let here = self.window.next_position();
+            if position <= here {
+                break;
+            }
+            if !self.step(position - here)? {
+                return Ok(false);
+            }
+        }
+        Ok(true)
+    }
+
+    // Nothing comes of a record that the chromosome has no bases for.
+    fn end_beyond(&mut self, reason: &str) -> Result<(), Told> {
+        self.records.refuse(reason)?;
+        Err(Told)
+    }
+
+    // Puts a record's line after those of the window, if its REF is what the reference has there: the last bases of the window.
+    fn enter(&mut self) -> Result<(), Told> {
+        let reference = field(self.records.line(), 3);
+        let bases = self.window.bases();
+        let from = bases.len().wrapping_sub(reference.len());
+        if !alike(reference, part(bases, from, bases.len())) {
+            return self
+                .records
+                .refuse("REF is not what the reference has there");
+        }
+        if !self.window.put_line(self.records.line()) {
+            return self.records.refuse("POS has too many zeros in front");
+        }
+        Ok(())
+    }
+
+    // Takes a record, the bases before it first. Where there is no room for its segment, the window is cut, and the next one has room.
+    fn take_record(&mut self, record: Measured) -> Result<(), Told> {
+        if record.position < self.window.next_position() {
+            return self.records.refuse(
+                "it begins before the record before it ends: positions must rise, and records must not overlap",
+            );
+        }
+        if !self.take_to(record.position)? {
+            return self.end_beyond("the record stands after the last base of the chromosome");
+        }
+        if !self.window.hold_record(record.bytes) {
+            self.cut_window()?;
+            self.window.hold_record(record.bytes);
+        }
+        self.window.is_inside = true;
+        let is_whole = self.take_to(record.position.wrapping_add(record.bases))?;
+        self.window.is_inside = false;
+        if !is_whole {
+            return self.end_beyond("the record goes beyond the last base of the chromosome");
+        }
+        self.enter()
+    }
+
+    // What the whole of both files says: whether the sequence has a base, and as many of them as the variant file says.
+    fn judge(&mut self) -> Result<(), Told> {
+        let bases = self.bases();
+        if bases == 0 {
+            tell(self.rt, REFERENCE, "the sequence of that name has no base");
+            return self.records.count_fault();
+        }
+        match self.records.bases {
+            Some(said) if said != bases as u64 => {
+                tell(
+                    self.rt,
+                    VARIANTS,
+                    format_args!(
+                        "its ##contig line says that the chromosome has {said} bases; the reference has {bases}"
+                    ),
+                );
+                self.records.count_fault()
+            }
+            _ => Ok(()),
+        }
+    }
+
+    // The last window, which may be empty where another was before it.
+    fn cut_last(&mut self) -> Result<(), Told> {
+        if self.window.count == 0 {
+            return Ok(());
+        }
+        self.cut_window()
+    }
+
+    // Writes the manifest of a text whose stretches are written, and prints what was done: how many stretches, bases, records of the
+    // chromosome and records of others.
+    fn end_text(&mut self) -> Result<(), Told> {
+        let rt = self.rt;
+        let about = written_about(self);
+        self.built.write_manifest(rt, written(&about))?;
+        let stretches = self.built.stretches;
+        let bases = self.bases();
+        let own = self.records.own;
+        let others = self.records.others;
+        if println!(rt;
+            "stretches {stretches}\nbases {bases}\nrecords {own}\nothers {others}"
+        ).is_err()
+        {
+            let _ = eprintln!(rt; "pool: standard output could not be written");
+        }
+        Ok(())
+    }
+
+    // After the last base, and no record is left: the rest of the reference is read for its digest.
+    fn end(&mut self) -> Result<(), Told> {
+        let judged = self.judge();
+        let cut = self.cut_last();
+        let read = self.reference.source.read_to_end(self.rt);
+        if self.records.faults != 0 {
+            let _ = eprintln!(self.rt; "pool: nothing was built");
+            return Err(Told);
+        }
+        judged.and(cut).and(read)?;
+        self.end_text()
+    }
+
+    // Takes every record, and the bases after the last.
+    pub fn run(&mut self) -> Result<(), Told> {
+        for _ in 0..u64::MAX {
+            match self.records.next_record()? {
+                Some(record) => self.take_record(record)?,
+                None => break,
+            }
+        }
+        self.take_to(usize::MAX)?;
+        self.end()
     }
 }

@@ -1,24 +1,15 @@
 -- Laws of what a stretch has room for.
-use Rattle.std.proofs.Common.{◌≡◌, ℕ, ◌+◌, ◌-◌, ◌<◌, ◌≤◌, true, false, sym, arith, eq-eqb, ne_eqb, le-leb}
+use Rattle.std.proofs.Common.{None, Some, ◌≡◌, ℕ, ◌+◌, ◌-◌, ◌<◌, ◌≤◌, true, false, sym, arith, eq-eqb, ne_eqb, le-leb}
 use borrow.Author.Tests.{lt-leb}
 use Rattle.layout.specs.Bytes.{greatest_stretch}
 use Rattle.layout.specs.Sizes.{least_segment}
 use Rattle.pool_files.specs.Room.{opened, room_in, with_bases, with_record}
 use Rattle.pool_files.specs.declared.held.Held.{Held}
-use Rattle.pool_files.specs.declared.held.Fit.TheVariants.{Fits, Full}
 
 module _ (h : Held) where
-  pub room-none : greatest_stretch < h.bytes → 0 ≡ room_in h
-  unfolding room_in opened
-  room-none l = omega arith
-
   pub room-running : h.running ≡ true → greatest_stretch - h.bytes ≡ room_in h
   unfolding room_in opened
   room-running e = rw e (omega arith)
-
-  pub room-few : h.running ≡ false → greatest_stretch - h.bytes < least_segment → 0 ≡ room_in h
-  unfolding room_in opened
-  room-few e l = rw e (omega arith)
 
   pub room-begun : h.running ≡ false → greatest_stretch - h.bytes - least_segment ≡ room_in h
   unfolding room_in opened
@@ -29,18 +20,18 @@ module _ (h : Held) where
   room_most = omega arith
 
   module _ (n : ℕ) where
-    pub bases-none : n ≡ 0 → Fits h ≡ with_bases h n
+    pub bases-none : n ≡ 0 → Some h ≡ with_bases h n
     unfolding with_bases
     bases-none e = sym (rw (eq-eqb n 0 e))
 
-    pub bases-full : (n ≡ 0 → ⊥) → room_in h < n → Full ≡ with_bases h n
+    pub bases-full : (n ≡ 0 → ⊥) → room_in h < n → None ≡ with_bases h n
     unfolding with_bases room_in
     bases-full e l =
         let far : greatest_stretch < opened h + n = omega arith in
         sym (rw (ne_eqb n 0 e, lt-leb (opened h + n) greatest_stretch far))
 
     pub bases-fit :
-        (n ≡ 0 → ⊥) → n ≤ room_in h → Fits (record { bytes = greatest_stretch - (room_in h - n); running = true }) ≡ with_bases h n
+        (n ≡ 0 → ⊥) → n ≤ room_in h → Some (record { bytes = greatest_stretch - (room_in h - n); running = true }) ≡ with_bases h n
     unfolding with_bases room_in
     bases-fit e l =
         let some : 0 < n = omega arith in
@@ -48,21 +39,10 @@ module _ (h : Held) where
         let sum : greatest_stretch - (greatest_stretch - opened h - n) ≡ opened h + n = omega arith in
         rw sum (sym (rw (ne_eqb n 0 e, le-leb (opened h + n) greatest_stretch near)))
 
-    pub record-full : greatest_stretch - h.bytes < n → Full ≡ with_record h n
+    pub record-full : greatest_stretch < h.bytes + n → None ≡ with_record h n
     unfolding with_record
-    record-full l =
-        let far : greatest_stretch < h.bytes + n = omega arith in
-        sym (rw (lt-leb (h.bytes + n) greatest_stretch far))
+    record-full far = sym (rw (lt-leb (h.bytes + n) greatest_stretch far))
 
-    pub record-far : greatest_stretch < h.bytes → Full ≡ with_record h n
+    pub record-fit : h.bytes + n ≤ greatest_stretch → Some (record { bytes = h.bytes + n; running = false }) ≡ with_record h n
     unfolding with_record
-    record-far l =
-        let far : greatest_stretch < h.bytes + n = omega arith in
-        sym (rw (lt-leb (h.bytes + n) greatest_stretch far))
-
-    pub record-fit :
-        h.bytes ≤ greatest_stretch → n ≤ greatest_stretch - h.bytes → Fits (record { bytes = h.bytes + n; running = false }) ≡ with_record h n
-    unfolding with_record
-    record-fit a l =
-        let near : h.bytes + n ≤ greatest_stretch = omega arith in
-        sym (rw (le-leb (h.bytes + n) greatest_stretch near))
+    record-fit near = sym (rw (le-leb (h.bytes + n) greatest_stretch near))

@@ -1,27 +1,37 @@
 -- Laws of a line in short: byte by byte, up to the end of the line.
-use Rattle.std.proofs.Common.{◌≡◌, ℕ, ◌+◌, ◌%◌, ◌^◌, ◌<◌, ◌≤◌, Bool, true, false, cond, ◌&&◌, eqb, ltb, List, [], ◌∷◌, length, get_or, drop, sym, refl, ap, ◌∙◌, add-one, drop_of_length-le, drop-cons, ltb-true, eq-eqb, ne_eqb}
-use Rattle.pool_files.specs.Short.{Shortened, keeps, act_of, putting, in_field, tabbed, acted, over_byte, reading}
-use Rattle.pool_files.specs.declared.short.Act.{Act}
-use Rattle.pool_files.specs.declared.short.Act.TheVariants.{Skip, Keep, Name, Next, Count, Comment}
+use Rattle.std.proofs.Common.{None, Some, ◌≡◌, ℕ, ◌+◌, ◌%◌, ◌^◌, ◌<◌, ◌≤◌, true, false, List, [], ◌∷◌, length, get_or, drop, sym, refl, ap, ◌∙◌, add-one, drop_of_length-le, drop-cons, le-ltb, lt-ltb, eq-eqb, ne_eqb}
+use mathlib.Core.Logic.{◌⊎◌, inl, inr}
+use Rattle.pool_files.specs.Short.{Act, Skip, Keep, Name, Next, Count, Comment, Shortened, keeps, act_of, putting, in_field, tabbed, acted, over_byte, reading}
 use Rattle.pool_files.specs.declared.short.ShortLine.{ShortLine}
-use Rattle.pool_files.specs.declared.short.Come.TheVariants.{On, End}
 
--- the next field is at most the eighth
-next-by : (tab first mark kept : Bool) (k : ℕ) →
-    cond tab (cond (ltb k 7) Next Count) (cond first (cond mark Comment Name) (cond kept Keep Skip)) ≡ Next → ltb k 7 ≡ true
-next-by true first mark kept k e = next-in (ltb k 7) e
-  where
-    next-in : (t : Bool) → cond t Next Count ≡ Next → t ≡ true
-    next-in true e = refl
-    next-in false e = cc
-next-by false true true kept k e = cc
-next-by false true false kept k e = cc
-next-by false false mark true k e = cc
-next-by false false mark false k e = cc
+-- the act of a byte
+module _ (k m b : ℕ) where
+  pub act-next : b ≡ 0x09 → k < 7 → act_of k m b ≡ Next
+  unfolding act_of
+  act-next e l = rw (eq-eqb b 0x09 e, lt-ltb k 7 l)
 
-pub next_small : (k m b : ℕ) → act_of k m b ≡ Next → k < 7
-unfolding act_of
-next_small k m b e = ltb-true k 7 (next-by (eqb b 0x09) (eqb k 0) (eqb b 0x23 && eqb m 0) (keeps k) k e)
+  pub act-count : b ≡ 0x09 → 7 ≤ k → act_of k m b ≡ Count
+  unfolding act_of
+  act-count e l = rw (eq-eqb b 0x09 e, le-ltb k 7 l)
+
+  module _ (plain : b ≡ 0x09 → ⊥) where
+    pub act-comment : k ≡ 0 → b ≡ 0x23 → m ≡ 0 → act_of k m b ≡ Comment
+    unfolding act_of
+    act-comment e f g = rw (ne_eqb b 0x09 plain, eq-eqb k 0 e, eq-eqb b 0x23 f, eq-eqb m 0 g)
+
+    pub act-name : k ≡ 0 → ((b ≡ 0x23) × (m ≡ 0 → ⊥)) ⊎ (b ≡ 0x23 → ⊥) → act_of k m b ≡ Name
+    unfolding act_of
+    act-name e (inl f) = rw (ne_eqb b 0x09 plain, eq-eqb k 0 e, eq-eqb b 0x23 f.0, ne_eqb m 0 f.1)
+    act-name e (inr f) = rw (ne_eqb b 0x09 plain, eq-eqb k 0 e, ne_eqb b 0x23 f)
+
+    module _ (later : k ≡ 0 → ⊥) where
+      pub act-keep : keeps k ≡ true → act_of k m b ≡ Keep
+      unfolding act_of
+      act-keep e = rw (ne_eqb b 0x09 plain, ne_eqb k 0 later, e)
+
+      pub act-skip : keeps k ≡ false → act_of k m b ≡ Skip
+      unfolding act_of
+      act-skip e = rw (ne_eqb b 0x09 plain, ne_eqb k 0 later, e)
 
 -- what a byte does, by its act
 module _ (name : List ℕ) (l : ShortLine) (b : ℕ) (d : List ℕ) (a : Act) (e : act_of l.field l.matched b ≡ a) where
@@ -53,7 +63,7 @@ reads_none name l piece from d = record { same = refl; size = refl }
 
 module _ {name : List ℕ} {l₀ : ShortLine} {piece : List ℕ} {from : ℕ} {d₀ : List ℕ} {l : ShortLine} {at : ℕ} {d : List ℕ}
     (r : Reads name l₀ piece from d₀ l at d) where
-  pub reads_all : length piece ≤ at → record { come = On l; left = d } ≡ reading name l₀ (drop from piece) from d₀
+  pub reads_all : length piece ≤ at → record { come = record { line = l; next = None }; left = d } ≡ reading name l₀ (drop from piece) from d₀
   unfolding reading
   reads_all le =
       let none : drop at piece ≡ [] = drop_of_length-le piece le in
@@ -64,7 +74,7 @@ module _ {name : List ℕ} {l₀ : ShortLine} {piece : List ℕ} {from : ℕ} {d
     cut = rw add-one (drop-cons piece at 0 lt)
 
     pub reads-feed :
-        get_or piece at 0 ≡ 0x0A → record { come = End l (at + 1); left = d } ≡ reading name l₀ (drop from piece) from d₀
+        get_or piece at 0 ≡ 0x0A → record { come = record { line = l; next = Some (at + 1) }; left = d } ≡ reading name l₀ (drop from piece) from d₀
     unfolding reading
     reads-feed e =
         let s : reading name l (get_or piece at 0 ∷ drop (at + 1) piece) at d ≡ reading name l₀ (drop from piece) from d₀ =

@@ -1,10 +1,8 @@
 -- Laws of taking bases: byte by byte, up to as many as are wanted.
-use Rattle.std.proofs.Common.{◌≡◌, ℕ, ◌+◌, ◌-◌, ◌<◌, ◌≤◌, true, false, List, [], ◌∷◌, length, get_or, drop, set, refl, ap, ◌∙◌, add-one, arith, length-set, drop_of_length-le, drop-cons, eq-eqb, ne_eqb}
-use Rattle.pool_files.specs.Reference.{Filled, filled, step_of, led_to, by_led, taking, wanted}
+use Rattle.std.proofs.Common.{max, ◌≡◌, ℕ, ◌+◌, ◌-◌, ◌<◌, ◌≤◌, true, false, List, [], ◌∷◌, length, get_or, drop, set, refl, ap, ◌∙◌, add-one, arith, length-set, drop_of_length-le, drop-cons, eq-eqb, ne_eqb}
+use Rattle.pool_files.specs.Reference.{Led, Base, Nothing, End, Filled, filled, step_of, led_to, by_led, taking, wanted}
 use Rattle.pool_files.specs.declared.reference.Reading.{Reading}
 use Rattle.pool_files.specs.declared.reference.Space.{Space}
-use Rattle.pool_files.specs.declared.reference.Led.{Led}
-use Rattle.pool_files.specs.declared.reference.Led.TheVariants.{Base, Nothing, End}
 
 -- from here the bytes that are left lead to what all of them lead to, and there is room for the bases that are wanted
 pub record Takes (name : List ℕ) (r₀ : Reading) (left₀ : ℕ) (piece : List ℕ) (from n₀ : ℕ) (d₀ : List ℕ)
@@ -12,6 +10,7 @@ pub record Takes (name : List ℕ) (r₀ : Reading) (left₀ : ℕ) (piece : Lis
   pub same : taking name r left (drop at piece) at n d ≡ taking name r₀ left₀ (drop from piece) from n₀ d₀
   pub size : length d ≡ length d₀
   pub room : 0 < left → n + left ≤ length d
+  pub inside : at ≤ max from (length piece)
 
 pub takes_none :
     (name : List ℕ) (r : Reading) (piece : List ℕ) (from n most : ℕ) (d : List ℕ) (left : ℕ) →
@@ -19,7 +18,7 @@ pub takes_none :
     Takes name r (wanted (length d) n most) piece from n d r left from n d
 unfolding wanted
 takes_none name r piece from n most d left e =
-    record { same = ap (λ (k : ℕ). taking name r k (drop from piece) from n d) e; size = refl; room = λ l. omega arith }
+    record { same = ap (λ (k : ℕ). taking name r k (drop from piece) from n d) e; size = refl; room = λ l. omega arith; inside = omega arith }
 
 module _ {name : List ℕ} {r₀ : Reading} {left₀ : ℕ} {piece : List ℕ} {from n₀ : ℕ} {d₀ : List ℕ}
     {r : Reading} {left at n : ℕ} {d : List ℕ} (t : Takes name r₀ left₀ piece from n₀ d₀ r left at n d) where
@@ -76,8 +75,9 @@ module _ {name : List ℕ} {r₀ : Reading} {left₀ : ℕ} {piece : List ℕ} {
             room =
                 rw (s, p) (λ (l : 0 < left - 1). let more : 0 < left = omega arith in omega
                 (arith, t.room more, length-set d n (get_or piece at 0)));
+            inside = omega arith;
           }
       takes-more q Nothing space x e led go s p =
           let on = rw (ne_eqb left 0 some, ← e, ← led) at step_cut in
-          record { same = rw (s, p) on; size = rw p t.size; room = rw (s, p) t.room }
+          record { same = rw (s, p) on; size = rw p t.size; room = rw (s, p) t.room; inside = omega arith }
       takes-more q End space x e led go s p = let z : ◌≡◌ {A = ℕ} 0 1 = cc in absurd (let y : ⊥ = omega arith in y)

@@ -5,8 +5,6 @@ use Rattle.pool_files.specs.Words.{go_on}
 use Rattle.pool_files.specs.declared.reference.Reading.{Reading}
 use Rattle.pool_files.specs.declared.reference.Reading.TheVariants.{Start, Before, Passing, Word, Header, Begun, Inside, Returned, Over}
 use Rattle.pool_files.specs.declared.reference.Reading.TheVariants.{Wrong}
-use Rattle.pool_files.specs.declared.reference.Led.{Led}
-use Rattle.pool_files.specs.declared.reference.Led.TheVariants.{Base, Nothing, End}
 use Rattle.pool_files.specs.declared.reference.Taken.{Taken}
 
 -- line feed, carriage carriage, blank, tab, and the byte that a header begins with
@@ -44,7 +42,12 @@ step_of name Returned b = cond (b == feed) Begun Wrong
 step_of name Over b = Over
 step_of name Wrong b = Wrong
 
--- what a byte has led to
+-- what a byte has led to: a base, nothing, or an end
+pub data Led : Type 0 where
+  Base : Led
+  Nothing : Led
+  End : Led
+
 unfoldable pub led_to : Reading → Led
 led_to Start = Nothing
 led_to Before = Nothing

@@ -1,12 +1,9 @@
 -- A line of a variant file in short: POS, REF and ALT, and the tabs that end the first seven fields; of a line that begins with # all but
 -- that # and tabs.
-use Rattle.std.specs.Prelude.{ℕ, ◌+◌, ◌%◌, ◌^◌, Bool, true, false, cond, ◌&&◌, ◌||◌, List, [], ◌∷◌, length, ◌==◌, nat_le, nat_lt, slice_set}
+use Rattle.std.specs.Prelude.{ℕ, ◌+◌, ◌%◌, ◌^◌, Bool, true, false, cond, ◌&&◌, ◌||◌, List, [], ◌∷◌, None, Some, length, ◌==◌, nat_le, nat_lt, slice_set}
 use Rattle.pool_files.specs.Words.{go_on}
-use Rattle.pool_files.specs.declared.short.Act.{Act}
-use Rattle.pool_files.specs.declared.short.Act.TheVariants.{Skip, Keep, Name, Next, Count, Comment}
 use Rattle.pool_files.specs.declared.short.ShortLine.{ShortLine}
 use Rattle.pool_files.specs.declared.short.Come.{Come}
-use Rattle.pool_files.specs.declared.short.Come.TheVariants.{On, End}
 
 -- a line that begins, to be put from a place on
 abbrev pub line_at : ℕ → ShortLine
@@ -15,6 +12,15 @@ line_at at = record { field = 0; matched = 0; tabs = 0; behind = at; whole = tru
 -- POS, REF and ALT, and what stands after a #
 unfoldable pub keeps : ℕ → Bool
 keeps k = k == 1 || k == 3 || k == 4 || k == 8
+
+-- what a byte of a field does
+pub data Act : Type 0 where
+  Skip : Act
+  Keep : Act
+  Name : Act
+  Next : Act
+  Count : Act
+  Comment : Act
 
 -- what a byte of field k does: CHROM is compared, unless a # comes first; POS, REF and ALT are kept, and so are tabs up to the eighth
 -- field; later ones are counted
@@ -72,7 +78,7 @@ pub record Outcome : Type 0 where
 
 -- these bytes, which stand from place `at` on, up to the first line feed
 unfoldable pub reading : List ℕ → ShortLine → List ℕ → ℕ → List ℕ → Outcome
-reading name l [] at d = record { come = On l; left = d }
+reading name l [] at d = record { come = record { line = l; next = None }; left = d }
 reading name l (b ∷ s) at d =
     let rest : Outcome = reading name (over_byte name l b d).line s (at + 1) (over_byte name l b d).buffer in
-    cond (b == 0x0A) (record { come = End l (at + 1); left = d }) rest
+    cond (b == 0x0A) (record { come = record { line = l; next = Some (at + 1) }; left = d }) rest

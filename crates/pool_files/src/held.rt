@@ -14,13 +14,6 @@ pub struct Held {
     pub running: bool,
 }
 
-// What a stretch holds with something more, or that it has no room for it.
-#[derive(Clone, Copy)]
-pub enum Fit {
-    Fits(Held),
-    Full,
-}
-
 impl Held {
     // No segment: a segment count alone.
     pub fn nothing() -> Held
@@ -36,50 +29,40 @@ impl Held {
     pub fn room(self) -> usize
         ensures { result ≡ room_in self }
     {
-        let bytes = self.bytes;
-        if limits::GREATEST_STRETCH < bytes {
-            return 0;
-        }
-        let left = limits::GREATEST_STRETCH - bytes;
+        let left = limits::GREATEST_STRETCH.saturating_sub(self.bytes);
         if self.running {
             return left;
         }
-        if left < LEAST_SEGMENT {
-            return 0;
-        }
-        left - LEAST_SEGMENT
+        left.saturating_sub(LEAST_SEGMENT)
     }
 
-    // With that many bases more.
-    pub fn bases(self, n: usize) -> Fit
+    // With that many bases more, if there is room for them.
+    pub fn bases(self, n: usize) -> Option<Held>
         ensures { result ≡ with_bases self n }
     {
         if n == 0 {
-            return Fit::Fits(self);
+            return Some(self);
         }
         let room = self.room();
         if room < n {
-            return Fit::Full;
+            return None;
         }
-        Fit::Fits(Held {
+        Some(Held {
             bytes: limits::GREATEST_STRETCH - (room - n),
             running: true,
         })
     }
 
-    // With a record's segment of that many bytes.
-    pub fn record(self, n: usize) -> Fit
+    // With a record's segment of that many bytes, if there is room for it.
+    pub fn record(self, n: usize) -> Option<Held>
         ensures { result ≡ with_record self n }
     {
-        let bytes = self.bytes;
+        let bytes = self.bytes.checked_add(n)?;
         if limits::GREATEST_STRETCH < bytes {
-            return Fit::Full;
+            return None;
         }
-        if limits::GREATEST_STRETCH - bytes < n {
-            return Fit::Full;
-        }
-        Fit::Fits(Held {
-            bytes: bytes + n,
+        Some(Held {
+            bytes,
             running: false,
         })
     }

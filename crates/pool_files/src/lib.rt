@@ -7,6 +7,6 @@ mod reference;
 mod short;
 mod word;
 
-pub use held::{Fit, Held};
+pub use held::Held;
 pub use reference::{Reading, Taken, take};
 pub use short::{Come, ShortLine, read_line};

@@ -1,7 +1,7 @@
 // A file in FASTA format, of which the sequence of a name is taken: header lines begin with >, and their first word is a name; the lines
 // after one, up to the next, are its sequence. A line ends with a line feed, before which a carriage return may stand; the last may
 // end with the file. The file is read in pieces of any size, and a piece may end anywhere.
-ghost use Rattle.std.specs.Prelude.{◌≡◌, ◌+◌, ◌-◌, ◌<◌, true, false, length, drop, if◌then◌else◌, nat_eq, slice_set};
+ghost use Rattle.std.specs.Prelude.{◌≡◌, ◌+◌, ◌-◌, ◌<◌, true, false, length, drop, slice_set};
 ghost use Rattle.pool_files.specs.Reference.{in_header, ends_word, in_word, in_line, step_of, led_to, by_led, wanted, taking};
 
 use crate::word::go_on;
@@ -33,38 +33,28 @@ pub enum Reading {
 }
 
 // After a byte of a header, the sequence's own or not, or of a line that counts no more.
+#[tactic(auto, unfolding(crate::specs::Reference::in_header))]
 fn in_header(found: bool, byte: u8) -> Reading
     ensures { result ≡ in_header found byte }
 {
-    if byte == b'\n' {
-        if found {
-            return Reading::Begun;
-        }
-        return Reading::Before;
+    match byte {
+        b'\n' if found => Reading::Begun,
+        b'\n' => Reading::Before,
+        _ if found => Reading::Header,
+        _ => Reading::Passing,
     }
-    if found {
-        return Reading::Header;
-    }
-    Reading::Passing
 }
 
 // Whether a byte ends the first word of a header.
+#[tactic(auto, unfolding(crate::specs::Reference::ends_word))]
 fn ends_word(byte: u8) -> bool
     ensures { result ≡ ends_word byte }
 {
-    if byte == b'\n' {
-        return true;
-    }
-    if byte == b'\r' {
-        return true;
-    }
-    if byte == b' ' {
-        return true;
-    }
-    byte == b'\t'
+    matches!(byte, b'\n' | b'\r' | b' ' | b'\t')
 }
 
 // After a byte of a header's first word.
+#[tactic(auto, unfolding(crate::specs::Reference::in_word))]
 fn in_word(name: &[u8], matched: usize, byte: u8) -> Reading
     ensures { result ≡ in_word name.now matched byte }
 {
@@ -76,71 +66,44 @@ fn in_word(name: &[u8], matched: usize, byte: u8) -> Reading
 }
 
 // After a byte of a line of the sequence.
+#[tactic(auto, unfolding(crate::specs::Reference::in_line))]
 fn in_line(byte: u8) -> Reading
     ensures { result ≡ in_line byte }
 {
-    if byte == b'\n' {
-        return Reading::Begun;
+    match byte {
+        b'\n' => Reading::Begun,
+        b'\r' => Reading::Returned,
+        _ if is_letter(byte) => Reading::Inside,
+        _ => Reading::Wrong,
     }
-    if byte == b'\r' {
-        return Reading::Returned;
-    }
-    if is_letter(byte) {
-        return Reading::Inside;
-    }
-    Reading::Wrong
-}
-
-// One of two, by whether two bytes are the same.
-fn either(byte: u8, wanted: u8, same: Reading, other: Reading) -> Reading
-    ensures { result ≡ (if nat_eq byte wanted then same else other) }
-{
-    if byte == wanted {
-        return same;
-    }
-    other
 }
 
 // After one byte more.
+#[tactic(auto, unfolding(crate::specs::Reference::step_of))]
 fn step(name: &[u8], reading: Reading, byte: u8) -> Reading
     ensures { result ≡ step_of name.now reading byte }
 {
     match reading {
-        Reading::Start => either(byte, b'>', Reading::Word(0), Reading::Wrong),
-        Reading::Before => either(byte, b'>', Reading::Word(0), in_header(false, byte)),
-        Reading::Passing => in_header(false, byte),
+        Reading::Start | Reading::Before if byte == b'>' => Reading::Word(0),
+        Reading::Start => Reading::Wrong,
+        Reading::Before | Reading::Passing => in_header(false, byte),
         Reading::Word(matched) => in_word(name, matched, byte),
         Reading::Header => in_header(true, byte),
-        Reading::Begun => either(byte, b'>', Reading::Over, in_line(byte)),
-        Reading::Inside => in_line(byte),
-        Reading::Returned => either(byte, b'\n', Reading::Begun, Reading::Wrong),
-        Reading::Over => Reading::Over,
-        Reading::Wrong => Reading::Wrong,
+        Reading::Begun if byte == b'>' => Reading::Over,
+        Reading::Begun | Reading::Inside => in_line(byte),
+        Reading::Returned if byte == b'\n' => Reading::Begun,
+        Reading::Returned => Reading::Wrong,
+        Reading::Over | Reading::Wrong => reading,
     }
 }
 
-// What a byte has led to: a base, nothing, or an end.
-#[derive(Clone, Copy)]
-pub enum Led {
-    Base,
-    Nothing,
-    End,
-}
-
-fn led_to(reading: Reading) -> Led
-    ensures { result ≡ led_to reading }
-{
-    match reading {
-        Reading::Inside => Led::Base,
-        Reading::Over => Led::End,
-        Reading::Wrong => Led::End,
-        Reading::Start => Led::Nothing,
-        Reading::Before => Led::Nothing,
-        Reading::Passing => Led::Nothing,
-        Reading::Word(_) => Led::Nothing,
-        Reading::Header => Led::Nothing,
-        Reading::Begun => Led::Nothing,
-        Reading::Returned => Led::Nothing,
+impl Reading {
+    // Whether the sequence is over, or a byte is wrong.
+    #[tactic(auto, unfolding(crate::specs::Reference::led_to))]
+    fn is_end(self) -> bool
+        ensures { result ≡ by_led (led_to self) false false true }
+    {
+        matches!(self, Reading::Over | Reading::Wrong)
     }
 }
 
@@ -151,34 +114,23 @@ pub struct Space {
     pub left: usize,
 }
 
-// Puts a byte that has led to a base into the buffer.
-fn put_base(led: Led, byte: u8, space: Space, bases: &mut [u8]) -> Space
+// Puts a byte into the buffer, if it has led to a base.
+#[tactic(auto, unfolding(crate::specs::Reference::led_to))]
+fn put_base(reading: Reading, byte: u8, space: Space, bases: &mut [u8]) -> Space
     requires { (space.n < length bases.old) × (0 < space.left) }
-    ensures value { result ≡ by_led led (record { n = space.n + 1; left = space.left - 1 }) space space }
-    ensures bases_after { bases.new ≡ by_led led (slice_set bases.old space.n byte) bases.old bases.old }
+    ensures value { result ≡ by_led (led_to reading) (record { n = space.n + 1; left = space.left - 1 }) space space }
+    ensures bases_after { bases.new ≡ by_led (led_to reading) (slice_set bases.old space.n byte) bases.old bases.old }
 {
     let n = space.n;
-    match led {
-        Led::Base => {
+    match reading {
+        Reading::Inside => {
             bases[n] = byte;
             Space {
                 n: n + 1,
                 left: space.left - 1,
             }
         }
-        Led::Nothing => space,
-        Led::End => space,
-    }
-}
-
-// Whether a byte has led to an end.
-fn is_end(led: Led) -> bool
-    ensures { result ≡ by_led led false false true }
-{
-    match led {
-        Led::Base => false,
-        Led::Nothing => false,
-        Led::End => true,
+        _ => space,
     }
 }
 
@@ -190,49 +142,29 @@ pub struct Taken {
     pub count: usize,
 }
 
-// What is left of a number; 0 where nothing is.
-fn less(all: usize, count: usize) -> usize
-    ensures { result ≡ all - count }
-{
-    if all < count {
-        return 0;
-    }
-    all - count
-}
-
 // How many bases more are wanted in a buffer of that many bytes, where there are to be `most` in all.
+#[tactic(auto, unfolding(crate::specs::Reference::wanted))]
 fn wanted(size: usize, count: usize, most: usize) -> usize
     ensures { result ≡ wanted size count most }
 {
-    if most < size {
-        return less(most, count);
-    }
-    less(size, count)
+    most.min(size).saturating_sub(count)
 }
 
-// Reads on in a piece from a place on, and puts the bases of the sequence into a buffer after those that are there, until there are
-// `most`, the buffer is full, the piece ends, the sequence is over or a byte is wrong. The place is then that of the byte that is not read.
-pub fn take(
-    name: &[u8],
-    reading: Reading,
-    piece: &[u8],
-    from: usize,
-    bases: &mut [u8],
-    count: usize,
-    most: usize,
-) -> Taken
-    ensures answer { result ≡ (taking name.now reading (wanted (length bases.old) count most)
-        (drop from piece.now) from count bases.old).taken }
-    ensures buffer { bases.new ≡ (taking name.now reading (wanted (length bases.old) count most)
-        (drop from piece.now) from count bases.old).buffer }
+// Reads on in a piece from where it was read, and puts the bases of the sequence into a buffer after those that are there, until there
+// are `most`, the buffer is full, the piece ends, the sequence is over or a byte is wrong. The place is then that of the byte that is not
+// read.
+pub fn take(name: &[u8], from: Taken, piece: &[u8], bases: &mut [u8], most: usize) -> Taken
+    ensures answer { result ≡ (taking name.now from.reading (wanted (length bases.old) from.count most)
+        (drop from.at piece.now) from.at from.count bases.old).taken }
+    ensures buffer { bases.new ≡ (taking name.now from.reading (wanted (length bases.old) from.count most)
+        (drop from.at piece.now) from.at from.count bases.old).buffer }
 {
-    let mut now = reading;
+    let mut now = from.reading;
     let mut space = Space {
-        n: count,
-        left: wanted(bases.len(), count, most),
+        n: from.count,
+        left: wanted(bases.len(), from.count, most),
     };
-    let mut at = from;
-    while at < piece.len() {
+    for at in from.at..piece.len() {
         if space.left == 0 {
             return Taken {
                 reading: now,
@@ -242,21 +174,19 @@ pub fn take(
         }
         let byte = piece[at];
         let next = step(name, now, byte);
-        let led = led_to(next);
-        if is_end(led) {
+        if next.is_end() {
             return Taken {
                 reading: next,
                 at,
                 count: space.n,
             };
         }
-        space = put_base(led, byte, space, &mut *bases);
+        space = put_base(next, byte, space, &mut *bases);
         now = next;
-        at += 1;
     }
     Taken {
         reading: now,
-        at,
+        at: from.at.max(piece.len()),
         count: space.n,
     }
 }

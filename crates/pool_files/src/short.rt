@@ -3,8 +3,8 @@
 // two tabs, REF, a tab, ALT and three tabs: a record of eight fields, with an empty CHROM, that states the same. Of a line that begins
 // with # all is kept but that # and tabs, as far as there is room. Every tab is counted. The file is read in pieces of any size, and a
 // piece may end anywhere.
-ghost use Rattle.std.specs.Prelude.{◌≡◌, not, ◌&&◌, length, drop, ◌==◌};
-ghost use Rattle.pool_files.specs.Short.{keeps, act_of, line_at, putting, over_byte, reading};
+ghost use Rattle.std.specs.Prelude.{◌≡◌, ◌&&◌, length, drop, ◌==◌};
+ghost use Rattle.pool_files.specs.Short.{keeps, line_at, putting, over_byte, reading};
 
 use crate::word::go_on;
 
@@ -12,6 +12,7 @@ use crate::word::go_on;
 #[derive(Clone, Copy)]
 pub struct ShortLine {
     // The number of the field, counted from 0; 7 for every field from the eighth on, and 8 for a line that begins with #.
+    // Stays a number: all but the last are counts, and `act_of` and `keeps` of specs/ speak of them so.
     pub field: usize,
     // How many bytes of CHROM are the name's first.
     pub matched: usize,
@@ -22,63 +23,12 @@ pub struct ShortLine {
     pub whole: bool,
 }
 
-// What a byte of a field does.
-#[derive(Clone, Copy)]
-pub enum Act {
-    Skip,
-    Keep,
-    Name,
-    Next,
-    Count,
-    Comment,
-}
-
 // Whether the bytes of a field are kept: POS, REF and ALT, and what stands after a #.
+#[tactic(auto, unfolding(crate::specs::Short::keeps))]
 fn keeps(field: usize) -> bool
     ensures { result ≡ keeps field }
 {
-    if field == 1 {
-        return true;
-    }
-    if field == 3 {
-        return true;
-    }
-    if field == 4 {
-        return true;
-    }
-    field == 8
-}
-
-// Whether a byte is a # that comes first.
-fn begins_comment(matched: usize, byte: u8) -> bool
-    ensures { result ≡ (byte == 0x23) && (matched == 0) }
-{
-    if byte == b'#' {
-        return matched == 0;
-    }
-    false
-}
-
-// CHROM is compared, unless a # comes first; POS, REF and ALT are kept, and so are tabs up to the eighth field; later ones are counted.
-fn act_of(field: usize, matched: usize, byte: u8) -> Act
-    ensures { result ≡ act_of field matched byte }
-{
-    if byte == b'\t' {
-        if field < 7 {
-            return Act::Next;
-        }
-        return Act::Count;
-    }
-    if field == 0 {
-        if begins_comment(matched, byte) {
-            return Act::Comment;
-        }
-        return Act::Name;
-    }
-    if keeps(field) {
-        return Act::Keep;
-    }
-    Act::Skip
+    matches!(field, 1 | 3 | 4 | 8)
 }
 
 impl ShortLine {
@@ -96,6 +46,7 @@ impl ShortLine {
     }
 
     // With a byte put, where there is room for it.
+    #[tactic(auto, unfolding(crate::specs::Short::putting))]
     fn put(self, byte: u8, short: &mut [u8]) -> ShortLine
         ensures value { result ≡ (putting self byte short.old).line }
         ensures short_after { short.new ≡ (putting self byte short.old).buffer }
@@ -111,44 +62,41 @@ impl ShortLine {
         next
     }
 
-    // After one byte more, which is no line feed.
+    // After one byte more, which is no line feed. CHROM is compared, unless a # comes first; POS, REF and ALT are kept, and so are tabs up
+    // to the eighth field; later ones are counted.
     fn over(self, name: &[u8], byte: u8, short: &mut [u8]) -> ShortLine
         ensures value { result ≡ (over_byte name.now self byte short.old).line }
         ensures short_after { short.new ≡ (over_byte name.now self byte short.old).buffer }
     {
-        let mut next = self;
         let field = self.field;
-        match act_of(field, self.matched, byte) {
-            Act::Skip => next,
-            Act::Keep => next.put(byte, &mut *short),
-            Act::Name => {
-                next.matched = go_on(name, self.matched, byte);
-                next
-            }
-            Act::Next => {
+        let mut next = self;
+        if byte == b'\t' {
+            next.tabs = std::num::wrapping_add_usize(self.tabs, 1);
+            if field < 7 {
                 next.field = field + 1;
-                next.tabs = std::num::wrapping_add_usize(self.tabs, 1);
-                next.put(byte, &mut *short)
+                return next.put(byte, &mut *short);
             }
-            Act::Count => {
-                next.tabs = std::num::wrapping_add_usize(self.tabs, 1);
-                next
-            }
-            Act::Comment => {
-                next.field = 8;
-                next
-            }
+            return next;
         }
+        if field == 0 {
+            if byte == b'#' && self.matched == 0 {
+                next.field = 8;
+                return next;
+            }
+            next.matched = go_on(name, self.matched, byte);
+            return next;
+        }
+        if keeps(field) {
+            return next.put(byte, &mut *short);
+        }
+        next
     }
 
     // Whether nothing of it is read yet.
     pub fn is_new(self) -> bool
         ensures { result ≡ (self.field == 0) && (self.matched == 0) }
     {
-        if self.field == 0 {
-            return self.matched == 0;
-        }
-        false
+        self.field == 0 && self.matched == 0
     }
 
     // Whether it begins with #.
@@ -173,11 +121,11 @@ impl ShortLine {
     }
 }
 
-// A line that goes on in the next piece, or one that has ended, and the place after its line feed.
+// A line as far as it has come, and the place after its line feed, if it has ended.
 #[derive(Clone, Copy)]
-pub enum Come {
-    On(ShortLine),
-    End { line: ShortLine, next: usize },
+pub struct Come {
+    pub line: ShortLine,
+    pub next: Option<usize>,
 }
 
 // Reads on in a piece from a place on, up to the end of the line.
@@ -187,17 +135,18 @@ pub fn read_line(name: &[u8], line: ShortLine, piece: &[u8], from: usize, short:
         short.old).left }
 {
     let mut now = line;
-    let mut at = from;
-    while at < piece.len() {
+    for at in from..piece.len() {
         let byte = piece[at];
-        at += 1;
         if byte == b'\n' {
-            return Come::End {
+            return Come {
                 line: now,
-                next: at,
+                next: Some(at + 1),
             };
         }
         now = now.over(name, byte, &mut *short);
     }
-    Come::On(now)
+    Come {
+        line: now,
+        next: None,
+    }
 }

@@ -4,130 +4,78 @@
 // names no strands, or where not all could be read.
 #![tactic(auto)]
 
-ghost use Rattle.std.specs.Prelude.{◌≤◌, length};
-ghost use Rattle.io.specs.Counts.{IsPrefixLen};
+ghost use Rattle.std.specs.Prelude.{◌≤◌, length, IfOk};
 ghost use Rattle.lines.specs.Input.{most_read};
 ghost use Rattle.lines.specs.Answer.{most_bytes};
 ghost use Rattle.screen.specs.Screened.{Screened};
 
-use files::{Read, given_to_read, read_all, word};
-use lines::strands::{Named, Strands, by_word};
+use files::{count_words, fail, given_to_read, read_all, word, write_all};
+use lines::strands::{Strands, by_word};
 use std::io;
-use std::io::Error;
-use text::compare::same;
 use text::strand::Strand;
 
 // The descriptor of a stretch that comes apart from the pattern.
 const STRETCH: u32 = 7;
 
+// The buffer stays beside a number: `Screened` speaks of both, and the edits room_for_1000_bytes are of the fixed buffers.
 // Puts the lines of an input into `out` and tells how many bytes they are. The first n of `bytes` are all of the input or, since no
 // line depends on what lies after them, as much as there is room for.
 fn screen(strands: Strands, bytes: &[u8], n: usize, out: &mut [u8]) -> usize
-    requires { IsPrefixLen n bytes.now × (most_read ≤ length bytes.now) × (most_bytes ≤ length out.old) }
+    requires { (n ≤ length bytes.now) × (most_read ≤ length bytes.now) × (most_bytes ≤ length out.old) }
     ensures { Screened strands bytes.now n out.new result }
 {
     lines::screened(strands, &bytes[..n], &mut *out)
 }
 
-// The strands that the command line names.
-fn strands_asked(rt: &HostRuntime) -> Named {
-    if files::count_words(rt) < 2 {
-        return Named::Are(Strands::One(Strand::Given));
+// The strands that the command line names; none where its word names none.
+fn strands_asked(rt: &HostRuntime) -> Option<Strands> {
+    if count_words(rt) < 2 {
+        return Some(Strands::One(Strand::Given));
     }
     let mut strands = [0u8; 9];
-    let n = word(rt, 1, &mut strands);
-    by_word(&strands[..n])
+    by_word(word(rt, 1, &mut strands))
 }
 
 // Whether the stretch is on descriptor 7.
 fn is_apart(rt: &HostRuntime) -> bool {
     let mut way = [0u8; 6];
-    let n = word(rt, 2, &mut way);
-    same(&way[..n], b"apart")
+    word(rt, 2, &mut way) == b"apart".as_slice()
 }
 
-// How many bytes of an input were read, and whether nothing failed.
-#[derive(Clone, Copy)]
-struct Input {
-    n: usize,
-    whole: bool,
-}
-
-// That many bytes of a buffer, if it has as many; else none.
-fn bounded(n: usize, bytes: &[u8]) -> usize
-    ensures { IsPrefixLen result bytes.now }
+// Reads a file to its end, or as much of it as there is room for: how many bytes that is.
+fn read<F: io::Read>(file: &mut F, bytes: &mut [u8]) -> io::Result<usize>
+    ensures { IfOk result (λ n. n ≤ length bytes.new) }
 {
-    if n <= bytes.len() {
-        return n;
-    }
-    0
+    let room = bytes.len();
+    Ok(read_all(file, &mut *bytes)?.map_or(room, |read| read.len()))
 }
 
-// That not all could be read, which is said.
-fn failed(rt: &HostRuntime, error: Error) -> Input {
-    files::fail(rt, b"screen: the input", error);
-    Input { n: 0, whole: false }
-}
-
-// Reads a file to its end, or as much of it as there is room for. What fails is said.
-fn read<F: io::Read>(rt: &HostRuntime, file: &mut F, bytes: &mut [u8]) -> Input {
-    match read_all(&mut *file, &mut *bytes) {
-        Read::Whole(n) => Input { n, whole: true },
-        Read::Full => Input {
-            n: bytes.len(),
-            whole: true,
-        },
-        Read::Failed(error) => failed(rt, error),
-    }
-}
-
-// Reads the stretch that is on a descriptor of its own.
-fn read_stretch(rt: &HostRuntime, bytes: &mut [u8]) -> Input {
-    match given_to_read(rt, STRETCH) {
-        Ok(file) => {
-            let mut file = file;
-            read(rt, &mut file, &mut *bytes)
-        }
-        Err(error) => failed(rt, error),
-    }
-}
-
-// Reads the stretch after a pattern of n bytes.
-fn read_apart(rt: &HostRuntime, bytes: &mut [u8], n: usize) -> Input {
-    if bytes.len() < n {
-        return Input { n, whole: false };
-    }
-    let rest = read_stretch(rt, &mut bytes[n..]);
-    Input {
-        n: std::num::wrapping_add_usize(n, rest.n),
-        whole: rest.whole,
-    }
-}
-
-// Reads the input, of which the stretch may come apart.
-fn read_input(rt: &HostRuntime, bytes: &mut [u8]) -> Input {
-    let front = read(rt, &mut rt.stdin(), &mut *bytes);
-    if !front.whole {
-        return front;
-    }
+// Reads the input, of which the stretch may come apart: how many bytes it is, or the front of it for which there is room.
+fn read_input(rt: &HostRuntime, bytes: &mut [u8]) -> io::Result<usize>
+    ensures { IfOk result (λ n. n ≤ length bytes.new) }
+{
+    let n = read(&mut rt.stdin(), &mut *bytes)?;
     if !is_apart(rt) {
-        return front;
+        return Ok(n);
     }
-    read_apart(rt, &mut *bytes, front.n)
+    let mut stretch = given_to_read(rt, STRETCH)?;
+    let more = read(&mut stretch, &mut bytes[n..])?;
+    Ok(n + more)
 }
 
 fn main(rt: HostRuntime) {
-    match strands_asked(&rt) {
-        Named::Unknown => {}
-        Named::Are(strands) => {
-            let mut bytes = [0u8; lines::input::MOST_READ];
-            let mut out = [0u8; lines::MOST_BYTES];
-            let got = read_input(&rt, &mut bytes);
-            if got.whole {
-                let n = bounded(got.n, &bytes);
-                let end = screen(strands, &bytes, n, &mut out);
-                files::write_all(&mut rt.stdout(), &out[..end]);
-            }
+    let Some(strands) = strands_asked(&rt) else {
+        return;
+    };
+    let mut bytes = [0u8; lines::input::MOST_READ];
+    let mut out = [0u8; lines::MOST_BYTES];
+    match read_input(&rt, &mut bytes) {
+        Ok(n) => {
+            let end = screen(strands, &bytes, n, &mut out);
+            let _ = write_all(&mut rt.stdout(), &out[..end]);
+        }
+        Err(error) => {
+            fail(&rt, b"screen: the input", error);
         }
     }
 }

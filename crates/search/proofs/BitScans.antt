@@ -1,5 +1,5 @@
 -- The search by bit-vectors, letter by letter: the tables as they are filled, and the word as it is shifted.
-use Prim.Native.Nat.{ℕ, zero, suc, ◌+◌, ◌-◌, ◌*◌, ◌/◌, ◌%◌, ◌^◌, ◌≤◌, ◌<◌}
+use Prim.Native.Nat.{ℕ, zero, suc, ◌+◌, ◌-◌, ◌*◌, ◌/◌, ◌%◌, ◌^◌, ◌≤◌, ◌<◌, min}
 use native.Mathlib.Nat.{pow-suc, one-mul, mod-lt, mod-eq_of_lt}
 use native.Mathlib.Numerals.{add-one, one-add}
 use native.Mathlib.Decide.{dec_lt, ℕ_discrete}
@@ -144,9 +144,9 @@ filled-others P table short f =
 
 -- of a pattern over 64 bytes the first 64 are entered
 module _ (P : List ℕ) where
-  pub bases-long : 64 < length P → length (bases P) ≡ 64
+  pub bases-length : min (length P) 64 ≡ length (bases P)
   unfolding bases
-  bases-long l = simp length-take (omega arith)
+  bases-length = simp length-take (omega arith)
 
   pub bases-all : length P ≤ 64 → bases P ≡ P
   unfolding bases

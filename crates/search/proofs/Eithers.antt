@@ -9,7 +9,7 @@ use lib.Dec.{eqb}
 use lib.ListN.{length, get_or, take, set}
 use Rattle.text.specs.Text.{Segment, Text, segment, total, size}
 use Rattle.text.specs.State.{is_state, fresh, next, ends, run, marks_from, marks}
-use Rattle.text.specs.Refusal.{Outcome, ok, refused, demand, after, pattern, told_verdict}
+use Rattle.text.specs.Refusal.{Outcome, ok, refused, demand, after, pattern, outcome}
 use Rattle.text.specs.Strand.{opposite}
 use Rattle.text.proofs.Outcomes.{ok-inj, after-after, after-demand, after-met, demand-met}
 use Rattle.text.proofs.Marks.{marks-length, mark-at}
@@ -18,20 +18,19 @@ use Rattle.text.proofs.Patterns.{pattern-sound}
 use Rattle.layout.specs.Pieces.{fits_at}
 use Rattle.layout.specs.Reading.{Taken, segments_of}
 use Rattle.layout.specs.Walk.{passed_to, end_at, Begun}
-use Rattle.text.specs.declared.verdict.Verdict.{Verdict}
-use Rattle.text.specs.declared.verdict.Verdict.TheVariants.{Sound}
+use Rattle.std.specs.Prelude.{Result, Ok, Err}
 use Rattle.layout.specs.declared.walk.Walk.{Walk}
 use Rattle.layout.proofs.Frames.{stretch-is}
 use Rattle.layout.proofs.Going.{going-length, going-refused, going-not, going-sound}
 use Rattle.search.specs.Masks.{StateOf}
 use Rattle.search.specs.Step.{Pass, told_passed, segment_pass}
-use Rattle.search.specs.Answers.{entering, stretch_into, whole_into, searching, seeking, MarksOf, Sums}
+use Rattle.search.specs.Answers.{entering, stretch_into, whole_into, searching, seeking, MarksOf, Sums, sums_marked}
 use Rattle.search.specs.Either.{united, either_marks, either_sums, either_from, entering_both, seeking_both, SeenBoth, seen_both}
-use Rattle.search.specs.Either.{sums_both, passed_given, passed_opposite}
+use Rattle.search.specs.Either.{sums_both, told_marked_both, passed_given, passed_opposite}
+use Rattle.search.specs.declared.marking.Marked.{Marked}
 use Rattle.text.specs.declared.refusal.Refusal.{Refusal}
 use Rattle.search.specs.declared.both.words.Pair.{Pair}
 use Rattle.search.specs.declared.both.segment.PassedBoth.{PassedBoth}
-use Rattle.search.specs.declared.both.segment.PassedBoth.TheVariants.{To, Refused}
 use Rattle.search.proofs.Entries.{Entered, entering-after, entering-refused, entering-sound, entering-pattern, entered, fresh-state}
 use Rattle.search.proofs.Passes.{Stepped, segment-met, segment-not}
 use Rattle.search.proofs.Markings.{Marking, marking-none, marking-room, marking-more, marking-marks, marks-not, Told}
@@ -155,16 +154,16 @@ module _ (P : List ℕ) where
   either-at t j l = from_at P fresh fresh t j l
 
 -- what a step over a segment answers, strand by strand
-module _ {r : PassedBoth} {x y : Outcome Pass} (own : told_passed (passed_given r) ≡ x) (turned : told_passed (passed_opposite r) ≡ y) where
-  pub passed-not : {w : Refusal} → r ≡ Refused w → x ≡ refused w.number w.place
-  passed-not e = sym own ∙ ap (λ (z : PassedBoth). told_passed (passed_given z)) e
+module _ {r : Result PassedBoth Refusal} {x y : Outcome Pass} (own : told_passed (passed_given r) ≡ x) (turned : told_passed (passed_opposite r) ≡ y) where
+  pub passed-not : {w : Refusal} → r ≡ Err w → x ≡ refused w.number w.place
+  passed-not e = sym own ∙ ap (λ (z : Result PassedBoth Refusal). told_passed (passed_given z)) e
 
-  module _ {behind more : ℕ} {state : Pair} {hit back : Bool} (e : r ≡ To behind more state hit back) where
-    pub passed-own : x ≡ ok (record { next = behind; size = more; state = state.given; ends = hit })
-    passed-own = sym own ∙ ap (λ (z : PassedBoth). told_passed (passed_given z)) e
+  module _ {p : PassedBoth} (e : r ≡ Ok p) where
+    pub passed-own : x ≡ ok (record { next = p.next; size = p.size; state = p.state.given; ends = p.given })
+    passed-own = sym own ∙ ap (λ (z : Result PassedBoth Refusal). told_passed (passed_given z)) e
 
-    pub passed-turned : y ≡ ok (record { next = behind; size = more; state = state.opposite; ends = back })
-    passed-turned = sym turned ∙ ap (λ (z : PassedBoth). told_passed (passed_opposite z)) e
+    pub passed-turned : y ≡ ok (record { next = p.next; size = p.size; state = p.state.opposite; ends = p.opposite })
+    passed-turned = sym turned ∙ ap (λ (z : Result PassedBoth Refusal). told_passed (passed_opposite z)) e
 
 -- the segments of a walk have been searched on both strands, from the states st and re on
 pub record Uniting (P : List ℕ) (st re : ℕ) (s : List ℕ) (n from : ℕ) (buffer : List ℕ) (w : Walk) (ends given other : ℕ) : Type 0 where
@@ -246,11 +245,11 @@ module _ {P : List ℕ} {st re : ℕ} {s : List ℕ} {n from : ℕ} {buffer : Li
   uniting-refused l j p e = refuses j p (going-refused q.walk.go l (segment-not P given s w.at j p e))
 
   -- after the last
-  module _ (done : n ≤ w.passed) {v : Verdict} (told : told_verdict v ≡ end_at s w) where
-    pub uniting-left : {f : Refusal} → v ≡ Verdict.Refused f → Says P st re s n from (refused f.number f.place) buffer
+  module _ (done : n ≤ w.passed) {v : Result (Unit {0}) Refusal} (told : outcome v ≡ end_at s w) where
+    pub uniting-left : {f : Refusal} → v ≡ Err f → Says P st re s n from (refused f.number f.place) buffer
     uniting-left {f} is = refuses f.number f.place (going-not q.walk.go done told is)
 
-    pub uniting-sound : v ≡ Sound
+    pub uniting-sound : v ≡ Ok tt
         → Says P st re s n from
         (ok (record { segments = w.passed; size = w.size; ends = ones; given = given; opposite = other })) buffer
     unfolding seen_both size
@@ -326,6 +325,11 @@ module _ (P : List ℕ) (st re : ℕ) (s : List ℕ) where
     unfolding seeking_both
     both-seek-sound y told left h =
         rw (both-sound y.own y.turned (stretch_into s (length out)), stretch-is s y.own.short) h
+
+-- a result without the states after the text
+pub both-sums : (m : Result (Marked Pair) Refusal) → after (outcome m) (λ x. ok (sums_marked x)) ≡ after (told_marked_both m) (λ x. ok (sums_both x))
+both-sums (Ok m) = refl
+both-sums (Err r) = refl
 
 -- a search from the fresh states is a search
 module _ (P s out : List ℕ) where

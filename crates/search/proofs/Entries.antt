@@ -9,7 +9,7 @@ use lib.ListN.{length}
 use lib.Pow.{pow-lt}
 use Rattle.text.specs.Bits.{bit}
 use Rattle.text.specs.State.{is_state, fresh}
-use Rattle.text.specs.Refusal.{Outcome, ok, refused, demand, after, pattern, told_verdict, SoundPattern}
+use Rattle.text.specs.Refusal.{Outcome, ok, refused, demand, after, pattern, outcome, SoundPattern}
 use Rattle.text.proofs.Truth.{and_left, and_right}
 use Rattle.text.proofs.Bits.{bit-first}
 use Rattle.text.proofs.Outcomes.{demand-met, after-met, after-demand}
@@ -17,7 +17,7 @@ use Rattle.text.proofs.Patterns.{pattern-sound, sound-pattern, pattern-refused, 
 use Rattle.layout.specs.Bytes.{greatest_stretch}
 use Rattle.text.specs.declared.refusal.Refusal.{Refusal}
 use Rattle.layout.specs.Pieces.{fits_at, fits}
-use Rattle.text.specs.declared.verdict.Verdict.{Verdict}
+use Rattle.std.specs.Prelude.{Result, Err}
 use Rattle.layout.proofs.Frames.{fits_refused}
 use Rattle.search.specs.Masks.{StateOf}
 use Rattle.search.specs.Answers.{entering}
@@ -70,7 +70,7 @@ module _ (P : List ℕ) (st : ℕ) (s : List ℕ) where
   entering-pattern j p e o = pattern-refused P j p e _
 
   module _ (y : SoundPattern P) where
-    pub entering-long : {v : Verdict} → told_verdict v ≡ fits_at s → {w : Refusal} → v ≡ Verdict.Refused w → {A : Type 0} (o : Outcome A)
+    pub entering-long : {v : Result (Unit {0}) Refusal} → outcome v ≡ fits_at s → {w : Refusal} → v ≡ Err w → {A : Type 0} (o : Outcome A)
         → entering P st s o ≡ refused w.number w.place
     unfolding entering
     entering-long told is o = sound-pattern P y _ ∙ fits_refused s told is _

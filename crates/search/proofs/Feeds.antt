@@ -1,21 +1,21 @@
 -- What a feed answers, from the tests that lead there.
 use Prim.Native.Nat.{ℕ, ◌+◌}
 use native.Mathlib.Omega.{arith}
-use mathlib.Core.Path.{◌≡◌, refl, sym, ap, ap₂, ◌∙◌}
+use mathlib.Core.Path.{◌≡◌, refl, sym, ap, ◌∙◌, fun_ext}
 use mathlib.Core.Bool.{Bool, true, false, not, cond}
 use mathlib.Core.List.{List, [], ◌∷◌}
 use lib.Dec.{eqb}
-use Rattle.text.specs.Text.{Text, total}
+use Rattle.text.specs.Text.{Segment, Text, total}
 use Rattle.text.specs.State.{next, ends, run, marks_from}
 use Rattle.text.specs.Refusal.{Outcome, ok, refused, after}
-use Rattle.text.proofs.Outcomes.{told-met, told-refused, after-after}
+use Rattle.text.proofs.Outcomes.{after-after}
 use Rattle.text.specs.Strand.{on_strand}
 use Rattle.text.specs.declared.strand.Strand.{Strand}
 use Rattle.layout.specs.Reading.{segments_of, lone_segment}
 use Rattle.layout.specs.Walk.{begun, Begun}
 use Rattle.layout.specs.declared.walk.Walk.{Walk}
 use Rattle.layout.proofs.Going.{lone_is}
-use Rattle.search.specs.Answers.{Seen, seen_from, entering, feeding}
+use Rattle.search.specs.Answers.{Seen, seen_from, entering, Next, next_of, stepped, feeding}
 use Rattle.search.proofs.Entries.{Entered, entering-refused, entering-sound}
 
 -- the walk over a lone segment, and what a run tells of it
@@ -48,24 +48,18 @@ module _ (P : List ℕ) (strand : Strand) (s : List ℕ) (st : ℕ) where
     one : told ≡ after (lone_segment s) (λ g. ok (seen_from R st (g ∷ [])))
     one = tells ∙ run-lone R st s lone
 
-    pub fed-refused : (j p : ℕ) → told ≡ refused j p → feeding P strand st s ≡ refused j p
-    unfolding feeding
-    fed-refused j p e =
-        let wrong = told-refused (lone_segment s) (λ g. seen_from R st (g ∷ [])) j p (sym one ∙ e) in
-        entering-sound P st s y _ ∙ rw wrong
-
-    pub fed-next : (count size hits bits : ℕ) → told ≡ ok (record { segments = count; size = size; ends = hits; state = bits })
-        → feeding P strand st s ≡ ok (record { state = bits; ends = not (eqb hits 0) })
+    pub fed-run : after told (λ x. ok (next_of x)) ≡ feeding P strand st s
     unfolding feeding seen_from run marks_from total
-    fed-next count size hits bits e =
-        let (g, read, same) = told-met (lone_segment s) (λ g. seen_from R st (g ∷ []))
-        (record { segments = count; size = size; ends = hits; state = bits }) (sym one ∙ e) in
-        let state : next R st g ≡ bits = ap (λ (x : Seen). x.state) same in
-        let marked : cond (ends R st g) 1 0 + 0 ≡ hits = ap (λ (x : Seen). x.ends) same in
-        let end : ends R st g ≡ not (eqb hits 0) = counts (ends R st g) ∙ ap (λ (n : ℕ). not (eqb n 0)) marked in
-        entering-sound P st s y _
-        ∙ rw (← is, read) (ap₂ (λ (n : ℕ) (b : Bool). ok (record { state = n; ends = b })) state end)
+    fed-run =
+        ap (λ (o : Outcome Seen). after o (λ x. ok (next_of x))) one
+        ∙ after-after (lone_segment s) (λ g. ok (seen_from R st (g ∷ []))) (λ x. ok (next_of x))
+        ∙ ap (after (lone_segment s)) (fun_ext each)
+        ∙ ap (λ (Q : List ℕ). stepped Q st s) is
+        ∙ sym (entering-sound P st s y (stepped (on_strand strand P) st s))
       where
         counts : (b : Bool) → b ≡ not (eqb (cond b 1 0 + 0) 0)
         counts true = refl
         counts false = refl
+
+        each : (g : Segment) → ◌≡◌ {A = Outcome Next} (ok (next_of (seen_from R st (g ∷ [])))) (ok (record { state = next R st g; ends = ends R st g }))
+        each g = ap (λ (b : Bool). ok (record { state = next R st g; ends = b })) (sym (counts (ends R st g)))

@@ -12,7 +12,7 @@ use lib.ListN.{length}
 use Rattle.text.specs.Text.{Text, size}
 use Rattle.text.specs.State.{run, marks_from}
 use Rattle.text.specs.Card.{none, first_end}
-use Rattle.text.specs.Refusal.{Outcome, ok, refused, after, told_verdict}
+use Rattle.text.specs.Refusal.{Outcome, ok, refused, after, outcome}
 use Rattle.text.specs.declared.refusal.Refusal.{Refusal}
 use Rattle.text.specs.Strand.{on_strand}
 use Rattle.text.specs.declared.strand.Strand.{Strand}
@@ -20,15 +20,14 @@ use Rattle.layout.specs.Bytes.{greatest_stretch}
 use Rattle.layout.specs.Pieces.{open_at}
 use Rattle.layout.specs.Reading.{segment_at, segments_of, whole_stretch}
 use Rattle.layout.specs.Walk.{end_at}
-use Rattle.text.specs.declared.verdict.Verdict.{Verdict}
-use Rattle.text.specs.declared.verdict.Verdict.TheVariants.{Sound}
+use Rattle.std.specs.Prelude.{Result, Ok, Err}
 use Rattle.layout.specs.declared.walk.Walk.{Walk}
 use Rattle.layout.proofs.Frames.{stretch-is}
 use Rattle.layout.proofs.Going.{Opening, going-length, going-refused, going-not, going-sound}
-use Rattle.search.specs.Answers.{MarksOf, seen_from, told_sought, entering}
+use Rattle.search.specs.Answers.{MarksOf, seen_from, told_marked, entering}
 use Rattle.search.specs.First.{Hit, ends_in, clear, whole_of, first_in, hitting, first_from, hitting_from, firsting, told_hit, Few}
 use Rattle.search.specs.Step.{segment_pass}
-use Rattle.search.specs.declared.state.Sought.{Sought}
+use Rattle.search.specs.declared.marking.Marked.{Marked}
 use Rattle.search.specs.declared.state.State.{State}
 use Rattle.search.proofs.Entries.{Entered, entering-refused, entering-sound}
 use Rattle.search.proofs.Passes.{segment-not}
@@ -63,10 +62,10 @@ pub hit-walk : (P : List ℕ) (st : ℕ) (s : List ℕ) {w : Walk} → Opening s
 hit-walk P st s {w} z short = hit-from P st s w.count z.opens short ∙ ap (hitting_from P st s w.count) (sym z.first)
 
 -- what a run over n segments from `from` on promises of its answer and of the marks
-abbrev pub Says : Bool → List ℕ → ℕ → List ℕ → ℕ → ℕ → Sought → List ℕ → Type 0
+abbrev pub Says : Bool → List ℕ → ℕ → List ℕ → ℕ → ℕ → Result (Marked State) Refusal → List ℕ → Type 0
 Says stop P st s n from r buffer =
     (stop ≡ true → (told_hit r ≡ hitting_from P st s n from) × Few r)
-    × ((stop ≡ false → told_sought r ≡ after (segments_of s n from) (λ t. ok (seen_from P st t)))
+    × ((stop ≡ false → told_marked r ≡ after (segments_of s n from) (λ t. ok (seen_from P st t)))
     × (stop ≡ false → MarksOf (marks_from P st) (segments_of s n from) buffer))
 
 -- the run stands in its walk
@@ -81,7 +80,7 @@ module _ {stop : Bool} {P : List ℕ} {st : ℕ} {s : List ℕ} {n from : ℕ} {
       (omega (arith, most, go.far, go.sum.inside, go.few)) (sym q.walk.ones ∙ q.clear stops)
 
   refuses : (w.passed ≡ n) ⊎ ((j : ℕ) × (p : ℕ) × (segment_at s w.at ≡ refused j p)) → (f : Refusal)
-      → segments_of s n from ≡ refused f.number f.place → Says stop P st s n from (Sought.Refused f) buffer
+      → segments_of s n from ≡ refused f.number f.place → Says stop P st s n from (Err f) buffer
   refuses last f e = (
     λ stops. (sym (nowhere last stops ∙ ap (λ (o : Outcome Text). after o (λ t. ok (clear (run P st t)))) e), tt),
     (λ _. sym (ap (λ (o : Outcome Text). after o (λ t. ok (seen_from P st t))) e), λ _. marks-not (marks_from P st) _ _ _ buffer e),
@@ -89,7 +88,7 @@ module _ {stop : Bool} {P : List ℕ} {st : ℕ} {s : List ℕ} {n from : ℕ} {
 
   -- the next segment is refused
   pub says-refused : w.passed < n → (f : Refusal) → segment_pass P bits s w.at ≡ refused f.number f.place
-      → Says stop P st s n from (Sought.Refused f) buffer
+      → Says stop P st s n from (Err f) buffer
   says-refused l f e =
       let wrong = segment-not P bits s w.at _ _ e in
       refuses (inr (f.number, f.place, wrong)) f (going-refused q.walk.go l wrong)
@@ -98,12 +97,12 @@ module _ {stop : Bool} {P : List ℕ} {st : ℕ} {s : List ℕ} {n from : ℕ} {
   all : n ≤ w.passed → w.passed ≡ n
   all done = omega (arith, done, q.walk.go.few)
 
-  module _ (done : n ≤ w.passed) {v : Verdict} (told : told_verdict v ≡ end_at s w) where
-    pub says-left : (f : Refusal) → v ≡ Verdict.Refused f → Says stop P st s n from (Sought.Refused f) buffer
+  module _ (done : n ≤ w.passed) {v : Result (Unit {0}) Refusal} (told : outcome v ≡ end_at s w) where
+    pub says-left : (f : Refusal) → v ≡ Err f → Says stop P st s n from (Err f) buffer
     says-left f is = refuses (inl (all done)) f (going-not q.walk.go done told is)
 
-    pub says-sound : v ≡ Sound → (reached : State) → reached.bits ≡ bits
-        → Says stop P st s n from (Sought.Marked w.passed w.size ones reached) buffer
+    pub says-sound : v ≡ Ok tt → (reached : State) → reached.bits ≡ bits
+        → Says stop P st s n from (Ok (record { segments = w.passed; size = w.size; ends = ones; state = reached })) buffer
     unfolding seen_from size
     says-sound is reached same =
         let e = going-sound q.walk.go done told is in
@@ -123,7 +122,7 @@ module _ {stop : Bool} {P : List ℕ} {st : ℕ} {s : List ℕ} {n from : ℕ} {
 -- it stopped at an end in segment k
 pub says-stopped : (stop : Bool) (P : List ℕ) (st : ℕ) (s : List ℕ) (n from : ℕ) (buffer : List ℕ) (k segments size ones : ℕ) (reached : State)
     → stop ≡ true → 0 < ones → ones ≤ segments → hitting_from P st s n from ≡ ok (ends_in k) → segments ≡ k + 1
-    → Says stop P st s n from (Sought.Marked segments size ones reached) buffer
+    → Says stop P st s n from (Ok (record { segments = segments; size = size; ends = ones; state = reached })) buffer
 says-stopped stop P st s n from buffer k segments size ones reached stops some few hit count =
     let there : eqb ones 0 ≡ false = ne_eqb ones 0 (λ z. let c : ⊥ = omega (arith, some, z) in c) in
     let place : segments - 1 ≡ k = omega arith in (
@@ -132,15 +131,15 @@ says-stopped stop P st s n from buffer k segments size ones reached stops some f
     )
 
 -- what a run that came to the end, or stopped, tells of the first hit
-module _ {r : Sought} (n size ones : ℕ) (reached : State) (is : r ≡ Sought.Marked n size ones reached) where
-  pub told-clear : ones ≡ 0 → told_hit r ≡ ok (clear reached.bits)
+module _ {r : Result (Marked State) Refusal} {m : Marked State} (is : r ≡ Ok m) where
+  pub told-clear : m.ends ≡ 0 → told_hit r ≡ ok (clear m.state.bits)
   told-clear e = rw (is, e) refl
 
-  pub told-ends : (ones ≡ 0 → ⊥) → told_hit r ≡ ok (ends_in (n - 1))
-  told-ends some = let e = ne_eqb ones 0 some in rw (is, e) refl
+  pub told-ends : (m.ends ≡ 0 → ⊥) → told_hit r ≡ ok (ends_in (m.segments - 1))
+  told-ends some = let e = ne_eqb m.ends 0 some in rw (is, e) refl
 
-  pub few-some : Few r → (ones ≡ 0 → ⊥) → 1 ≤ n
-  few-some few some = let l : ones ≤ n = rw is at few in omega (arith, l, some)
+  pub few-some : Few r → (m.ends ≡ 0 → ⊥) → 1 ≤ m.segments
+  few-some few some = let l : m.ends ≤ m.segments = rw is at few in omega (arith, l, some)
 
 -- the first hit of P as a strand reads it, Q, from what a run that stops says
 module _ (P : List ℕ) (strand : Strand) (st : ℕ) (s : List ℕ) where

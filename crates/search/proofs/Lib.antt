@@ -12,7 +12,6 @@ pub mod Searches
 pub mod Hits
 pub mod Pairs
 pub mod Eithers
-pub mod Methods
 pub mod Feeds
 pub mod BorderStrings
 pub mod BorderLengths

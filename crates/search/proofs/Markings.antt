@@ -4,22 +4,24 @@ use Prim.Native.Nat.{ℕ, ◌+◌, ◌-◌, ◌/◌, ◌^◌, ◌≤◌, ◌<◌
 use native.Mathlib.Numerals.{add-one}
 use native.Mathlib.Omega.{arith}
 use mathlib.Core.Path.{◌≡◌, refl, sym, ap, ap₂, subst, ◌∙◌}
-use mathlib.Core.Bool.{Bool, true, false, not, cond}
+use mathlib.Core.Bool.{Bool, true, false, cond}
 use mathlib.Core.List.{List, [], ◌∷◌, ◌++◌}
-use borrow.Author.Tests.{le-leb, lt-leb, not-true, not-false}
+use borrow.Author.Tests.{le-leb, lt-leb}
 use lib.Dec.{leb}
-use lib.ListN.{length, take, set, length-take, length-append}
+use lib.ListN.{length, take, drop, set, length-take, length-append}
 use lib.Seq.{take-suc-set}
 use Rattle.text.specs.Text.{Segment, Text, weight, total}
-use Rattle.text.specs.Refusal.{Outcome, ok, refused, demand, after}
+use Rattle.std.specs.Prelude.{Result, Ok, Err}
+use Rattle.text.specs.Refusal.{Outcome, ok, refused, demand, after, outcome}
+use Rattle.text.specs.declared.refusal.Refusal.{Refusal}
 use Rattle.text.proofs.Sizes.{total-snoc}
-use Rattle.text.proofs.Outcomes.{ok-inj, refused-ok, told-met}
+use Rattle.text.proofs.Outcomes.{ok-inj, refused-ok, refused-inj, told-met, told-refused}
 use Rattle.layout.specs.Bytes.{over, left_by}
 use Rattle.layout.specs.Reading.{segment_at}
 use Rattle.layout.specs.Walk.{passed_to, Begun}
 use Rattle.layout.specs.declared.walk.Walk.{Walk}
 use Rattle.layout.proofs.Going.{Going, going-none, going-length, going-ahead, going_more}
-use Rattle.search.specs.Answers.{MarksOf, handed, into, Handed, Enough}
+use Rattle.search.specs.Answers.{MarksOf, handed, into}
 
 -- the segments seen have been walked over, and their marks stand in front of the buffer, unless the walk is one that stops
 pub record Marking (stop : Bool) (f : Text → List ℕ) (s : List ℕ) (n from : ℕ) (buffer : List ℕ) (seen : Text) (w : Walk)
@@ -82,29 +84,16 @@ marks-not f o j p buffer e t h = absurd (refused-ok j p t (sym e ∙ h))
 
 -- marks are handed over where there is room for them
 module _ (n : ℕ) (found out : List ℕ) where
-  pub handed-none : length out < n → (false ≡ leb n (length out)) × (out ≡ handed n found out)
+  pub handed-none : length out < n → (refused 10 0 ≡ demand (leb n (length out)) 10 0 (ok (tt {0}))) × (out ≡ handed n found out)
   handed-none l = let short : leb n (length out) ≡ false = lt-leb n (length out) l in rw short (refl, refl)
 
-  pub handed-all : (left : List ℕ) → n ≤ length out → left ≡ over out 0 (take n found)
-      → (true ≡ leb n (length out)) × (left ≡ handed n found out)
-  handed-all left l w = let fit : leb n (length out) ≡ true = le-leb n (length out) l in rw fit (refl, w)
-
--- what is told and left once the marks are handed over
-module _ {A : Type 0} (count : A → ℕ) (found out : List ℕ) (o : Outcome A) where
-  pub hand-not : (j p : ℕ) → o ≡ refused j p → Handed count found out o (refused j p) out
-  hand-not j p e = rw e (refl, refl)
-
-  module _ (x : A) (e : o ≡ ok x) (left : List ℕ) (w : left ≡ handed (count x) found out) (room : Bool)
-      (is : room ≡ leb (count x) (length out)) where
-    pub hand-short : not room ≡ true → Handed count found out o (refused 10 0) left
-    hand-short none =
-        let short : leb (count x) (length out) ≡ false = sym is ∙ not-true room none in
-        rw (e, short) (refl, rw short at w)
-
-    pub hand-all : not room ≡ false → Handed count found out o (ok x) left
-    hand-all some =
-        let fit : leb (count x) (length out) ≡ true = sym is ∙ not-false room some in
-        rw (e, fit) (refl, rw fit at w)
+  pub handed-all : (front : List ℕ) → n ≤ length found → n ≤ length out → front ≡ take n found
+      → (ok (tt {0}) ≡ demand (leb n (length out)) 10 0 (ok tt)) × (front ++ drop n out ≡ handed n found out)
+  unfolding over
+  handed-all front m l is =
+      let fit : leb n (length out) ≡ true = le-leb n (length out) l in
+      let long : 0 + length (take n found) ≡ n = simp length-take (omega arith) in
+      rw (fit, is) (refl, ap (λ (i : ℕ). take n found ++ drop i out) (sym long))
 
 -- what a search answers, and what it leaves in the caller's buffer
 module _ {A : Type 0} (h : Text → A) (f : Text → List ℕ) (out : List ℕ) where
@@ -119,28 +108,47 @@ module _ {A : Type 0} (h : Text → A) (f : Text → List ℕ) (out : List ℕ) 
   -- the marks that were found, and what was told, of the segments of a text
   module _ (count : A → ℕ) (counts : (t : Text) → count (h t) ≡ length t) (found : List ℕ) (o : Outcome Text) (marks : MarksOf f o found)
       {told : Outcome A} (e : told ≡ after o (λ t. ok (h t))) where
-    pub found-enough : ((t : Text) → length (f t) ≡ length t) → Enough count told found
-    found-enough long x is =
-        let (t, read, same) = told-met o h x (sym e ∙ is) in
-        let all : length (take (length t) found) ≡ length t = ap length (marks t read) ∙ long t in
-        omega (arith, length-take (length t) found, counts t, ap count same)
+    -- a refusal of the segments
+    pub into-refused : (j p : ℕ) → told ≡ refused j p → Told (into (length out) o) (refused j p) out
+    into-refused j p is = into-not o j p (told-refused o h j p (sym e ∙ is))
 
-    -- are handed over
-    pub into-handed : {whole : Outcome Text} → whole ≡ o → (said : Outcome A) (left : List ℕ) → Handed count found out told said left
-        → Told (into (length out) whole) said left
-    unfolding into
-    into-handed is said left w = rw is (go o marks (rw e at w))
-      where
-        -- by whether there is room for them
-        one : (t : Text) (b : Bool) → take (length t) found ≡ f t
-            → (said ≡ demand b 10 0 (ok (h t))) × (left ≡ left_by (λ x. take (count x) found) (demand b 10 0 (ok (h t))) out)
-            → Told (demand b 10 0 (ok t)) said left
-        one t true all k = (k.0, k.1 ∙ ap (λ (i : ℕ). over out 0 (take i found)) (counts t) ∙ ap (over out 0) all)
-        one t false all k = k
+    module _ {x : A} (is : told ≡ ok x) where
+      -- there is a mark for each segment that is told of
+      pub found-enough : ((t : Text) → length (f t) ≡ length t) → count x ≤ length found
+      found-enough long =
+          let (t, read, same) = told-met o h x (sym e ∙ is) in
+          let all : length (take (length t) found) ≡ length t = ap length (marks t read) ∙ long t in
+          omega (arith, length-take (length t) found, counts t, ap count same)
 
-        go : (k : Outcome Text) → MarksOf f k found → Handed count found out (after k (λ t. ok (h t))) said left
-            → Told (after k (λ t. demand (leb (length t) (length out)) 10 0 (ok t))) said left
-        go (refused j p) m k = k
-        go (ok t) m k =
-            subst (λ (i : ℕ). Told (demand (leb i (length out)) 10 0 (ok t)) said left) (counts t)
-            (one t (leb (count (h t)) (length out)) (m t refl) k)
+      module _ {v : Result (Unit {0}) Refusal} (says : outcome v ≡ demand (leb (count x) (length out)) 10 0 (ok tt)) {left : List ℕ}
+          (w : left ≡ handed (count x) found out) where
+        one : (t : Text) (b : Bool) → take (length t) found ≡ f t → o ≡ ok t → h t ≡ x → leb (length t) (length out) ≡ b
+            → outcome v ≡ demand b 10 0 (ok tt) → left ≡ cond b (over out 0 (take (length t) found)) out
+            → (v ≡ Ok tt → Told (into (length out) o) (ok x) left)
+            × ((r : Refusal) → v ≡ Err r → Told (into (length out) o) (refused r.number r.place) left)
+        unfolding into
+        one t true all read same fits got is = (
+          λ s. rw (read, fits) (ap ok (sym same), is ∙ ap (over out 0) all),
+          λ r s. absurd (refused-ok _ _ (tt {0}) (sym (ap outcome s) ∙ got)),
+        )
+        one t false all read same fits got is = (
+          λ s. absurd (refused-ok _ _ (tt {0}) (sym got ∙ ap outcome s)),
+          λ r s. let i = refused-inj (sym (ap outcome s) ∙ got) in rw (read, fits) (ap₂ refused i.0 i.1, is),
+        )
+
+        whole : (v ≡ Ok tt → Told (into (length out) o) (ok x) left)
+            × ((r : Refusal) → v ≡ Err r → Told (into (length out) o) (refused r.number r.place) left)
+        whole =
+            let (t, read, same) = told-met o h x (sym e ∙ is) in
+            let n : count x ≡ length t = sym (ap count same) ∙ counts t in
+            one t (leb (length t) (length out)) (marks t read) read same refl
+            (says ∙ ap (λ (i : ℕ). demand (leb i (length out)) 10 0 (ok tt)) n)
+            (w ∙ ap (λ (i : ℕ). handed i found out) n)
+
+        -- they are handed over
+        pub into-handed : v ≡ Ok tt → Told (into (length out) o) (ok x) left
+        into-handed = whole.0
+
+        -- or there is no room for them
+        pub into-short : {r : Refusal} → v ≡ Err r → Told (into (length out) o) (refused r.number r.place) left
+        into-short {r} s = whole.1 r s

@@ -11,11 +11,9 @@ use lib.Seq.{get_or-drop, get_or-set_same, get_or-set_other}
 use Rattle.search.specs.Masks.{Others, StateOf, Ready}
 use Rattle.search.specs.Words.{Turned}
 use Rattle.search.specs.Either.{evens, odds, Vectors}
-use Rattle.search.specs.declared.method.Method.TheVariants.{Bits}
 use Rattle.layout.specs.Reading.{value_of}
 use Rattle.layout.specs.declared.cursor.Cursor.{Cursor}
 use Rattle.layout.proofs.Walking.{Walking}
-use Rattle.search.proofs.Methods.{ready-bits}
 use Rattle.search.proofs.Words.{Sweeping, sweeping-more}
 
 double : (c : ℕ) → 2 * suc c ≡ suc (suc (2 * c))
@@ -114,7 +112,8 @@ laid-all P Q one other table c t l p q = (
 
 -- what a sweep on one strand rests on
 pub ready : (P masks classes : List ℕ) (st : ℕ) → Vectors P masks classes × StateOf P st → Ready P masks classes st
-ready P masks classes st (t, y) = ready-bits Bits P masks classes st refl t y
+ready P masks classes st (t, y) =
+    record { some = t.founded.some; short = t.founded.short; vectors = t.founded.holds; letters = t.letters; state = y }
 
 -- a variant more, with the words as they were united
 pub sweeping-on : {P : List ℕ} {st : ℕ} {s : List ℕ} {from : ℕ} {c d : Cursor} {out missed : ℕ} (t : Sweeping P st s from c out missed)

@@ -26,9 +26,6 @@ module _ (strand : Strand) (P bytes : List ℕ) (e : bytes ≡ read_on strand P)
   pub read-sound : SoundPattern (take (length P) bytes)
   read-sound = subst SoundPattern (sym read_is) (strand-sound strand P y)
 
-  pub read-sized : SoundPattern (take (length P) bytes)
-  read-sized = record { some = read-sound.some; short = read-sound.short; bases = read-sound.bases }
-
   -- a state of the one is a state of the other
   pub read-state : (st : ℕ) → is_state (length P) st ≡ true → StateOf (take (length P) bytes) st
   read-state st i = state-of (take (length P) bytes) st (rw (← read_length) i)

@@ -11,7 +11,11 @@ use lib.ListN.{length, set, length-set, length-append}
 use mir.Val.{bool_byte}
 use Rattle.text.specs.Text.{Text}
 use Rattle.text.specs.State.{next, ends, run, fresh, marks_from, marks}
-use Rattle.text.specs.Refusal.{Outcome, ok, refused, after, pattern, SoundPattern}
+use Rattle.std.specs.Prelude.{Result, Ok, Err}
+use Rattle.text.specs.Refusal.{Outcome, ok, refused, after, pattern, SoundPattern, outcome}
+use Rattle.text.specs.declared.refusal.Refusal.{Refusal}
+use Rattle.search.specs.declared.marking.Marked.{Marked}
+use Rattle.search.specs.declared.state.State.{State}
 use Rattle.text.proofs.Outcomes.{after-after}
 use Rattle.text.proofs.Patterns.{pattern-refused, pattern-sound, sound-pattern}
 use Rattle.text.proofs.Bits.{bit-first}
@@ -29,7 +33,7 @@ use Rattle.layout.proofs.Going.{going-length, going-ahead}
 use Rattle.search.specs.Masks.{StateOf}
 use Rattle.search.specs.Step.{segment_pass}
 use Rattle.search.specs.First.{ends_in, hitting_from}
-use Rattle.search.specs.Answers.{Seen, seen_from, Sums, sums, sums_of}
+use Rattle.search.specs.Answers.{Seen, seen_from, told_marked, Sums, sums, sums_marked, sums_of}
 use Rattle.search.specs.Answers.{entering, into, stretch_into, whole_into, searching, seeking}
 use Rattle.search.proofs.Entries.{Entered, fresh-state, entering-refused, entering-sound, entering-pattern, entering-over}
 use Rattle.search.proofs.Passes.{Stepped, segment-met}
@@ -137,6 +141,11 @@ module _ {stop : Bool} {P : List ℕ} {st : ℕ} {s : List ℕ} {n from : ℕ} {
                   (omega (arith, few, most)),
               one,
             )
+
+-- a result without the state after the text
+pub sums-one : (m : Result (Marked State) Refusal) → after (outcome m) (λ x. ok (sums_marked x)) ≡ after (told_marked m) (λ x. ok (sums x))
+sums-one (Ok m) = refl
+sums-one (Err r) = refl
 
 -- what a search tells of a text
 module _ (P : List ℕ) (st : ℕ) where

@@ -1,8 +1,7 @@
 -- Answers that are told alike are the same answer.
 use mathlib.Core.Path.{◌≡◌, sym, ap, ap₂}
-use Rattle.text.specs.Refusal.{Outcome, refused}
-use Rattle.text.specs.declared.refusal.Refusal.{Refusal}
-use Rattle.text.proofs.Outcomes.{refused-ok, refused-inj, ok-inj}
+use Rattle.text.proofs.Told.{same-refusal}
+use Rattle.text.proofs.Outcomes.{refused-ok, ok-inj}
 use Rattle.search.specs.Answers.{Next, told_fed, Seen, told_sought}
 use Rattle.search.specs.Answers.{Sums, told_searched}
 use Rattle.search.specs.Either.{SeenBoth, told_both}
@@ -10,9 +9,6 @@ use Rattle.search.specs.declared.state.Fed.{Fed}
 use Rattle.search.specs.declared.state.Sought.{Sought}
 use Rattle.search.specs.declared.both.SoughtBoth.{SoughtBoth}
 use Rattle.search.specs.declared.searching.Searched.{Searched}
-
-same-refusal : {A : Type 0} (r s : Refusal) → ◌≡◌ {A = Outcome A} (refused r.number r.place) (refused s.number s.place) → r ≡ s
-same-refusal r s e = let i = refused-inj e in λ k. record { number = i.0 k; place = i.1 k }
 
 pub fed-once : (a b : Fed) → told_fed a ≡ told_fed b → a ≡ b
 fed-once (Fed.Next s t) (Fed.Next s' t') e =

@@ -1,18 +1,20 @@
 -- What a search and a feed answer, in document 01's numbers and values.
-use Rattle.std.specs.Prelude.{ℕ, ◌≤◌, ◌≡◌, Bool, false, cond, List, leb, length, take}
+use Rattle.std.specs.Prelude.{ℕ, ◌≤◌, ◌≡◌, Bool, false, not, cond, List, eqb, leb, length, take, Result, Ok, Err}
 use Rattle.text.specs.Text.{Text, total, size}
 use Rattle.text.specs.State.{is_state, fresh, next, ends, run, marks_from, marks}
 use Rattle.text.specs.Refusal.{Outcome, ok, refused, demand, after, pattern, Answer, answer}
 use Rattle.text.specs.Strand.{on_strand}
 use Rattle.text.specs.declared.strand.Strand.{Strand}
-use Rattle.layout.specs.Bytes.{word, over, left_by}
+use Rattle.layout.specs.Bytes.{word, over}
 use Rattle.layout.specs.Pieces.{fits, most_in_stretch}
 use Rattle.layout.specs.Reading.{lone_segment, whole_stretch, stretch_of}
 use Rattle.layout.specs.Walk.{begun, most_ahead}
 use Rattle.search.specs.declared.state.Fed.{Fed}
 use Rattle.search.specs.declared.state.Sought.{Sought}
 use Rattle.search.specs.declared.searching.Searched.{Searched}
-use Rattle.search.specs.declared.searching.Searched.TheVariants.{Marked}
+use Rattle.search.specs.declared.marking.Marked.{Marked}
+use Rattle.search.specs.declared.state.State.{State}
+use Rattle.text.specs.declared.refusal.Refusal.{Refusal}
 
 -- what is asked before o of a pattern, of the bytes that are searched, and of a state: 1, 2, 3, 4, 17
 unfoldable pub entering : {A : Type 0} → List ℕ → ℕ → List ℕ → Outcome A → Outcome A
@@ -54,6 +56,11 @@ told_sought (Sought.Marked segments size ends state) =
     ok (record { segments = segments; size = size; ends = ends; state = state.bits })
 told_sought (Sought.Refused r) = refused r.number r.place
 
+-- the same of a result
+abbrev pub told_marked : Result (Marked State) Refusal → Outcome Seen
+told_marked (Ok m) = ok (record { segments = m.segments; size = m.size; ends = m.ends; state = m.state.bits })
+told_marked (Err r) = refused r.number r.place
+
 -- what a search tells of a text, from the fresh state
 pub record Sums : Type 0 where
   pub segments : ℕ
@@ -63,11 +70,15 @@ pub record Sums : Type 0 where
 abbrev pub sums : Seen → Sums
 sums x = record { segments = x.segments; size = x.size; ends = x.ends }
 
+-- of one strand or of both
+abbrev pub sums_marked : {S : Type 0} → Marked S → Sums
+sums_marked m = record { segments = m.segments; size = m.size; ends = m.ends }
+
 unfoldable pub sums_of : List ℕ → Text → Sums
 sums_of P t = sums (seen_from P fresh t)
 
 abbrev pub told_searched : Searched → Outcome Sums
-told_searched (Marked segments size ends) = ok (record { segments = segments; size = size; ends = ends })
+told_searched (Searched.Marked segments size ends) = ok (record { segments = segments; size = size; ends = ends })
 told_searched (Searched.Refused r) = refused r.number r.place
 
 -- the same in numbers
@@ -85,19 +96,6 @@ MarksOf f o buffer = (t : Text) → o ≡ ok t → take (length t) buffer ≡ f 
 abbrev pub handed : ℕ → List ℕ → List ℕ → List ℕ
 handed n found out = cond (leb n (length out)) (over out 0 (take n found)) out
 
--- what is told of segments that were marked, once their marks are handed over into a buffer of that many bytes: 10
-abbrev pub handing : {A : Type 0} → (A → ℕ) → ℕ → Outcome A → Outcome A
-handing count room o = after o λ x. demand (leb (count x) room) 10 0 (ok x)
-
--- what is told of them and left in the caller's buffer, where o was told and the marks were found
-abbrev pub Handed : {A : Type 0} → (A → ℕ) → List ℕ → List ℕ → Outcome A → Outcome A → List ℕ → Type 0
-Handed count found out o told left =
-    (told ≡ handing count (length out) o) × (left ≡ left_by (λ x. take (count x) found) (handing count (length out) o) out)
-
--- a buffer that has a mark for each segment that is told of
-abbrev pub Enough : {A : Type 0} → (A → ℕ) → Outcome A → List ℕ → Type 0
-Enough {A} count o found = (x : A) → o ≡ ok x → count x ≤ length found
-
 -- a stretch that has no more segments than the greatest buffer has marks, by the count that it states or by its bytes
 abbrev pub Markable : List ℕ → Type 0
 Markable s = most_ahead s (begun (word s 0) 2) ≤ most_in_stretch
@@ -114,6 +112,10 @@ pub record Next : Type 0 where
 -- a step of P over a lone segment
 abbrev pub stepped : List ℕ → ℕ → List ℕ → Outcome Next
 stepped P st s = after (lone_segment s) λ g. ok (record { state = next P st g; ends = ends P st g })
+
+-- what a run over a lone segment says of it
+abbrev pub next_of : Seen → Next
+next_of x = record { state = x.state; ends = not (eqb x.ends 0) }
 
 -- a feed of the pattern as a strand reads it: 1, 2, 3 of the pattern as given, 4, 17, then 5 to 9
 unfoldable pub feeding : List ℕ → Strand → ℕ → List ℕ → Outcome Next

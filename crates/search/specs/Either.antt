@@ -1,16 +1,17 @@
 -- The search on both strands at once: two words in one letter loop, and the union of what the strands mark.
-use Rattle.std.specs.Prelude.{ℕ, max, List, [], ◌∷◌, length, drop}
+use Rattle.std.specs.Prelude.{ℕ, max, List, [], ◌∷◌, length, drop, Result, Ok, Err}
 use Rattle.text.specs.Text.{Text, total, size}
 use Rattle.text.specs.State.{is_state, run, marks_from, marks}
 use Rattle.text.specs.Refusal.{Outcome, ok, refused, demand}
 use Rattle.text.specs.Strand.{opposite}
 use Rattle.search.specs.Answers.{Sums, entering, stretch_into}
 use Rattle.search.specs.Method.{Founded, Tools}
-use Rattle.search.specs.declared.method.Method.TheVariants.{Bits}
 use Rattle.search.specs.declared.segment.Passed.{Passed}
 use Rattle.search.specs.declared.both.SoughtBoth.{SoughtBoth}
-use Rattle.search.specs.declared.both.SoughtBoth.TheVariants.{Marked}
 use Rattle.search.specs.declared.both.segment.PassedBoth.{PassedBoth}
+use Rattle.search.specs.declared.both.words.Pair.{Pair}
+use Rattle.search.specs.declared.marking.Marked.{Marked}
+use Rattle.text.specs.declared.refusal.Refusal.{Refusal}
 
 -- two rows of marks united: 1 where either row has it
 unfoldable pub united : List ℕ → List ℕ → List ℕ
@@ -57,9 +58,15 @@ seen_both P st re t =
     }
 
 abbrev pub told_both : SoughtBoth → Outcome SeenBoth
-told_both (Marked segments size ends state) =
+told_both (SoughtBoth.Marked segments size ends state) =
     ok (record { segments = segments; size = size; ends = ends; given = state.given; opposite = state.opposite })
 told_both (SoughtBoth.Refused r) = refused r.number r.place
+
+-- the same of a result
+abbrev pub told_marked_both : Result (Marked Pair) Refusal → Outcome SeenBoth
+told_marked_both (Ok m) =
+    ok (record { segments = m.segments; size = m.size; ends = m.ends; given = m.state.given; opposite = m.state.opposite })
+told_marked_both (Err r) = refused r.number r.place
 
 -- without the states
 abbrev pub sums_both : SeenBoth → Sums
@@ -77,17 +84,17 @@ odds l = evens (drop 1 l)
 
 -- a pattern of 1 to 64 bases with its letter vectors
 abbrev pub Founds : List ℕ → List ℕ → Type 0
-Founds P masks = Founded Bits P masks
+Founds P masks = Founded P masks
 
 -- and with the table of letters
 abbrev pub Vectors : List ℕ → List ℕ → List ℕ → Type 0
-Vectors P masks classes = Tools Bits P masks classes
+Vectors P masks classes = Tools P masks classes
 
 -- what a step over a segment on both strands says of the strand as given, and of the opposite one
-abbrev pub passed_given : PassedBoth → Passed
-passed_given (PassedBoth.To next size state given opposite) = Passed.To next size (record { bits = state.given }) given
-passed_given (PassedBoth.Refused r) = Passed.Refused r
+abbrev pub passed_given : Result PassedBoth Refusal → Result Passed Refusal
+passed_given (Ok p) = Ok (record { next = p.next; size = p.size; state = record { bits = p.state.given }; ends = p.given })
+passed_given (Err r) = Err r
 
-abbrev pub passed_opposite : PassedBoth → Passed
-passed_opposite (PassedBoth.To next size state given opposite) = Passed.To next size (record { bits = state.opposite }) opposite
-passed_opposite (PassedBoth.Refused r) = Passed.Refused r
+abbrev pub passed_opposite : Result PassedBoth Refusal → Result Passed Refusal
+passed_opposite (Ok p) = Ok (record { next = p.next; size = p.size; state = record { bits = p.state.opposite }; ends = p.opposite })
+passed_opposite (Err r) = Err r

@@ -1,5 +1,5 @@
 -- The first hit: the first segment in which an occurrence ends, of those that read whole before the first fault.
-use Rattle.std.specs.Prelude.{ℕ, zero, suc, ◌-◌, ◌≤◌, cond, List, [], ◌∷◌, ◌++◌, eqb, ltb}
+use Rattle.std.specs.Prelude.{ℕ, zero, suc, ◌-◌, ◌≤◌, cond, List, [], ◌∷◌, ◌++◌, eqb, ltb, Result, Ok, Err}
 use Rattle.text.specs.Text.{Text}
 use Rattle.text.specs.State.{run, marks_from}
 use Rattle.text.specs.Card.{none, first_end}
@@ -10,7 +10,9 @@ use Rattle.layout.specs.Pieces.{open_at}
 use Rattle.layout.specs.Reading.{Taken, segment_at, segments_of, stretch_of}
 use Rattle.search.specs.Answers.{entering}
 use Rattle.search.specs.declared.first.First.{First}
-use Rattle.search.specs.declared.state.Sought.{Sought}
+use Rattle.search.specs.declared.state.State.{State}
+use Rattle.search.specs.declared.marking.Marked.{Marked}
+use Rattle.text.specs.declared.refusal.Refusal.{Refusal}
 
 -- go on with what was read; where it was refused, b
 abbrev pub unless : {A B : Type 0} → Outcome A → B → (A → B) → B
@@ -68,11 +70,11 @@ stop_of (ends_in k) = record { segment = k; state = 0 }
 stop_of (clear st) = record { segment = none; state = st }
 
 -- what a run that stops tells of the first hit: where there was an end, it is in the last segment that was read
-abbrev pub told_hit : Sought → Outcome Hit
-told_hit (Sought.Marked segments size ends state) = cond (eqb ends 0) (ok (clear state.bits)) (ok (ends_in (segments - 1)))
-told_hit (Sought.Refused r) = refused r.number r.place
+abbrev pub told_hit : Result (Marked State) Refusal → Outcome Hit
+told_hit (Ok m) = cond (eqb m.ends 0) (ok (clear m.state.bits)) (ok (ends_in (m.segments - 1)))
+told_hit (Err r) = refused r.number r.place
 
 -- its ends are at most its segments
-abbrev pub Few : Sought → Type 0
-Few (Sought.Marked segments size ends state) = ends ≤ segments
-Few (Sought.Refused r) = Unit {0}
+abbrev pub Few : Result (Marked State) Refusal → Type 0
+Few (Ok m) = m.ends ≤ m.segments
+Few (Err r) = Unit {0}

@@ -26,14 +26,12 @@ pub fn scan(
     let mut out = !bits;
     let mut missed = before;
     let mut bad = 0u8;
-    let mut i = 0;
-    while i < variant.len() {
-        let c = variant[i] as usize;
-        bad = bad | classes[c];
+    for letter in variant {
+        let c = *letter as usize;
+        bad |= classes[c];
         let e = out | others[c];
-        missed = missed & e;
+        missed &= e;
         out = e << 1;
-        i += 1;
     }
     Scanned {
         out,

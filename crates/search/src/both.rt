@@ -1,26 +1,29 @@
 // The search on both strands at once, by bit-vectors: the family's sequence may be on file as read from either strand, and the text has
 // only one. It is one walk over the bytes with a word for each strand, and marks what the searches of the two strands mark together.
-ghost use Rattle.std.specs.Prelude.{◌≡◌, length};
-ghost use Rattle.text.specs.Refusal.{ok, after, told_verdict};
+ghost use Rattle.std.specs.Prelude.{◌≡◌, ◌≤◌, length};
+ghost use Rattle.text.specs.Refusal.{ok, after, outcome};
 ghost use Rattle.text.specs.Strand.{opposite};
 ghost use Rattle.layout.specs.Bytes.{left_by};
-ghost use Rattle.search.specs.Answers.{searching, whole_into, told_searched};
-ghost use Rattle.search.specs.Answers.{Markable, Enough, Handed};
+ghost use Rattle.layout.specs.Pieces.{most_in_stretch};
+ghost use Rattle.layout.specs.Reading.{segments_of};
+ghost use Rattle.layout.specs.Walk.{Begun, most_ahead};
+ghost use Rattle.search.specs.Answers.{searching, into, whole_into, told_searched, Markable};
 ghost use Rattle.search.specs.Masks.{StateOf};
-ghost use Rattle.search.specs.Either.{evens, odds, Founds, either_marks, either_sums, either_from, entering_both, seeking_both};
-ghost use Rattle.search.specs.Either.{seen_both, told_both, sums_both};
+ghost use Rattle.search.specs.Either.{evens, odds, Founds, Vectors, either_marks, either_sums, either_from, entering_both, seeking_both};
+ghost use Rattle.search.specs.Either.{seen_both, told_both, told_marked_both};
 
 use crate::both::run::run_both;
 use crate::both::words::masks_both;
 use crate::entry::enter;
-use crate::marking::{MOST_IN_SMALL, SMALL_STRETCH, handed};
+use crate::marking::{MOST_IN_SMALL, Marked, SMALL_STRETCH, hand};
 use crate::searching::Searched;
 use crate::state::State;
-use layout::walk::{Opened, Walk};
+use layout::walk::Walk;
+use text::limits::MOST_IN_STRETCH;
 use text::spelling::classes;
 use text::state::is_state;
 use text::strand::{Strand, read_on};
-use text::{Refusal, Verdict, limits, refusal};
+use text::{Refusal, refusal};
 
 mod run;
 mod segment;
@@ -30,6 +33,7 @@ pub use words::Pair;
 
 // What a search from a state of each strand answers: the segment count, the size, the number of ones among the marks, and the states
 // after the stretch.
+// Stays an enum of its own: its name and shape are fixed.
 #[derive(Clone, Copy)]
 pub enum SoughtBoth {
     Marked {
@@ -41,34 +45,53 @@ pub enum SoughtBoth {
     Refused(Refusal),
 }
 
-// Hands over the marks that a search found once all is accepted: refusal 10.
-fn hand_both(sought: SoughtBoth, found: &[u8], marks: &mut [u8]) -> SoughtBoth
-    requires { Enough (λ x. x.segments) (told_both sought) found.now }
-    ensures { Handed (λ x. x.segments) found.now marks.old (told_both sought)
-        (told_both result) marks.new }
-{
-    match sought {
-        SoughtBoth::Refused(refused) => SoughtBoth::Refused(refused),
-        SoughtBoth::Marked {
-            segments,
-            size,
-            ends,
-            state,
-        } => {
-            if !handed(segments, found, &mut *marks) {
-                return SoughtBoth::Refused(Refusal {
-                    number: refusal::BUFFER_SHORT,
-                    place: 0,
-                });
-            }
-            SoughtBoth::Marked {
+impl From<Result<Marked<Pair>, Refusal>> for SoughtBoth {
+    fn from(marked: Result<Marked<Pair>, Refusal>) -> SoughtBoth
+        ensures { told_both result ≡ told_marked_both marked }
+    {
+        match marked {
+            Ok(
+                Marked {
+                    segments,
+                    size,
+                    ends,
+                    state,
+                },
+            ) => SoughtBoth::Marked {
                 segments,
                 size,
                 ends,
                 state,
-            }
+            },
+            Err(refused) => SoughtBoth::Refused(refused),
         }
     }
+}
+
+// Marks the segments of a walk that begins, on both strands, with room for that many marks on the way.
+fn mark_both_in<const ROOM: usize>(
+    pattern: &[u8],
+    table: &[u64; 512],
+    classes: &[u8; 256],
+    state: Pair,
+    stretch: &[u8],
+    walk: Walk,
+    marks: &mut [u8],
+) -> Result<Marked<Pair>, Refusal>
+    requires vectors { Vectors pattern.now (evens table.now) classes.now
+        × Vectors (opposite pattern.now) (odds table.now) classes.now }
+    requires state_of { StateOf pattern.now state.given × StateOf (opposite pattern.now) state.opposite }
+    requires begun { Begun stretch.now walk × (most_ahead stretch.now walk ≤ ROOM) }
+    requires most { ROOM ≤ most_in_stretch }
+    ensures result_value { told_marked_both result ≡ after (into (length marks.old) (segments_of stretch.now walk.count walk.at))
+        (λ t. ok (seen_both pattern.now state.given state.opposite t)) }
+    ensures marks_after { marks.new ≡ left_by (either_from pattern.now state.given state.opposite)
+        (into (length marks.old) (segments_of stretch.now walk.count walk.at)) marks.old }
+{
+    let mut found = [0u8; ROOM];
+    let marked = run_both(pattern, table, classes, state, stretch, walk, &mut found)?;
+    hand(marked.segments, &found, &mut *marks)?;
+    Ok(marked)
 }
 
 // Marks the segments of a stretch on both strands: the refusals of the stretch, its length apart, then 10. A small stretch takes a small
@@ -79,47 +102,44 @@ fn mark_both(
     state: Pair,
     stretch: &[u8],
     marks: &mut [u8],
-) -> SoughtBoth
+) -> Result<Marked<Pair>, Refusal>
     requires founds { Founds pattern.now (evens table.now) × Founds (opposite pattern.now) (odds table.now) }
     requires state_of { StateOf pattern.now state.given × StateOf (opposite pattern.now) state.opposite × Markable stretch.now }
-    ensures result_value { told_both result ≡ after (whole_into stretch.now (length marks.old))
+    ensures result_value { told_marked_both result ≡ after (whole_into stretch.now (length marks.old))
         (λ t. ok (seen_both pattern.now state.given state.opposite t)) }
     ensures marks_after { marks.new ≡ left_by (either_from pattern.now state.given state.opposite)
         (whole_into stretch.now (length marks.old)) marks.old }
 {
-    let walk = match Walk::open(stretch) {
-        Opened::Refused(wrong) => {
-            return SoughtBoth::Refused(wrong);
-        }
-        Opened::At(walk) => walk,
-    };
+    let walk = Walk::open(stretch)?;
     let letters = classes();
     if stretch.len() <= SMALL_STRETCH {
-        let mut found = [0u8; MOST_IN_SMALL];
-        let sought = run_both(pattern, table, &letters, state, stretch, walk, &mut found);
-        return hand_both(sought, &found, &mut *marks);
+        return mark_both_in::<MOST_IN_SMALL>(
+            pattern,
+            table,
+            &letters,
+            state,
+            stretch,
+            walk,
+            &mut *marks,
+        );
     }
-    let mut found = [0u8; limits::MOST_IN_STRETCH];
-    let sought = run_both(pattern, table, &letters, state, stretch, walk, &mut found);
-    hand_both(sought, &found, &mut *marks)
+    mark_both_in::<MOST_IN_STRETCH>(pattern, table, &letters, state, stretch, walk, &mut *marks)
 }
 
 // Refusals 1, 2, 3 of the pattern, 4 of the bytes, and 17 of the states.
-fn enter_both(pattern: &[u8], state: Pair, bytes: &[u8]) -> Verdict
-    ensures { told_verdict result
+fn enter_both(pattern: &[u8], state: Pair, bytes: &[u8]) -> Result<(), Refusal>
+    ensures { outcome result
         ≡ entering_both pattern.now state.given state.opposite bytes.now (ok tt) }
 {
     let given = State { bits: state.given };
-    if let Verdict::Refused(refused) = enter(pattern, given, bytes) {
-        return Verdict::Refused(refused);
-    }
+    enter(pattern, given, bytes)?;
     if !is_state(pattern.len(), state.opposite) {
-        return Verdict::Refused(Refusal {
+        return Err(Refusal {
             number: refusal::STATE_WRONG,
             place: 0,
         });
     }
-    Verdict::Sound
+    Ok(())
 }
 
 impl Pair {
@@ -133,34 +153,27 @@ impl Pair {
             (seeking_both pattern.now self.given self.opposite stretch.now (length marks.old))
             marks.old }
     {
-        match enter_both(pattern, self, stretch) {
-            Verdict::Refused(refused) => SoughtBoth::Refused(refused),
-            Verdict::Sound => {
-                let m = pattern.len();
-                let bytes = read_on(Strand::Opposite, pattern);
-                let table = masks_both(pattern, &bytes[..m]);
-                mark_both(pattern, &table, self, stretch, &mut *marks)
-            }
-        }
+        SoughtBoth::from(self.marked(pattern, stretch, &mut *marks))
     }
-}
 
-// What a search from the fresh states tells, without the states after the stretch.
-fn summed_both(sought: SoughtBoth) -> Searched
-    ensures { told_searched result ≡ after (told_both sought) (λ x. ok (sums_both x)) }
-{
-    match sought {
-        SoughtBoth::Refused(refused) => Searched::Refused(refused),
-        SoughtBoth::Marked {
-            segments,
-            size,
-            ends,
-            state: _,
-        } => Searched::Marked {
-            segments,
-            size,
-            ends,
-        },
+    // The same as a result.
+    fn marked(
+        self,
+        pattern: &[u8],
+        stretch: &[u8],
+        marks: &mut [u8],
+    ) -> Result<Marked<Pair>, Refusal>
+        ensures result_value { told_marked_both result ≡ after (seeking_both pattern.now self.given self.opposite stretch.now
+            (length marks.old)) (λ t. ok (seen_both pattern.now self.given self.opposite t)) }
+        ensures marks_after { marks.new ≡ left_by (either_from pattern.now self.given self.opposite)
+            (seeking_both pattern.now self.given self.opposite stretch.now (length marks.old))
+            marks.old }
+    {
+        enter_both(pattern, self, stretch)?;
+        let m = pattern.len();
+        let bytes = read_on(Strand::Opposite, pattern);
+        let table = masks_both(pattern, &bytes[..m]);
+        mark_both(pattern, &table, self, stretch, &mut *marks)
     }
 }
 
@@ -173,7 +186,5 @@ pub fn either(pattern: &[u8], stretch: &[u8], marks: &mut [u8]) -> Searched
     ensures marks_after { marks.new ≡ left_by (either_marks pattern.now)
         (searching pattern.now stretch.now (length marks.old)) marks.old }
 {
-    let fresh = Pair::FRESH;
-    let sought = fresh.through(pattern, stretch, &mut *marks);
-    summed_both(sought)
+    Searched::from(Pair::FRESH.marked(pattern, stretch, &mut *marks))
 }

@@ -1,19 +1,21 @@
 // The two searches of a pattern in one stretch, from the fresh state: by bit-vectors and by border tables.
 ghost use Rattle.std.specs.Prelude.{◌≡◌, length};
-ghost use Rattle.text.specs.Refusal.{ok, after};
+ghost use Rattle.text.specs.Refusal.{ok, after, outcome};
+ghost use Rattle.text.specs.State.{fresh, marks_from};
 ghost use Rattle.text.specs.Strand.{on_strand};
 ghost use Rattle.layout.specs.Bytes.{left_by};
-ghost use Rattle.search.specs.Answers.{searching, sums_of, told_searched, told_sought, sums, marked};
+ghost use Rattle.search.specs.Answers.{searching, sums_marked, sums_of, told_searched, told_marked, sums, marked, seeking, seen_from};
 
 use crate::borders::border_table;
 use crate::entry::enter;
-use crate::marking::mark;
-use crate::method::Method;
-use crate::state::{Sought, State};
+use crate::marking::{Marked, mark};
+use crate::method::ByBorders;
+use crate::state::State;
+use text::Refusal;
 use text::strand::{Strand, read_on};
-use text::{Refusal, Verdict};
 
 // The segment count, the size and the number of ones among the marks.
+// Stays an enum of its own: its name and shape are fixed.
 #[derive(Clone, Copy)]
 pub enum Searched {
     Marked {
@@ -24,22 +26,19 @@ pub enum Searched {
     Refused(Refusal),
 }
 
-// What a search from the fresh state tells, without the state after the stretch.
-fn summed(sought: Sought) -> Searched
-    ensures { told_searched result ≡ after (told_sought sought) (λ x. ok (sums x)) }
-{
-    match sought {
-        Sought::Refused(refused) => Searched::Refused(refused),
-        Sought::Marked {
-            segments,
-            size,
-            ends,
-            state: _,
-        } => Searched::Marked {
-            segments,
-            size,
-            ends,
-        },
+// What a search from the fresh state tells, without the state after the stretch: of one strand or of both.
+impl<S: Copy> From<Result<Marked<S>, Refusal>> for Searched {
+    fn from(marked: Result<Marked<S>, Refusal>) -> Searched
+        ensures { told_searched result ≡ after (outcome marked) (λ x. ok (sums_marked x)) }
+    {
+        match marked {
+            Ok(marked) => Searched::Marked {
+                segments: marked.segments,
+                size: marked.size,
+                ends: marked.ends,
+            },
+            Err(refused) => Searched::Refused(refused),
+        }
     }
 }
 
@@ -51,9 +50,7 @@ pub fn by_bits(pattern: &[u8], strand: Strand, stretch: &[u8], marks: &mut [u8])
     ensures marks_after { marks.new ≡ left_by (marked (on_strand strand pattern.now))
         (searching pattern.now stretch.now (length marks.old)) marks.old }
 {
-    let fresh = State::FRESH;
-    let sought = fresh.through(pattern, strand, stretch, &mut *marks);
-    summed(sought)
+    Searched::from(State::FRESH.marked(pattern, strand, stretch, &mut *marks))
 }
 
 // The search by border tables: the same promise.
@@ -63,16 +60,29 @@ pub fn by_borders(pattern: &[u8], strand: Strand, stretch: &[u8], marks: &mut [u
     ensures marks_after { marks.new ≡ left_by (marked (on_strand strand pattern.now))
         (searching pattern.now stretch.now (length marks.old)) marks.old }
 {
-    let fresh = State::FRESH;
-    match enter(pattern, fresh, stretch) {
-        Verdict::Refused(refused) => Searched::Refused(refused),
-        Verdict::Sound => {
-            let m = pattern.len();
-            let bytes = read_on(strand, pattern);
-            let read = &bytes[..m];
-            let table = border_table(read);
-            let sought = mark(Method::Borders, read, &table, fresh, stretch, &mut *marks);
-            summed(sought)
-        }
-    }
+    Searched::from(marked_by_borders(pattern, strand, stretch, &mut *marks))
+}
+
+// The same as a result, with the state after the stretch.
+fn marked_by_borders(
+    pattern: &[u8],
+    strand: Strand,
+    stretch: &[u8],
+    marks: &mut [u8],
+) -> Result<Marked<State>, Refusal>
+    ensures result_value { told_marked result ≡ after (seeking pattern.now fresh stretch.now (length marks.old))
+        (λ t. ok (seen_from (on_strand strand pattern.now) fresh t)) }
+    ensures marks_after { marks.new ≡ left_by (marks_from (on_strand strand pattern.now) fresh)
+        (seeking pattern.now fresh stretch.now (length marks.old)) marks.old }
+{
+    enter(pattern, State::FRESH, stretch)?;
+    let m = pattern.len();
+    let bytes = read_on(strand, pattern);
+    let read = &bytes[..m];
+    let table = border_table(read);
+    let by = ByBorders {
+        pattern: read,
+        borders: &table,
+    };
+    mark(by, State::FRESH, stretch, &mut *marks)
 }

@@ -5,19 +5,19 @@ ghost use Rattle.text.specs.Refusal.{ok, after};
 ghost use Rattle.text.specs.State.{marks_from};
 ghost use Rattle.text.specs.Strand.{on_strand};
 ghost use Rattle.layout.specs.Bytes.{left_by};
-ghost use Rattle.search.specs.Answers.{feeding, told_fed};
-ghost use Rattle.search.specs.Answers.{seeking, seen_from, told_sought};
+ghost use Rattle.search.specs.Answers.{feeding, next_of, told_fed};
+ghost use Rattle.search.specs.Answers.{seeking, seen_from, told_marked, told_sought};
 ghost use Rattle.search.specs.Carried.{carried_by};
 
 use crate::entry::enter;
-use crate::marking::mark;
-use crate::method::Method;
+use crate::marking::{Marked, mark};
+use crate::method::ByBits;
 use crate::run::run;
 use crate::vectors::complements;
 use layout::walk::Walk;
+use text::Refusal;
 use text::spelling::classes;
 use text::strand::{Strand, read_on};
-use text::{Refusal, Verdict};
 
 // Bit r is set when length r is carried, 1 to 63. Bit 0 is no length: an occurrence may start afresh.
 #[derive(Clone, Copy)]
@@ -26,6 +26,7 @@ pub struct State {
 }
 
 // The state after one segment, and whether an occurrence ends in it.
+// Stays an enum of its own: its name and shape are fixed.
 #[derive(Clone, Copy)]
 pub enum Fed {
     Next { state: State, ends: bool },
@@ -34,6 +35,7 @@ pub enum Fed {
 
 // What a search from a state answers: the segment count, the size, the number of ones among the marks, and the state after the
 // stretch.
+// Stays an enum of its own: its name and shape are fixed.
 #[derive(Clone, Copy)]
 pub enum Sought {
     Marked {
@@ -43,6 +45,29 @@ pub enum Sought {
         state: State,
     },
     Refused(Refusal),
+}
+
+impl From<Result<Marked<State>, Refusal>> for Sought {
+    fn from(marked: Result<Marked<State>, Refusal>) -> Sought
+        ensures { told_sought result ≡ told_marked marked }
+    {
+        match marked {
+            Ok(
+                Marked {
+                    segments,
+                    size,
+                    ends,
+                    state,
+                },
+            ) => Sought::Marked {
+                segments,
+                size,
+                ends,
+                state,
+            },
+            Err(refused) => Sought::Refused(refused),
+        }
+    }
 }
 
 // How many lengths a state carries, and the shortest of them, 0 if there is none.
@@ -60,38 +85,33 @@ impl State {
     pub fn feed(self, pattern: &[u8], strand: Strand, segment: &[u8]) -> Fed
         ensures { told_fed result ≡ feeding pattern.now strand self.bits segment.now }
     {
-        if let Verdict::Refused(refused) = enter(pattern, self, segment) {
-            return Fed::Refused(refused);
+        match self.fed(pattern, strand, segment) {
+            Err(refused) => Fed::Refused(refused),
+            Ok(marked) => Fed::Next {
+                state: marked.state,
+                ends: marked.ends != 0,
+            },
         }
+    }
+
+    // What the run over a lone segment tells of it.
+    fn fed(self, pattern: &[u8], strand: Strand, segment: &[u8]) -> Result<Marked<State>, Refusal>
+        ensures { after (told_marked result) (λ x. ok (next_of x)) ≡ feeding pattern.now strand self.bits segment.now }
+    {
+        enter(pattern, self, segment)?;
         let m = pattern.len();
         let bytes = read_on(strand, pattern);
         let read = &bytes[..m];
         let table = complements(read);
         let letters = classes();
+        let by = ByBits {
+            pattern: read,
+            vectors: &table,
+            classes: &letters,
+        };
         let walk = Walk::lone();
         let mut mark = [0u8; 1];
-        match run(
-            false,
-            Method::Bits,
-            read,
-            &table,
-            &letters,
-            self,
-            segment,
-            walk,
-            &mut mark,
-        ) {
-            Sought::Refused(refused) => Fed::Refused(refused),
-            Sought::Marked {
-                segments: _,
-                size: _,
-                ends,
-                state,
-            } => {
-                let hit = ends != 0;
-                Fed::Next { state, ends: hit }
-            }
-        }
+        run(false, by, self, segment, walk, &mut mark)
     }
 
     // The search of a whole stretch from this state, by bit-vectors, of the pattern as the strand reads it: refusals 1, 2, 3, 4, 17,
@@ -104,16 +124,35 @@ impl State {
         ensures marks_after { marks.new ≡ left_by (marks_from (on_strand strand pattern.now) self.bits)
             (seeking pattern.now self.bits stretch.now (length marks.old)) marks.old }
     {
-        match enter(pattern, self, stretch) {
-            Verdict::Refused(refused) => Sought::Refused(refused),
-            Verdict::Sound => {
-                let m = pattern.len();
-                let bytes = read_on(strand, pattern);
-                let read = &bytes[..m];
-                let table = complements(read);
-                mark(Method::Bits, read, &table, self, stretch, &mut *marks)
-            }
-        }
+        Sought::from(self.marked(pattern, strand, stretch, &mut *marks))
+    }
+
+    // The same as a result.
+    pub(crate) fn marked(
+        self,
+        pattern: &[u8],
+        strand: Strand,
+        stretch: &[u8],
+        marks: &mut [u8],
+    ) -> Result<Marked<State>, Refusal>
+        ensures result_value { told_marked result
+            ≡ after (seeking pattern.now self.bits stretch.now (length marks.old))
+            (λ t. ok (seen_from (on_strand strand pattern.now) self.bits t)) }
+        ensures marks_after { marks.new ≡ left_by (marks_from (on_strand strand pattern.now) self.bits)
+            (seeking pattern.now self.bits stretch.now (length marks.old)) marks.old }
+    {
+        enter(pattern, self, stretch)?;
+        let m = pattern.len();
+        let bytes = read_on(strand, pattern);
+        let read = &bytes[..m];
+        let table = complements(read);
+        let letters = classes();
+        let by = ByBits {
+            pattern: read,
+            vectors: &table,
+            classes: &letters,
+        };
+        mark(by, self, stretch, &mut *marks)
     }
 
     // What any 64-bit number carries, whether or not it is the state of a pattern.

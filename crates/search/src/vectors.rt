@@ -9,18 +9,11 @@ use text::limits;
 pub fn filled(pattern: &[u8], blank: u64) -> [u64; 256]
     ensures { Filled blank (bases pattern.now) result }
 {
-    let all = pattern.len();
-    let m = if limits::GREATEST_PATTERN < all {
-        limits::GREATEST_PATTERN
-    } else {
-        all
-    };
+    let m = pattern.len().min(limits::GREATEST_PATTERN);
     let mut table = [blank; 256];
-    let mut k = 0;
-    while k < m {
+    for k in 0..m {
         let c = pattern[k] as usize;
-        table[c] = table[c] ^ (1 << k);
-        k += 1;
+        table[c] ^= 1 << k;
     }
     table[0x6E] = table[0x4E];
     table[0x74] = table[0x54];

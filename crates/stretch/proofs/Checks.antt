@@ -8,10 +8,11 @@ use Rattle.text.specs.Refusal.{ok, refused}
 use Rattle.text.proofs.Outcomes.{told-met, told-refused}
 use Rattle.layout.specs.Reading.{Taken, segment_at, stretch_of}
 use Rattle.stretch.specs.Answers.{walked_segment, checking}
+use Rattle.stretch.specs.declared.segment.Walked.{Walked}
 
 -- what is told of a segment, and what was read where it is told
-abbrev summed : Taken Segment ℕ → Taken ℕ ℕ
-summed x = record { value = total weight x.value; next = x.next }
+abbrev summed : Taken Segment ℕ → Walked
+summed x = record { next = x.next; size = total weight x.value }
 
 module _ (s : List ℕ) (at : ℕ) where
   pub walked-refused : (j p : ℕ) → segment_at s at ≡ refused j p → walked_segment s at ≡ refused j p
@@ -20,20 +21,20 @@ module _ (s : List ℕ) (at : ℕ) where
 
   pub walked-done :
       (next size : ℕ) (g : Segment) → segment_at s at ≡ ok (record { value = g; next = next }) → size ≡ total weight g →
-      walked_segment s at ≡ ok (record { value = size; next = next })
+      walked_segment s at ≡ ok (record { next = next; size = size })
   unfolding walked_segment
   walked-done next size g e sum = rw (e, sum)
 
   pub walked-met :
-      (next size : ℕ) → walked_segment s at ≡ ok (record { value = size; next = next }) →
+      (next size : ℕ) → walked_segment s at ≡ ok (record { next = next; size = size }) →
       (g : Segment) × (segment_at s at ≡ ok (record { value = g; next = next })) × (total weight g ≡ size)
   unfolding walked_segment
   walked-met next size e =
-      let (x, read, is) = told-met (segment_at s at) summed (record { value = size; next = next }) e in
-      let ends : x.next ≡ next = ap (λ (y : Taken ℕ ℕ). y.next) is in (
+      let (x, read, is) = told-met (segment_at s at) summed (record { next = next; size = size }) e in
+      let ends : x.next ≡ next = ap (λ (y : Walked). y.next) is in (
         x.value,
         read ∙ ap (λ (n : ℕ). ok (record { value = x.value; next = n })) ends,
-        ap (λ (y : Taken ℕ ℕ). y.value) is,
+        ap (λ (y : Walked). y.size) is,
       )
 
   pub walked-not : (j p : ℕ) → walked_segment s at ≡ refused j p → segment_at s at ≡ refused j p

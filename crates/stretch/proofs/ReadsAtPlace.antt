@@ -16,7 +16,8 @@ use Rattle.layout.specs.Pieces.{next_of}
 use Rattle.layout.specs.Reading.{stretch_of}
 use Rattle.layout.specs.Skips.{behind_variants, behind_segment, segment_place}
 use Rattle.stretch.specs.Places.{start_of, variant, found, end, Reading, handed, read_from, read_in, reading, part_of}
-use Rattle.stretch.specs.Answers.{Sum, Accepted, checking, handed_at}
+use Rattle.stretch.specs.Answers.{Accepted, checking, handed_at}
+use Rattle.stretch.specs.declared.checking.Sum.{Sum}
 use Rattle.layout.proofs.Decoding.{StretchRead, stretch-read}
 use Rattle.layout.proofs.Skips.{stepped-last}
 use Rattle.stretch.proofs.TextPlaces.{segment-there, variant-inside, letters-inside, handed-there}

@@ -4,7 +4,8 @@ use mathlib.Core.Path.{◌≡◌, sym, ap, ap₂}
 use Rattle.text.specs.Refusal.{Outcome, ok, refused}
 use Rattle.text.proofs.Outcomes.{refused-ok, refused-inj, ok-inj}
 use Rattle.stretch.specs.Places.{Found, found, end, Reading}
-use Rattle.stretch.specs.Answers.{Sum, told_checked}
+use Rattle.stretch.specs.Answers.{told_checked}
+use Rattle.stretch.specs.declared.checking.Sum.{Sum}
 use Rattle.stretch.specs.Answers.{told_got}
 use Rattle.stretch.specs.declared.checking.Checked.{Checked}
 use Rattle.stretch.specs.declared.checking.Checked.TheVariants.{Sound}

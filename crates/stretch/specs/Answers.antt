@@ -2,14 +2,14 @@
 use Rattle.std.specs.Prelude.{ℕ, ◌+◌, ◌≡◌, Bool, true, false, List, length}
 use Rattle.text.specs.Text.{Text, total, weight, size}
 use Rattle.text.specs.Refusal.{Outcome, ok, refused, after, Answer, answer}
-use Rattle.layout.specs.Reading.{Taken, segment_at, stretch_of}
+use Rattle.layout.specs.Reading.{segment_at, stretch_of}
 use Rattle.layout.specs.Bytes.{word}
 use Rattle.layout.specs.Sizes.{first_variant, first_letter}
 use Rattle.stretch.specs.Places.{Found, found, end, Reading}
 use Rattle.layout.specs.Skips.{behind_variants}
 use Rattle.stretch.specs.declared.segment.Walked.{Walked}
-use Rattle.stretch.specs.declared.segment.Walked.TheVariants.{To}
 use Rattle.stretch.specs.declared.checking.Checked.{Checked}
+use Rattle.stretch.specs.declared.checking.Sum.{Sum}
 use Rattle.stretch.specs.declared.checking.Checked.TheVariants.{Sound}
 use Rattle.stretch.specs.declared.reading.Got.{Got}
 use Rattle.stretch.specs.declared.reading.Got.TheVariants.{End}
@@ -17,18 +17,10 @@ use Rattle.stretch.specs.declared.writing.Written.{Written}
 use Rattle.stretch.specs.declared.writing.Written.TheVariants.{Bytes}
 
 -- how far a walk over a segment has come, and the segment's size
-abbrev pub told_walked : Walked → Outcome (Taken ℕ ℕ)
-told_walked (To next size) = ok (record { value = size; next = next })
-told_walked (Walked.Refused r) = refused r.number r.place
-
-unfoldable pub walked_segment : List ℕ → ℕ → Outcome (Taken ℕ ℕ)
-walked_segment s at = after (segment_at s at) λ x. ok (record { value = total weight x.value; next = x.next })
+unfoldable pub walked_segment : List ℕ → ℕ → Outcome Walked
+walked_segment s at = after (segment_at s at) λ x. ok (record { next = x.next; size = total weight x.value })
 
 -- the segment count and the size of a sound stretch
-pub record Sum : Type 0 where
-  pub segments : ℕ
-  pub size : ℕ
-
 abbrev pub told_checked : Checked → Outcome Sum
 told_checked (Sound segments size) = ok (record { segments = segments; size = size })
 told_checked (Checked.Refused r) = refused r.number r.place

@@ -1,49 +1,56 @@
 // The check of a whole stretch, in one walk.
 ghost use Rattle.std.specs.Prelude.{◌≡◌};
+ghost use Rattle.text.specs.Refusal.{outcome};
 ghost use Rattle.stretch.specs.Answers.{told_checked, checking};
 
-use crate::segment::{Walked, segment_at};
+use crate::segment::segment_at;
 use layout::pieces::fits;
-use layout::walk::{Opened, Walk};
+use layout::walk::Walk;
+use text::Refusal;
 use text::spelling::classes;
-use text::{Refusal, Verdict};
 
-// The segment count and the size of a sound stretch.
+// The segment count and the size of a sound stretch. It stays an enum of its own: its name and shape are fixed.
 #[derive(Clone, Copy)]
 pub enum Checked {
     Sound { segments: usize, size: usize },
     Refused(Refusal),
 }
 
+// The same two numbers.
+#[derive(Clone, Copy)]
+pub struct Sum {
+    pub segments: usize,
+    pub size: usize,
+}
+
 // Refusals 4, the first of 5 to 8 in byte order, 9 and 16.
+fn summed(stretch: &[u8]) -> Result<Sum, Refusal>
+    ensures { outcome result ≡ checking stretch.now }
+{
+    fits(stretch)?;
+    let mut walk = Walk::open(stretch)?;
+    let letters = classes();
+    // Each segment tells where the next begins: no iterator does.
+    while walk.passed < walk.count {
+        let walked = segment_at(&letters, stretch, walk.at)?;
+        walk = walk.past(walked.next, walked.size);
+    }
+    walk.end(stretch)?;
+    Ok(Sum {
+        segments: walk.count,
+        size: walk.size,
+    })
+}
+
+// The same, as its callers have it.
 pub fn check(stretch: &[u8]) -> Checked
     ensures { told_checked result ≡ checking stretch.now }
 {
-    if let Verdict::Refused(wrong) = fits(stretch) {
-        return Checked::Refused(wrong);
-    }
-    let mut walk = match Walk::open(stretch) {
-        Opened::Refused(wrong) => {
-            return Checked::Refused(wrong);
-        }
-        Opened::At(walk) => walk,
-    };
-    let letters = classes();
-    while walk.passed < walk.count {
-        match segment_at(&letters, stretch, walk.at) {
-            Walked::Refused(wrong) => {
-                return Checked::Refused(wrong);
-            }
-            Walked::To { next, size } => {
-                walk = walk.past(next, size);
-            }
-        }
-    }
-    match walk.end(stretch) {
-        Verdict::Refused(wrong) => Checked::Refused(wrong),
-        Verdict::Sound => Checked::Sound {
-            segments: walk.count,
-            size: walk.size,
+    match summed(stretch) {
+        Ok(sum) => Checked::Sound {
+            segments: sum.segments,
+            size: sum.size,
         },
+        Err(wrong) => Checked::Refused(wrong),
     }
 }

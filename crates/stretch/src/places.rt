@@ -11,11 +11,9 @@ pub fn behind_variants(stretch: &[u8], k: usize, first: usize) -> usize
     ensures { result ≡ behind_variants stretch.now k first }
 {
     let mut at = first;
-    let mut i = 0;
-    while i < k {
+    for _ in 0..k {
         let letters = word_at(stretch, at);
         at = at + FIRST_LETTER + letters;
-        i += 1;
     }
     at
 }
@@ -26,11 +24,9 @@ pub fn segment_place(stretch: &[u8], k: usize) -> usize
     ensures { result ≡ segment_place stretch.now k }
 {
     let mut at = FIRST_SEGMENT;
-    let mut i = 0;
-    while i < k {
+    for _ in 0..k {
         let variants = wide(stretch[at]);
         at = behind_variants(stretch, variants, at + FIRST_VARIANT);
-        i += 1;
     }
     at
 }

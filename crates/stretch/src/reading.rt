@@ -12,7 +12,7 @@ use layout::number::{wide, word_at};
 use layout::{FIRST_LETTER, FIRST_VARIANT};
 use text::Refusal;
 
-// What a read finds, and the place that goes with it.
+// What a read finds, and the place that goes with it. It stays an enum of its own: its name and shape are fixed.
 #[derive(Clone, Copy)]
 pub enum Got {
     // Where the variant's letters stand, and the place one variant number after it.

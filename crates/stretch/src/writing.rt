@@ -6,10 +6,10 @@ ghost use Rattle.writer.specs.Writing.{writing};
 ghost use Rattle.writer.specs.Answers.{written};
 ghost use Rattle.stretch.specs.Answers.{told_written};
 
-use text::{Amount, Refusal};
+use text::Refusal;
 use writer::put_stretch;
 
-// The number of bytes written.
+// The number of bytes written. It stays an enum of its own: its name and shape are fixed.
 #[derive(Clone, Copy)]
 pub enum Written {
     Bytes(usize),
@@ -26,7 +26,7 @@ pub fn write(letters: &[u8], lengths: &[u16], counts: &[u8], out: &mut [u8]) -> 
         out.old }
 {
     match put_stretch(letters, lengths, counts, &mut *out) {
-        Amount::Is(n) => Written::Bytes(n),
-        Amount::Refused(refused) => Written::Refused(refused),
+        Ok(n) => Written::Bytes(n),
+        Err(refused) => Written::Refused(refused),
     }
 }

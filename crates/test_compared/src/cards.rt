@@ -1,48 +1,59 @@
 // Compares cards, row by row, with a search straight from the definitions, on random texts and on damaged stretches: the cards of texts,
-// those of two parts joined, and what they tell of states. Prints what was compared and how often, and the first difference.
-mod cards;
+// those of two parts joined, and what they tell of states.
 mod joins;
 
-use card::Card;
-use test_random::{CASES, Case, STRETCHES};
-use test_reference::places::part;
-use test_tally::{Tally, report};
+use crate::{NONE, refused};
+use card::{Card, Made};
+use test_random::{Case, STRETCHES};
+use test_reference::places::put_part;
+use test_reference::{Sound, Wrong, run};
+use test_tally::{Answer, Tally, held, row};
 
-// The case of a tally's number. A text that is accepted is cut on the given strand.
-fn case(rt: &HostRuntime, tally: Tally) -> Tally {
-    let case = Case::of(tally.at);
-    let verdict = case.verdict;
-    let strand = case.strand;
-    let bytes = case.bytes;
-    let stretch = part(&bytes, 0, case.n);
-    let given = case.given;
-    let bases = case.read;
-    let read = part(&bases, 0, case.m);
-    let made = Card::of(part(&given, 0, case.m), strand, stretch);
-    let t = cards::compare(rt, tally, cards::CARDS, read, stretch, verdict, made);
-    if STRETCHES <= tally.at {
-        return t;
-    }
-    if verdict.number != 0 {
-        return t;
-    }
-    joins::compare(rt, t, read, stretch, verdict)
+// The group of the cards.
+const CARDS: usize = 0;
+
+pub const NAMES: &[u8] = b"cards, row by row\njoins of two parts, and what cards tell of states\n";
+
+// What row q is to be: what comes of the lone length q, or of none from m up.
+fn wanted(p: &[u8], bytes: &[u8], verdict: Result<Sound, Wrong>, q: usize) -> Answer {
+    let lone = if q < p.len() { 1 << q % 64 } else { 0 };
+    verdict.map_or_else(refused, |sound| {
+        let found = run(p, bytes, sound.segments, lone);
+        Answer::told(
+            found.bits as usize,
+            found.first.unwrap_or(NONE),
+            sound.segments,
+        )
+    })
 }
 
-// All cases.
-fn all(rt: &HostRuntime) -> Tally {
-    let mut tally = Tally::NONE;
-    let mut number = 0;
-    while number < CASES {
-        tally = case(rt, tally.next(number));
-        number += 1;
+// A card is to have the pattern P, after it 0, and the rows of a text; a refused one is to be all zeros.
+fn compare_rows(
+    tally: &mut Tally,
+    group: usize,
+    p: &[u8],
+    bytes: &[u8],
+    verdict: Result<Sound, Wrong>,
+    made: &Made,
+) {
+    let name = if verdict.is_ok() { p } else { &[] };
+    let mut padded = [0u8; Card::GREATEST_PATTERN];
+    put_part(&mut padded, 0, name);
+    let m = Answer::told(made.card.m as usize, 0, 0);
+    let named = held(m, &made.card.pattern, &padded);
+    tally.compare(group, named, Answer::told(name.len(), 0, 0));
+    for q in 0..Card::GREATEST_PATTERN {
+        tally.compare(group, row(made, q), wanted(p, bytes, verdict, q));
     }
-    tally
 }
 
-pub fn tell(rt: &HostRuntime) {
-    let mut out = [0u8; 4096];
-    let names = b"cards, row by row\njoins of two parts, and what cards tell of states\n";
-    let end = report(all(rt), names, b" comparisons, ", &mut out);
-    let _ = rt.write_all(part(&out, 0, end));
+// A case. A text that is accepted is cut on the given strand.
+pub fn compare(tally: &mut Tally, case: &Case) {
+    let stretch = case.bytes.as_slice();
+    let read = case.read.as_slice();
+    let made = Card::of(case.given.as_slice(), case.strand, stretch);
+    compare_rows(&mut *tally, CARDS, read, stretch, case.verdict, &made);
+    if case.number < STRETCHES && case.verdict.is_ok() {
+        joins::compare(&mut *tally, case);
+    }
 }

@@ -3,42 +3,41 @@
 // that takes the bytes in pieces.
 #![tactic(auto)]
 
-ghost use Rattle.io.specs.Counts.{IsPrefixLen};
-
 use digest::{Hashing, digest};
-use files::{Piece, fill};
+use files::fill;
+use std::fmt;
+
+// A digest in two hex digits for each byte.
+#[derive(Clone, Copy)]
+struct Hex([u8; 32]);
+
+impl fmt::Display for Hex {
+    fn fmt<W: fmt::Write>(&self, f: &mut fmt::Formatter<W>) -> fmt::Result {
+        for byte in &self.0 {
+            write!(f, "{byte:02x}")?;
+        }
+        Ok(())
+    }
+}
 
 // The digest of the bytes in pieces: of none, of one, of two and so on, and of what is left.
 fn in_pieces(bytes: &[u8]) -> [u8; 32] {
-    let len = bytes.len();
-    let mut x = Hashing::new();
-    let mut at = 0;
-    let mut n = 0;
-    while n < len - at {
-        let end = at + n;
-        let next = x.over(&bytes[at..end]);
-        x = next;
-        at = end;
-        n += 1;
+    let mut hash = Hashing::new();
+    let mut rest = bytes;
+    for n in 0..bytes.len() {
+        if rest.len() <= n {
+            break;
+        }
+        let (piece, tail) = rest.split_at(n);
+        hash = hash.over(piece);
+        rest = tail;
     }
-    x.over(&bytes[at..]).end()
-}
-
-// A digit in hex, of a number below 16.
-fn digit(n: u8) -> u8 {
-    if n < 10 {
-        return n + 48;
-    }
-    n % 16 + 87
+    hash.over(rest).end()
 }
 
 fn tell(rt: &HostRuntime, digest: [u8; 32]) {
-    let mut line = [b'\n'; 65];
-    for i in 0..32 {
-        line[i * 2] = digit(digest[i] / 16);
-        line[i * 2 + 1] = digit(digest[i] % 16);
-    }
-    let _ = rt.write_all(&line);
+    let hex = Hex(digest);
+    let _ = println!(rt; "{hex}");
 }
 
 fn tell_both(rt: &HostRuntime, bytes: &[u8]) {
@@ -46,35 +45,18 @@ fn tell_both(rt: &HostRuntime, bytes: &[u8]) {
     tell(rt, in_pieces(bytes));
 }
 
-fn tell_firsts(rt: &HostRuntime, bytes: &[u8]) {
-    let len = bytes.len();
-    let mut n = 0;
-    while n <= 300 {
-        if len < n {
-            return;
-        }
-        tell_both(rt, &bytes[..n]);
-        n += 1;
-    }
-}
-
+// A function of its own, since an array of that many bytes is too long for the proof of `main`.
 fn room() -> [u8; 2000000] {
     [0u8; 2000000]
 }
 
-// Reads standard input to its end, or as much of it as there is room for. How many bytes that were; none where a read failed.
-fn read(rt: &HostRuntime, input: &mut [u8]) -> usize
-    ensures { IsPrefixLen result input.new }
-{
-    match fill(&mut rt.stdin(), &mut *input) {
-        Piece::Bytes(n) => n,
-        _ => 0,
-    }
-}
-
 fn main(rt: HostRuntime) {
     let mut input = room();
-    let n = read(&rt, &mut input);
-    tell_firsts(&rt, &input[..n]);
-    tell_both(&rt, &input[..n]);
+    let bytes = fill(&mut rt.stdin(), &mut input)
+        .unwrap_or(None)
+        .unwrap_or(&[]);
+    for n in 0..=bytes.len().min(300) {
+        tell_both(&rt, &bytes[..n]);
+    }
+    tell_both(&rt, bytes);
 }

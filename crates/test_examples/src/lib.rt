@@ -6,5 +6,5 @@ mod given;
 mod headings;
 pub mod notation;
 
-pub use given::{pattern, strand, wanted};
-pub use headings::{ExampleLine, call, tell};
+pub use given::{pattern, wanted};
+pub use headings::{call, run};

@@ -5,4 +5,4 @@ mod words;
 
 pub use bytes::{raw, stretch};
 pub use files::file;
-pub use words::{behind, find, number, word};
+pub use words::{behind, number, word};

@@ -1,7 +1,6 @@
 // Watch lists by value, for the programs that run examples: they have none to lend.
 #![tactic(auto)]
 
-mod lending;
 mod lists;
 
 pub use lists::List;

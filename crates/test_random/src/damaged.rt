@@ -1,7 +1,6 @@
 // Stretches damaged at random: a byte is another, or bytes are taken out, cut off or put in.
 use crate::drawn::{any_letter, below, stray};
-use std::num::{wrapping_add_usize, wrapping_sub_usize};
-use test_reference::places::{number_at, part, put, put_part};
+use test_reference::places::{byte_at, part, put, put_part};
 
 // A byte that may stand in a stretch, or any other.
 fn byte(seed: u64) -> u8 {
@@ -15,12 +14,11 @@ fn byte(seed: u64) -> u8 {
 }
 
 // Another byte for one that stands there: mostly a letter for a letter, or what is none.
-fn other(old: usize, seed: u64) -> u8 {
-    if old < 65 {
+fn other(old: u8, seed: u64) -> u8 {
+    if old < b'A' {
         return byte(seed);
     }
-    let kind = below(seed, 703, 8);
-    match kind {
+    match below(seed, 703, 8) {
         0 => byte(seed),
         1..=3 => stray(seed, 715),
         _ => any_letter(seed, 704),
@@ -34,7 +32,7 @@ fn change(out: &mut [u8], n: usize, way: usize, seed: u64) {
     }
     let most = if below(seed, 705, 8) == 0 { 8 } else { n };
     let at = below(seed, 706, most);
-    let byte = other(number_at(out, at), seed);
+    let byte = other(byte_at(out, at), seed);
     put(&mut *out, at, byte);
 }
 
@@ -56,8 +54,8 @@ fn splice(out: &mut [u8], bytes: &[u8], way: usize, seed: u64) -> usize {
     if below(seed, 710, 6) == 0 {
         return middle;
     }
-    let back = wrapping_add_usize(at, below(seed, 711, 9));
-    let rest = part(bytes, back, wrapping_sub_usize(end, back));
+    let back = at.wrapping_add(below(seed, 711, 9));
+    let rest = part(bytes, back, end.wrapping_sub(back));
     put_part(&mut *out, middle, rest)
 }
 

@@ -1,10 +1,12 @@
 // The case of a number. There are 5,000 texts; of two cases the second one has its text damaged, with a pattern that may be spoilt. After
 // the cases on the given strand stand the same on the opposite one.
+ghost use Rattle.std.specs.Prelude.{◌≡◌, IfOk};
+
 use crate::damaged::damage;
-use crate::drawn::seed;
+use crate::drawn::{seed, text};
 use crate::patterns::{pattern, spoil};
-use test_reference::Verdict;
-use test_reference::places::{part, put_part, turned};
+use test_reference::places::{put_part, turned};
+use test_reference::{Bytes, Sound, Wrong};
 use text::strand::Strand;
 
 // How many stretches there are, whole and damaged ones, and how many cases, on both strands.
@@ -15,16 +17,16 @@ pub const CASES: u64 = 20000;
 // Where the random numbers start.
 const SEED: u64 = 0x2545_f491_4f6c_dd1d;
 
-// A pattern of m bases, as the strand reads it and as it is given; a stretch of n bytes; and what is to be said of both.
+// A pattern, as the strand reads it and as it is given; a stretch, and the text that it is or is made of; and what is to be said of both.
 #[derive(Clone, Copy)]
 pub struct Case {
-    pub read: [u8; 65],
-    pub given: [u8; 65],
-    pub m: usize,
+    pub number: u64,
+    pub text: Bytes<2048>,
+    pub read: Bytes<65>,
+    pub given: Bytes<65>,
     pub strand: Strand,
-    pub bytes: [u8; 2048],
-    pub n: usize,
-    pub verdict: Verdict,
+    pub bytes: Bytes<2048>,
+    pub verdict: Result<Sound, Wrong>,
 }
 
 // The seed of a case's text.
@@ -55,38 +57,47 @@ fn put_pattern(out: &mut [u8], text: &[u8], number: u64) -> usize {
     m
 }
 
-// Puts the pattern of a case as it is given, which the strand reads so, and tells the strand.
-fn put_given(out: &mut [u8], read: &[u8], number: u64) -> Strand {
+// The strand of a case.
+fn strand_of(number: u64) -> Strand {
     if number < STRETCHES {
-        put_part(&mut *out, 0, read);
         return Strand::Given;
     }
-    turned(&mut *out, read);
     Strand::Opposite
+}
+
+// Puts the pattern of a case as it is given, which the strand reads so, and tells how many bases it has.
+fn put_given(out: &mut [u8], read: &[u8], strand: Strand) -> usize {
+    match strand {
+        Strand::Given => put_part(&mut *out, 0, read),
+        Strand::Opposite => turned(&mut *out, read),
+    }
 }
 
 impl Case {
     // The case of a number below that of the cases.
     pub fn of(number: u64) -> Case {
-        let mut text = [0u8; 2048];
-        let end = crate::drawn::text(&mut text, seed_of(number));
-        let whole = part(&text, 0, end);
-        let mut bytes = [0u8; 2048];
-        let n = put_stretch(&mut bytes, whole, number);
-        let mut read = [0u8; 65];
-        let m = put_pattern(&mut read, whole, number);
-        let mut given = [0u8; 65];
-        let strand = put_given(&mut given, part(&read, 0, m), number);
-        let alone = test_reference::stretch(part(&bytes, 0, n));
-        let verdict = test_reference::pattern(part(&given, 0, m), alone);
+        let text = Bytes::<2048>::put(|out| text(out, seed_of(number)));
+        let bytes = Bytes::<2048>::put(|out| put_stretch(out, text.as_slice(), number));
+        let read = Bytes::<65>::put(|out| put_pattern(out, text.as_slice(), number));
+        let strand = strand_of(number);
+        let given = Bytes::<65>::put(|out| put_given(out, read.as_slice(), strand));
+        let alone = test_reference::stretch(bytes.as_slice());
+        let verdict = test_reference::pattern(given.as_slice()).and(alone);
         Case {
+            number,
+            text,
             read,
             given,
-            m,
             strand,
             bytes,
-            n,
             verdict,
         }
+    }
+
+    // How many segments it has; none where it is refused.
+    pub fn segments(&self) -> usize
+        ensures { IfOk self.now.verdict (λ sound. result ≡ sound.segments) }
+    {
+        self.verdict.map_or(0, |sound| sound.segments)
     }
 }

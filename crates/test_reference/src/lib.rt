@@ -2,9 +2,11 @@
 // definitions, that programs compare the library's calls with.
 #![tactic(auto)]
 
+mod bytes;
 mod occurrences;
 pub mod places;
 mod reader;
 
+pub use bytes::Bytes;
 pub use occurrences::{Ran, Step, run, through};
-pub use reader::{Verdict, pattern, stretch};
+pub use reader::{Refusal, Sound, Wrong, pattern, stretch};

@@ -8,7 +8,7 @@ mod strands;
 pub use apart::{counts, lengths, letters, raised};
 pub use meanings::{alike, meant, repeats};
 pub use parts::{
-    Place, behind, letters_at, number_at, part, place_of, put, put_part, segment_at, skip,
+    Place, behind, byte_at, letters_at, part, place_of, put, put_part, segment_at, skip,
     variants_before, word_at,
 };
 pub use strands::{turned, unite};

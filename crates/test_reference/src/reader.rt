@@ -1,204 +1,138 @@
 // A reader of a stretch, which says what is to be refused, and where: document 01's numbers 1 to 3 and 5 to 9.
-use crate::places::{behind, letters_at, meant, number_at, repeats, word_at};
-use std::num::wrapping_add_usize;
+use crate::places::{behind, byte_at, letters_at, meant, repeats, word_at};
 
-// How far the reader has come: a refusal and its place, or number 0 and the place after what was read; the letters and the
-// variants that were read.
+// Why a pattern or a stretch is refused, by document 01's numbers.
 #[derive(Clone, Copy)]
-pub struct Came {
-    pub number: u64,
-    pub place: usize,
-    pub size: usize,
-    pub variants: usize,
+pub enum Refusal {
+    NoBases = 1,
+    ManyBases = 2,
+    NoBase = 3,
+    CutOff = 5,
+    NoVariants = 6,
+    NoLetter = 7,
+    Repeated = 8,
+    Left = 9,
 }
 
-impl Came {
-    // The same text, which goes on or is refused at a place.
-    fn at(self, number: u64, place: usize) -> Came {
-        Came {
-            number,
-            place,
-            size: self.size,
-            variants: self.variants,
-        }
-    }
-
-    // One variant more, of that many letters, and the place after it. In the size the empty variant counts as one letter.
-    fn with(self, letters: usize, place: usize) -> Came {
-        let counts = if letters == 0 { 1 } else { letters };
-        Came {
-            number: 0,
-            place,
-            size: wrapping_add_usize(self.size, counts),
-            variants: wrapping_add_usize(self.variants, 1),
-        }
-    }
-}
-
-// Nothing is read yet.
-const START: Came = Came {
-    number: 0,
-    place: 2,
-    size: 0,
-    variants: 0,
-};
-
-// The place of the first byte of a variant that is no letter.
-fn wrong_letter(letters: &[u8]) -> usize {
-    let mut i = 0;
-    while i < letters.len() {
-        if meant(letters[i]) == 0 {
-            return i;
-        }
-        i += 1;
-    }
-    i
-}
-
-// The place of the first byte of a pattern that is not A, C, G or T.
-fn wrong_base(bases: &[u8]) -> usize {
-    let mut i = 0;
-    while i < bases.len() {
-        let byte = bases[i];
-        match byte {
-            b'A' | b'C' | b'G' | b'T' => {}
-            _ => {
-                return i;
-            }
-        }
-        i += 1;
-    }
-    i
-}
-
-// Reads one variant more, after the k of its segment, which stand from `first` on.
-fn variant(bytes: &[u8], first: usize, k: usize, came: Came) -> Came {
-    let at = came.place;
-    if came.number != 0 {
-        return came;
-    }
-    let end = behind(bytes, at);
-    if bytes.len() < end {
-        return came.at(5, at);
-    }
-    let letters = letters_at(bytes, at);
-    let wrong = wrong_letter(letters);
-    if wrong < letters.len() {
-        return came.at(7, wrapping_add_usize(wrapping_add_usize(at, 2), wrong));
-    }
-    if repeats(bytes, first, k, at) {
-        return came.at(8, at);
-    }
-    came.with(letters.len(), end)
-}
-
-// Reads that many variants more.
-fn variants(bytes: &[u8], count: usize, before: Came) -> Came {
-    let first = before.place;
-    let mut came = before;
-    let mut k = 0;
-    while k < count {
-        came = variant(bytes, first, k, came);
-        k += 1;
-    }
-    came
-}
-
-// Reads one segment more.
-fn segment(bytes: &[u8], came: Came) -> Came {
-    let at = came.place;
-    if came.number != 0 {
-        return came;
-    }
-    if bytes.len() <= at {
-        return came.at(5, at);
-    }
-    let count = number_at(bytes, at);
-    if count == 0 {
-        return came.at(6, at);
-    }
-    variants(bytes, count, came.at(0, wrapping_add_usize(at, 1)))
-}
-
-// Reads that many segments.
-fn read(bytes: &[u8], count: usize) -> Came {
-    let mut came = START;
-    let mut j = 0;
-    while j < count {
-        came = segment(bytes, came);
-        j += 1;
-    }
-    came
-}
-
-// What is to be said of a stretch, alone or with a pattern: a refusal and its place; or number 0 and the segments, the letters and
-// the variants that it has. The others are 0. A refusal of a stretch has the number of the variants before it.
+// A refusal and its place; of a stretch also the number of the variants before it.
 #[derive(Clone, Copy)]
-pub struct Verdict {
-    pub number: u64,
+pub struct Wrong {
+    pub refusal: Refusal,
     pub place: usize,
-    pub segments: usize,
-    pub size: usize,
-    pub variants: usize,
     pub before: usize,
 }
 
-// A refusal.
-fn refused(number: u64, place: usize, before: usize) -> Verdict {
-    Verdict {
-        number,
-        place,
-        segments: 0,
-        size: 0,
-        variants: 0,
-        before,
+// What a stretch has: its segments, their letters and their variants. In the size the empty variant counts as one letter.
+#[derive(Clone, Copy)]
+pub struct Sound {
+    pub segments: usize,
+    pub size: usize,
+    pub variants: usize,
+}
+
+// How far the bytes are read: the place after what was read, and the letters and the variants that were read.
+#[derive(Clone, Copy)]
+struct Reader<'a> {
+    bytes: &'a [u8],
+    place: usize,
+    size: usize,
+    variants: usize,
+}
+
+impl<'a> Reader<'a> {
+    // A refusal after the variants that were read.
+    fn wrong(&self, refusal: Refusal, place: usize) -> Wrong {
+        Wrong {
+            refusal,
+            place,
+            before: self.variants,
+        }
+    }
+
+    // Reads one variant more, after the k of its segment, which stand from `first` on.
+    fn variant(&mut self, first: usize, k: usize) -> Result<(), Wrong> {
+        let at = self.place;
+        let end = behind(self.bytes, at);
+        if self.bytes.len() < end {
+            return Err(self.wrong(Refusal::CutOff, at));
+        }
+        let letters = letters_at(self.bytes, at);
+        if let Some(i) = letters.iter().position(|letter| meant(*letter).is_none()) {
+            let place = at.wrapping_add(2).wrapping_add(i);
+            return Err(self.wrong(Refusal::NoLetter, place));
+        }
+        if repeats(self.bytes, first, k, at) {
+            return Err(self.wrong(Refusal::Repeated, at));
+        }
+        self.place = end;
+        self.size = self.size.wrapping_add(letters.len().max(1));
+        self.variants = self.variants.wrapping_add(1);
+        Ok(())
+    }
+
+    // Reads one segment more.
+    fn segment(&mut self) -> Result<(), Wrong> {
+        let at = self.place;
+        if self.bytes.len() <= at {
+            return Err(self.wrong(Refusal::CutOff, at));
+        }
+        let count = byte_at(self.bytes, at) as usize;
+        if count == 0 {
+            return Err(self.wrong(Refusal::NoVariants, at));
+        }
+        let first = at.wrapping_add(1);
+        self.place = first;
+        for k in 0..count {
+            self.variant(first, k)?;
+        }
+        Ok(())
     }
 }
 
 // A stretch.
-pub fn stretch(bytes: &[u8]) -> Verdict {
+pub fn stretch(bytes: &[u8]) -> Result<Sound, Wrong> {
+    let mut reader = Reader {
+        bytes,
+        place: 2,
+        size: 0,
+        variants: 0,
+    };
     if bytes.len() < 2 {
-        return refused(5, 0, 0);
+        return Err(reader.wrong(Refusal::CutOff, 0));
     }
-    let segments = word_at(bytes, 0);
-    let came = read(bytes, segments);
-    if came.number != 0 {
-        return refused(came.number, came.place, came.variants);
+    let segments = word_at(bytes, 0) as usize;
+    for _ in 0..segments {
+        reader.segment()?;
     }
-    if came.place != bytes.len() {
-        return refused(9, came.place, came.variants);
+    if reader.place != bytes.len() {
+        return Err(reader.wrong(Refusal::Left, reader.place));
     }
-    Verdict {
-        number: 0,
-        place: 0,
+    Ok(Sound {
         segments,
-        size: came.size,
-        variants: came.variants,
+        size: reader.size,
+        variants: reader.variants,
+    })
+}
+
+// A refusal of a pattern.
+fn no_pattern(refusal: Refusal, place: usize) -> Wrong {
+    Wrong {
+        refusal,
+        place,
         before: 0,
     }
 }
 
-// A pattern and a stretch of which that is to be said: the refusals of the pattern come first.
-pub fn pattern(p: &[u8], verdict: Verdict) -> Verdict {
-    if p.len() == 0 {
-        return refused(1, 0, 0);
+// A pattern: one to 64 bases.
+pub fn pattern(p: &[u8]) -> Result<(), Wrong> {
+    if p.is_empty() {
+        return Err(no_pattern(Refusal::NoBases, 0));
     }
     if 64 < p.len() {
-        return refused(2, 0, 0);
+        return Err(no_pattern(Refusal::ManyBases, 0));
     }
-    let wrong = wrong_base(p);
-    if wrong < p.len() {
-        return refused(3, wrong, 0);
-    }
-    verdict
-}
-
-impl Verdict {
-    // The bytes, where they are accepted, or none of them.
-    pub fn kept(self, bytes: &[u8]) -> &[u8] {
-        if self.number == 0 {
-            return bytes;
-        }
-        &bytes[..0]
+    match p.iter().position(|base| !b"ACGT".contains(base)) {
+        Some(place) => Err(no_pattern(Refusal::NoBase, place)),
+        None => Ok(()),
     }
 }

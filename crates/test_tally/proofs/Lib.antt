@@ -1,6 +1,4 @@
 -- Laws of the definitions in specs/, as the functions need them, and the theorems.
-pub mod Alikes
 pub mod Answering
-pub mod Compared
 pub mod Reports
 pub mod Theorems

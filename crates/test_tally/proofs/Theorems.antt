@@ -1,18 +1,14 @@
 -- What a count of none that differ says: answers are alike exactly when they are the same answer.
-use Rattle.std.proofs.Common.{◌≡◌, ℕ, Bool, true, ◌&&◌, eqb, sym, ◌∙◌, eq-eqb, eqb-true}
+use Rattle.std.proofs.Common.{◌≡◌, Bool, true, ◌&&◌, eqb, refl, eq-eqb, eqb-true}
 use Rattle.text.proofs.Truth.{and_left, and_right}
 use Rattle.test_tally.specs.Answers.{alike}
 use Rattle.test_tally.specs.declared.answers.Answer.{Answer}
-use Rattle.test_tally.proofs.Alikes.{alike-third}
 
 pub same_alike : (a b : Answer) → a ≡ b → alike a b ≡ true
+unfolding alike
 same_alike a b e =
-    let n : a.number ≡ b.number = rw e in
-    let p : a.place ≡ b.place = rw e in
-    let f : a.first ≡ b.first = rw e in
-    let s : a.second ≡ b.second = rw e in
-    let t : a.third ≡ b.third = rw e in
-    sym (alike-third a b n p f s) ∙ eq-eqb a.third b.third t
+    rw e (rw (eq-eqb b.number b.number refl, eq-eqb b.place b.place refl, eq-eqb b.first b.first refl)
+    (rw (eq-eqb b.second b.second refl, eq-eqb b.third b.third refl) refl))
 
 pub alike_same : (a b : Answer) → alike a b ≡ true → a ≡ b
 unfolding alike

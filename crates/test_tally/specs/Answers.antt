@@ -3,7 +3,8 @@ use Rattle.std.specs.Prelude.{ℕ, ◌%◌, Bool, cond, ◌&&◌, List, ◌==◌
 use Rattle.text.specs.Refusal.{Answer as Said}
 use Rattle.text.specs.Compare.{same}
 use Rattle.text.specs.Card.{Row}
-use Rattle.stretch.specs.Answers.{Sum, answer_checked, answer_got, Handed}
+use Rattle.stretch.specs.Answers.{answer_checked, answer_got, Handed}
+use Rattle.stretch.specs.declared.checking.Sum.{Sum}
 use Rattle.stretch.specs.Answers.{answer_written}
 use Rattle.stretch.specs.declared.checking.Checked.{Checked}
 use Rattle.stretch.specs.declared.writing.Written.{Written}
@@ -15,8 +16,8 @@ use Rattle.card.specs.Answers.{answer_asked}
 use Rattle.card.specs.declared.answers.Asked.{Asked}
 use Rattle.card.specs.declared.answers.Made.{Made}
 use Rattle.watch.specs.Watching.{Pointed, answer_found, answer_listed}
-use Rattle.watch.specs.declared.round.Found.{Found}
-use Rattle.watch.specs.declared.round.Listed.{Listed}
+use Rattle.watch.specs.declared.answers.Found.{Found}
+use Rattle.watch.specs.declared.answers.Listed.{Listed}
 use Rattle.test_tally.specs.declared.answers.Answer.{Answer}
 
 -- a refusal: zeros beside number and place

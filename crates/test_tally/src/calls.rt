@@ -10,22 +10,26 @@ use stretch::{Checked, Got, Written};
 use watch::{Found, Listed};
 
 // A check: segment count and size.
-pub fn checked(answer: Checked) -> Answer
-    ensures { result ≡ checked_as answer }
-{
-    match answer {
-        Checked::Sound { segments, size } => Answer::told(segments, size, 0),
-        Checked::Refused(refused) => Answer::refused(refused.number, refused.place),
+impl From<Checked> for Answer {
+    ghost from_gives = { λ r a. a ≡ checked_as r };
+
+    fn from(answer: Checked) -> Answer {
+        match answer {
+            Checked::Sound { segments, size } => Answer::told(segments, size, 0),
+            Checked::Refused(refusal) => Answer::from(refusal),
+        }
     }
 }
 
 // A write: how many bytes were written.
-pub fn written(answer: Written) -> Answer
-    ensures { result ≡ written_as answer }
-{
-    match answer {
-        Written::Bytes(bytes) => Answer::told(bytes, 0, 0),
-        Written::Refused(refused) => Answer::refused(refused.number, refused.place),
+impl From<Written> for Answer {
+    ghost from_gives = { λ r a. a ≡ written_as r };
+
+    fn from(answer: Written) -> Answer {
+        match answer {
+            Written::Bytes(bytes) => Answer::told(bytes, 0, 0),
+            Written::Refused(refusal) => Answer::from(refusal),
+        }
     }
 }
 
@@ -62,74 +66,80 @@ pub fn got(answer: Got, letters: usize) -> Answer
 }
 
 // A search: segment count, size and number of ones.
-pub fn searched(answer: Searched) -> Answer
-    ensures { result ≡ searched_as answer }
-{
-    match answer {
-        Searched::Marked {
-            segments,
-            size,
-            ends,
-        } => Answer::told(segments, size, ends),
-        Searched::Refused(refused) => Answer::refused(refused.number, refused.place),
+impl From<Searched> for Answer {
+    ghost from_gives = { λ r a. a ≡ searched_as r };
+
+    fn from(answer: Searched) -> Answer {
+        match answer {
+            Searched::Marked {
+                segments,
+                size,
+                ends,
+            } => Answer::told(segments, size, ends),
+            Searched::Refused(refusal) => Answer::from(refusal),
+        }
     }
 }
 
 // A feed: the bits of the next state, and whether an occurrence ends.
-pub fn fed(answer: Fed) -> Answer
-    ensures { result ≡ fed_as answer }
-{
-    match answer {
-        Fed::Next { state, ends } => Answer::told(state.bits as usize, ends as usize, 0),
-        Fed::Refused(refused) => Answer::refused(refused.number, refused.place),
+impl From<Fed> for Answer {
+    ghost from_gives = { λ r a. a ≡ fed_as r };
+
+    fn from(answer: Fed) -> Answer {
+        match answer {
+            Fed::Next { state, ends } => Answer::told(state.bits as usize, ends as usize, 0),
+            Fed::Refused(refusal) => Answer::from(refusal),
+        }
     }
 }
 
 // What a watch list finds: the label, and the first ending segment, 4,294,967,295 where no record ends.
-pub fn found(answer: Found) -> Answer
-    ensures { result ≡ found_as answer }
-{
-    match answer {
-        Found::Ends { label, segment } => Answer::told(label as usize, segment, 0),
-        Found::None => Answer::told(0, 4294967295, 0),
-        Found::Refused(refused) => Answer::refused(refused.number, refused.place),
+impl From<Found> for Answer {
+    ghost from_gives = { λ r a. a ≡ found_as r };
+
+    fn from(answer: Found) -> Answer {
+        match answer {
+            Found::Ends { label, segment } => Answer::told(label as usize, segment, 0),
+            Found::None => Answer::told(0, 4294967295, 0),
+            Found::Refused(refusal) => Answer::from(refusal),
+        }
     }
 }
 
 // Whether the records of a watch list were marked.
-pub fn listed(answer: Listed) -> Answer
-    ensures { result ≡ listed_as answer }
-{
-    match answer {
-        Listed::Marked => Answer::told(0, 0, 0),
-        Listed::Refused(refused) => Answer::refused(refused.number, refused.place),
+impl From<Listed> for Answer {
+    ghost from_gives = { λ r a. a ≡ listed_as r };
+
+    fn from(answer: Listed) -> Answer {
+        match answer {
+            Listed::Marked => Answer::told(0, 0, 0),
+            Listed::Refused(refusal) => Answer::from(refusal),
+        }
     }
 }
 
 // What a card tells of a state: the bits of the state after the stretch, and the first end.
-pub fn asked(answer: Asked) -> Answer
-    ensures { result ≡ asked_as answer }
-{
-    match answer {
-        Asked::Told { state, first } => Answer::told(state.bits as usize, first as usize, 0),
-        Asked::Refused(refused) => Answer::refused(refused.number, refused.place),
+impl From<Asked> for Answer {
+    ghost from_gives = { λ r a. a ≡ asked_as r };
+
+    fn from(answer: Asked) -> Answer {
+        match answer {
+            Asked::Told { state, first } => Answer::told(state.bits as usize, first as usize, 0),
+            Asked::Refused(refusal) => Answer::from(refusal),
+        }
     }
 }
 
 // A card, at row q modulo 64: the row's exit and first end, and the segment count. Beside a refusal all of them are to be 0.
-pub fn row(answer: Made, q: usize) -> Answer
-    ensures { result ≡ row_as answer q }
+pub fn row(answer: &Made, q: usize) -> Answer
+    ensures { result ≡ row_as answer.now q }
 {
-    let refusal = answer.refusal;
-    let card = answer.card;
-    let exits = card.exits;
-    let firsts = card.firsts;
     let place = q % Card::GREATEST_PATTERN;
     Answer {
-        number: refusal.number,
-        place: refusal.place,
-        first: exits[place] as usize,
-        second: firsts[place] as usize,
-        third: card.segments as usize,
+        number: answer.refusal.number,
+        place: answer.refusal.place,
+        first: answer.card.exits[place] as usize,
+        second: answer.card.firsts[place] as usize,
+        third: answer.card.segments as usize,
     }
 }

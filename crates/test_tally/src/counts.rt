@@ -3,11 +3,29 @@ ghost use Rattle.std.specs.Prelude.{◌≡◌, ◌%◌, slice_index};
 ghost use Rattle.test_tally.specs.Counts.{more_in, compared_in, next_at};
 
 use crate::answers::Answer;
-use crate::differing::difference;
-use std::num::wrapping_add_u64;
+use std::fmt;
 
 // How many groups there are.
 pub const GROUPS: usize = 64;
+
+// An answer that differs from the wanted one, with its group and the number that tells where.
+#[derive(Clone, Copy)]
+pub struct Difference {
+    pub group: usize,
+    pub at: u64,
+    pub got: Answer,
+    pub wanted: Answer,
+}
+
+impl fmt::Display for Difference {
+    fn fmt<W: fmt::Write>(&self, f: &mut fmt::Formatter<W>) -> fmt::Result {
+        write!(
+            f,
+            "differs: group {} number {}: got {}, wanted {}",
+            self.group, self.at, self.got, self.wanted
+        )
+    }
+}
 
 #[derive(Clone, Copy)]
 pub struct Tally {
@@ -15,7 +33,10 @@ pub struct Tally {
     pub at: u64,
     pub ran: u64,
     pub differ: u64,
+    // Stays an array: the memory of the tests is fixed.
     pub groups: [u64; GROUPS],
+    // The first answer that differs.
+    pub first: Option<Difference>,
 }
 
 impl Tally {
@@ -25,69 +46,46 @@ impl Tally {
         ran: 0,
         differ: 0,
         groups: [0; GROUPS],
+        first: None,
     };
 
     // That many more in a group, modulo their number.
-    pub fn more(self, group: usize, n: usize) -> Tally
-        ensures { result ≡ more_in self group n }
+    pub fn more(&mut self, group: usize, n: usize)
+        ensures { self.new ≡ more_in self.old group n }
     {
-        let mut groups = self.groups;
         let i = group % GROUPS;
-        groups[i] = wrapping_add_u64(groups[i], n as u64);
-        Tally {
-            at: self.at,
-            ran: self.ran,
-            differ: self.differ,
-            groups,
-        }
+        self.groups[i] = self.groups[i].wrapping_add(n as u64);
     }
 
-    // One answer more in a group, which is to be the wanted one. The first that differs is printed.
-    pub fn compare(self, rt: &HostRuntime, group: usize, got: Answer, wanted: Answer) -> Tally
-        ensures { result ≡ compared_in self group got wanted }
+    // One answer more in a group, which is to be the wanted one.
+    pub fn compare(&mut self, group: usize, got: Answer, wanted: Answer)
+        ensures { self.new ≡ compared_in self.old group got wanted }
     {
-        let counted = self.more(group, 1);
-        let at = self.at;
-        let ran = wrapping_add_u64(self.ran, 1);
-        let differ = self.differ;
-        let groups = counted.groups;
-        if got.equals(wanted) {
-            return Tally {
+        self.more(group, 1);
+        self.ran = self.ran.wrapping_add(1);
+        if got != wanted {
+            self.differ = self.differ.wrapping_add(1);
+            let at = self.at;
+            self.first = self.first.or(Some(Difference {
+                group,
                 at,
-                ran,
-                differ,
-                groups,
-            };
-        }
-        if differ == 0 {
-            difference(rt, group, at, got, wanted);
-        }
-        Tally {
-            at,
-            ran,
-            differ: wrapping_add_u64(differ, 1),
-            groups,
+                got,
+                wanted,
+            }));
         }
     }
 
-    // The same, for what is compared next.
-    pub fn next(self, at: u64) -> Tally
-        ensures { result ≡ next_at self at }
+    // The same counts, for what is compared next.
+    pub fn next(&mut self, at: u64)
+        ensures { self.new ≡ next_at self.old at }
     {
-        let groups = self.groups;
-        Tally {
-            at,
-            ran: self.ran,
-            differ: self.differ,
-            groups,
-        }
+        self.at = at;
     }
 
     // A group's count.
-    pub fn of(self, group: usize) -> u64
-        ensures { result ≡ slice_index self.groups (group % 64) }
+    pub fn of(&self, group: usize) -> u64
+        ensures { result ≡ slice_index self.now.groups (group % 64) }
     {
-        let groups = self.groups;
-        groups[group % GROUPS]
+        self.groups[group % GROUPS]
     }
 }

@@ -4,10 +4,9 @@
 mod answers;
 mod calls;
 mod counts;
-mod differing;
 mod reporting;
 
-pub use answers::{Answer, held};
-pub use calls::{asked, checked, fed, found, got, listed, row, searched, written};
-pub use counts::{GROUPS, Tally};
-pub use reporting::report;
+pub use answers::{Answer, held, held_in, lent};
+pub use calls::{got, row};
+pub use counts::{Difference, GROUPS, Tally};
+pub use reporting::{report, tell};

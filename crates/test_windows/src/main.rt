@@ -4,52 +4,34 @@
 
 mod windows;
 
-use files::{Piece, fill};
-use test_examples::{ExampleLine, call, tell, wanted};
-use test_reference::places::part;
+use files::fill;
+use test_examples::{call, run, wanted};
 use test_tally::{Answer, Tally};
 
 // The answer of a call, which is known by its first letter: build. A line of no known call has none that is right.
-fn answer(call: usize, line: &[u8]) -> Answer {
+fn answer(call: u8, line: &[u8]) -> Answer {
     match call {
-        98 => windows::build(line),
+        b'b' => windows::build(line),
         _ => Answer::refused(101, 0),
     }
 }
 
 // What a line counts.
-fn judge(rt: &HostRuntime, tally: Tally, group: usize, line: &[u8]) -> Tally {
-    let call = call(line);
-    if call == 0 {
-        return tally;
+fn judge(tally: &mut Tally, group: usize, line: &[u8]) {
+    if let Some(call) = call(line) {
+        tally.compare(group, answer(call, line), wanted(line));
     }
-    tally.compare(rt, group, answer(call, line), wanted(line))
 }
 
-// Every line of the input, known by its number from 1 on.
-fn judged(rt: &HostRuntime, input: &[u8]) -> Tally {
-    let mut tally = Tally::NONE;
-    let mut line = ExampleLine::NONE;
-    let mut k = 0;
-    while k < input.len() {
-        line = line.next(input);
-        k += 1;
-        tally = judge(rt, tally.next(k as u64), line.group, line.of(input));
-    }
-    tally
-}
-
-// Reads standard input to its end, or as much of it as there is room for. How many bytes that were; none where a read failed.
-fn read(rt: &HostRuntime, input: &mut [u8]) -> usize {
-    match fill(&mut rt.stdin(), &mut *input) {
-        Piece::Bytes(n) => n,
-        _ => 0,
-    }
+// A function of its own, since an array of that many bytes is too long for the proof of `main`.
+fn room() -> [u8; 1000000] {
+    [0u8; 1000000]
 }
 
 fn main(rt: HostRuntime) {
-    let mut input = [0u8; 1000000];
-    let n = read(&rt, &mut input);
-    let examples = part(&input, 0, n);
-    tell(&rt, judged(&rt, examples), examples);
+    let mut input = room();
+    let examples = fill(&mut rt.stdin(), &mut input)
+        .unwrap_or(None)
+        .unwrap_or(&[]);
+    run(&rt, examples, judge);
 }

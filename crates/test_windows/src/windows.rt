@@ -1,35 +1,25 @@
 // The build, as the lines give it.
 use test_examples::notation::{file, number, raw, stretch, word};
-use test_reference::places::{part, put_part};
-use test_tally::{Answer, held, written};
+use test_reference::Bytes;
+use test_reference::places::put_part;
+use test_tally::{Answer, held_in, lent};
 
-// A build into the front of a buffer, as much of it as the line lends.
-fn build_into(out: &mut [u8], line: &[u8], file: &[u8], window: &[u8]) -> Answer {
-    let room = number(line, 5);
-    if out.len() < room {
-        return Answer::refused(101, 0);
-    }
+// build FILE WINDOW first NAME room STRETCH = bytes: the window is raw. Into as much of a buffer of 170s as the line lends, where it
+// leaves the line's stretch in front of them.
+pub fn build(line: &[u8]) -> Answer {
+    let records = Bytes::<70000>::put(|out| file(out, word(line, 1)));
+    let window = Bytes::<70000>::put(|out| raw(out, word(line, 2)));
     let first = number(line, 3);
     let name = word(line, 4);
-    written(vcf::build(file, window, first, name, &mut out[0..room]))
-}
-
-// A build into a buffer of 170s, where it leaves the line's stretch in front of them.
-fn build_left(line: &[u8], file: &[u8], window: &[u8]) -> Answer {
-    let mut text = [0u8; 40000];
-    let n = stretch(&mut text, word(line, 6), 2);
-    let mut left = [170u8; 40000];
-    put_part(&mut left, 0, part(&text, 0, n));
-    let mut out = [170u8; 40000];
-    let answer = build_into(&mut out, line, file, window);
-    held(answer, &out, &left)
-}
-
-// build FILE WINDOW first NAME room STRETCH = bytes: the window is raw.
-pub fn build(line: &[u8]) -> Answer {
-    let mut bytes = [0u8; 70000];
-    let n = file(&mut bytes, word(line, 1));
-    let mut window = [0u8; 70000];
-    let bases = raw(&mut window, word(line, 2));
-    build_left(line, part(&bytes, 0, n), part(&window, 0, bases))
+    let text = Bytes::<40000>::put(|out| stretch(out, word(line, 6), 2));
+    held_in::<40000, _, _>(
+        170,
+        |left| put_part(left, 0, text.as_slice()),
+        |out| {
+            lent(out, number(line, 5), |room| {
+                let built = vcf::build(records.as_slice(), window.as_slice(), first, name, room);
+                Answer::from(built)
+            })
+        },
+    )
 }

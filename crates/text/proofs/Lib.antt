@@ -7,6 +7,7 @@ pub mod Each
 pub mod PartsOfLists
 pub mod Outcomes
 pub mod Letters
+pub mod Library
 pub mod Meanings
 pub mod Patterns
 pub mod Sizes

@@ -4,8 +4,9 @@ use native.Mathlib.Numerals.{add-one}
 use native.Mathlib.Omega.{arith}
 use mathlib.Core.Path.{◌≡◌, refl, sym, ap, ◌∙◌}
 use mathlib.Core.List.{List, [], ◌∷◌, ◌++◌}
-use lib.ListN.{length, take, get_or, set, replicate}
+use lib.ListN.{length, take, drop, get_or, set, replicate}
 use lib.Seq.{length-take-le, take-suc, take_all, append_snoc, set_at}
+use Rattle.std.proofs.lemmas.List.{drop-replicate}
 use Rattle.text.specs.Card.{padded}
 
 -- the first i of the bytes P are written
@@ -41,3 +42,8 @@ module _ (P : List ℕ) where
 
     pub padding-all : length P ≤ i → bytes ≡ padded P
     padding-all l = h.front ∙ ap padded (take_all i P l)
+
+  -- the bytes put over the front of the zeros
+  pub padding-over : P ++ drop (length P) (replicate 64 0) ≡ padded P
+  unfolding padded
+  padding-over = rw (drop-replicate {X = ℕ} (length P) 64 0)

@@ -1,10 +1,7 @@
 -- Answers that may refuse, and the order of refusals as a chain of demands.
-use Rattle.std.specs.Prelude.{ℕ, ◌<◌, ◌≤◌, ◌≡◌, Bool, true, false, List, leb, ltb, length}
+use Rattle.std.specs.Prelude.{ℕ, ◌<◌, ◌≤◌, ◌≡◌, Bool, true, false, List, leb, ltb, length, Result, Ok, Err}
 use Rattle.text.specs.Letter.{base, every, first_not}
-use Rattle.text.specs.declared.verdict.Verdict.{Verdict}
-use Rattle.text.specs.declared.verdict.Verdict.TheVariants.{Sound}
-use Rattle.text.specs.declared.verdict.Amount.{Amount}
-use Rattle.text.specs.declared.verdict.Amount.TheVariants.{Is}
+use Rattle.text.specs.declared.refusal.Refusal.{Refusal}
 
 -- a value, or document 01's number and place
 pub data Outcome (A : Type 0) : Type 0 where
@@ -49,11 +46,7 @@ pub record SoundPattern (P : List ℕ) : Type 0 where
   pub short : length P ≤ greatest_pattern
   pub bases : every base P ≡ true
 
--- what a verdict and an amount tell
-abbrev pub told_verdict : Verdict → Outcome (Unit {0})
-told_verdict Sound = ok tt
-told_verdict (Verdict.Refused r) = refused r.number r.place
-
-abbrev pub told_amount : Amount → Outcome ℕ
-told_amount (Is n) = ok n
-told_amount (Amount.Refused r) = refused r.number r.place
+-- what a result tells
+abbrev pub outcome : {A : Type 0} → Result A Refusal → Outcome A
+outcome (Ok a) = ok a
+outcome (Err r) = refused r.number r.place

@@ -10,28 +10,14 @@ use crate::letter::is_letter;
 pub fn same(a: &[u8], b: &[u8]) -> bool
     ensures { result ≡ same a.now b.now }
 {
-    if a.len() != b.len() {
-        return false;
-    }
-    let mut i = 0;
-    while i < a.len() {
-        if a[i] != b[i] {
-            return false;
-        }
-        i += 1;
-    }
-    true
+    a == b
 }
 
 // Whether s begins with p.
 pub fn prefix(p: &[u8], s: &[u8]) -> bool
     ensures { result ≡ prefix p.now s.now }
 {
-    if s.len() < p.len() {
-        return false;
-    }
-    let end = p.len();
-    same(p, &s[..end])
+    s.starts_with(p)
 }
 
 // Whether two bytes mean something else. Equal bytes need no second look, nor do bytes that differ by more than the bit of a letter's
@@ -55,12 +41,10 @@ pub fn alike(a: &[u8], b: &[u8]) -> bool
     if a.len() != b.len() {
         return false;
     }
-    let mut k = 0;
-    while k < a.len() {
-        if differ(a[k], b[k]) {
+    for (k, letter) in a.iter().enumerate() {
+        if differ(*letter, b[k]) {
             return false;
         }
-        k += 1;
     }
     true
 }

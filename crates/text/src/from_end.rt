@@ -10,10 +10,11 @@ use crate::compare::differ;
 fn wide(byte: u8) -> u64
     ensures { (result ≡ byte) × (result < 256) }
 {
-    byte as u64
+    u64::from(byte)
 }
 
-// Two bytes as one number; the compiler makes one load of two, of four and of eight.
+// Two bytes as one number; the compiler makes one load of two, of four and of eight. By halves, and not by `u64::from_le_bytes`: the proof
+// of that did not close.
 fn two(s: &[u8], at: usize) -> u64
     requires { at + 2 ≤ length s.now }
     ensures { (result ≡ two s.now at) × (result < 0x1_0000) }
@@ -43,7 +44,7 @@ fn eight(s: &[u8], at: usize) -> u64
     low + high * 0x1_0000_0000
 }
 
-// A place from which on two strings of one length are the same bytes, as far to the front as steps of eight lead. The first eight
+// A place from which on two strings of one length are the same bytes, as far to the front as steps of eight lead, which no iterator takes. The first eight
 // are one step, though some of them may be compared already.
 fn same_from(a: &[u8], b: &[u8]) -> usize
     requires { length a.now ≡ length b.now }
@@ -74,13 +75,10 @@ pub fn alike_from_end(a: &[u8], b: &[u8]) -> bool
     if a.len() != b.len() {
         return false;
     }
-    let mut i = same_from(a, b);
-    while 0 < i {
-        let from = i - 1;
-        if differ(a[from], b[from]) {
+    for i in (0..same_from(a, b)).rev() {
+        if differ(a[i], b[i]) {
             return false;
         }
-        i = from;
     }
     true
 }

@@ -61,12 +61,7 @@ pub fn is_base(byte: u8) -> bool
 pub fn first_wrong(part: &[u8]) -> usize
     ensures { result ≡ first_not letter part.now }
 {
-    let mut i = 0;
-    while i < part.len() {
-        if !is_letter(part[i]) {
-            return i;
-        }
-        i += 1;
-    }
-    i
+    part.iter()
+        .position(|byte| !is_letter(*byte))
+        .unwrap_or(part.len())
 }

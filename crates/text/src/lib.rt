@@ -13,8 +13,6 @@ pub mod size;
 pub mod spelling;
 pub mod state;
 pub mod strand;
-mod verdict;
 
 pub use parts::part;
 pub use refusal::Refusal;
-pub use verdict::{Amount, Verdict};

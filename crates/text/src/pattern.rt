@@ -1,25 +1,20 @@
 // Patterns: 1 to 64 bases.
 ghost use Rattle.std.specs.Prelude.{◌≡◌, not};
 ghost use Rattle.text.specs.Letter.{base, every, first_not};
-ghost use Rattle.text.specs.Refusal.{ok, pattern, told_verdict};
+ghost use Rattle.text.specs.Refusal.{ok, pattern, outcome};
 
 use crate::letter::is_base;
 use crate::refusal::Refusal;
-use crate::verdict::Verdict;
 use crate::{limits, refusal};
 
 // The place of the first byte that is no base; the length where every byte is one.
 fn first_other(bytes: &[u8]) -> usize
     ensures { result ≡ first_not base bytes.now }
 {
-    let mut i = 0;
-    while i < bytes.len() {
-        if !is_base(bytes[i]) {
-            return i;
-        }
-        i += 1;
-    }
-    i
+    bytes
+        .iter()
+        .position(|byte| !is_base(*byte))
+        .unwrap_or(bytes.len())
 }
 
 // Whether a byte is no base, without a branch.
@@ -35,37 +30,34 @@ fn any_other(bytes: &[u8]) -> bool
     ensures { result ≡ not (every base bytes.now) }
 {
     let mut wrong = false;
-    let mut i = 0;
-    while i < bytes.len() {
-        let more = is_other(bytes[i]);
-        wrong = wrong | more;
-        i += 1;
+    for byte in bytes {
+        wrong |= is_other(*byte);
     }
     wrong
 }
 
 // Refusals 1, 2 and 3, asked in this order.
-pub fn check(bytes: &[u8]) -> Verdict
-    ensures { told_verdict result ≡ pattern bytes.now (ok tt) }
+pub fn check(bytes: &[u8]) -> Result<(), Refusal>
+    ensures { outcome result ≡ pattern bytes.now (ok tt) }
 {
     let m = bytes.len();
     if m == 0 {
-        return Verdict::Refused(Refusal {
+        return Err(Refusal {
             number: refusal::PATTERN_EMPTY,
             place: 0,
         });
     }
     if limits::GREATEST_PATTERN < m {
-        return Verdict::Refused(Refusal {
+        return Err(Refusal {
             number: refusal::PATTERN_LONG,
             place: 0,
         });
     }
     if any_other(bytes) {
-        return Verdict::Refused(Refusal {
+        return Err(Refusal {
             number: refusal::PATTERN_BYTE,
             place: first_other(bytes),
         });
     }
-    Verdict::Sound
+    Ok(())
 }

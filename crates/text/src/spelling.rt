@@ -40,12 +40,10 @@ fn wrong_in_block(part: &[u8], at: usize) -> bool
     requires { at + 16 ≤ length part.now }
     ensures { result ≡ not (every letter (take 16 (drop at part.now))) }
 {
+    let block = &part[at..at + BLOCK];
     let mut wrong = false;
-    let mut i = 0;
-    while i < BLOCK {
-        let more = is_wrong(part[at + i]);
-        wrong = wrong | more;
-        i += 1;
+    for byte in block {
+        wrong |= is_wrong(*byte);
     }
     wrong
 }
@@ -57,11 +55,8 @@ fn wrong_in_blocks(part: &[u8]) -> bool
 {
     let last = part.len() - BLOCK;
     let mut wrong = wrong_in_block(part, last);
-    let mut at = 0;
-    while at < last {
-        let more = wrong_in_block(part, at);
-        wrong = wrong | more;
-        at += BLOCK;
+    for at in (0..last).step_by(BLOCK) {
+        wrong |= wrong_in_block(part, at);
     }
     wrong
 }
@@ -84,11 +79,8 @@ pub fn any_wrong_by(classes: &[u8; 256], part: &[u8]) -> bool
         return wrong_in_blocks(part);
     }
     let mut bad = 0u8;
-    let mut i = 0;
-    while i < part.len() {
-        let c = part[i] as usize;
-        bad = bad | classes[c];
-        i += 1;
+    for byte in part {
+        bad |= classes[*byte as usize];
     }
     bad != 0
 }

@@ -47,11 +47,7 @@ fn copied(part: &[u8]) -> [u8; limits::GREATEST_PATTERN]
     ensures { result ≡ padded part.now }
 {
     let mut bytes = [0u8; limits::GREATEST_PATTERN];
-    let mut i = 0;
-    while i < part.len() {
-        bytes[i] = part[i];
-        i += 1;
-    }
+    bytes[..part.len()].copy_from_slice(part);
     bytes
 }
 
@@ -61,11 +57,9 @@ fn turned(part: &[u8]) -> [u8; limits::GREATEST_PATTERN]
     ensures { result ≡ padded (opposite part.now) }
 {
     let mut bytes = [0u8; limits::GREATEST_PATTERN];
-    let mut i = 0;
-    while i < part.len() {
+    for i in 0..part.len() {
         let from = part.len() - 1 - i;
         bytes[i] = complement(part[from]);
-        i += 1;
     }
     bytes
 }

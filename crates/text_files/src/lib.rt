@@ -4,4 +4,4 @@
 
 mod built;
 
-pub use built::{Built, is_nameable, write_manifest, write_stretch};
+pub use built::Built;

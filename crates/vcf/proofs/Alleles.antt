@@ -2,7 +2,7 @@
 use Prim.Native.Nat.{ℕ, ◌+◌, ◌-◌, ◌<◌, ◌≤◌}
 use native.Mathlib.Omega.{arith}
 use native.Mathlib.Decide.{dec_lt}
-use mathlib.Core.Path.{◌≡◌, refl, sym, ◌∙◌}
+use mathlib.Core.Path.{◌≡◌, refl, ◌∙◌}
 use mathlib.Core.Logic.{by_cases}
 use mathlib.Core.Bool.{Bool, true, false, ◌&&◌, cond}
 use mathlib.Core.List.{List, [], ◌∷◌}
@@ -13,11 +13,11 @@ use Rattle.text.specs.Letter.{letter, first_not}
 use Rattle.text.specs.Compare.{same}
 use Rattle.text.proofs.Letters.{first-le, first-every, first-not-every}
 use Rattle.text.proofs.Truth.{and-true}
-use Rattle.text.proofs.Strings.{same-lengths}
 use Rattle.layout.specs.Bytes.{part}
 use Rattle.layout.specs.Encoding.{all}
 use Rattle.vcf.specs.Pieces.{pieces, end_of, Ends}
-use Rattle.vcf.specs.Records.{field, position, allele, none, alternates, are_alleles, alternates_sound, is_record, comment}
+use Rattle.std.proofs.Common.{Option, None, Some, not, is_some}
+use Rattle.vcf.specs.Records.{field, position, stated, allele, none, alternates, are_alleles, alternates_sound, is_record, comment}
 use Rattle.vcf.proofs.Marks.{cut-next, cut-last}
 
 pub comment-empty : (l : List ℕ) → length l ≡ 0 → comment l ≡ false
@@ -44,16 +44,6 @@ allele-is s r n e =
     (λ (l : ¬ (r < length s)).
     let m : first_not letter s ≡ length s = omega (arith, first-le letter s) in
     rw (some, first-every letter s m) (eq-eqb r (length s) (e ∙ m)))
-
-pub none-not : (a : List ℕ) → (length a ≡ 1 → ⊥) → none a ≡ false
-unfolding none
-none-not a n = same-lengths a (0x2E ∷ []) n
-
-pub none_is : (a : List ℕ) → length a ≡ 1 → eqb (get_or a 0 0) 0x2E ≡ none a
-unfolding none same
-none_is [] e = absurd (let z : ⊥ = omega arith in z)
-none_is (x ∷ []) e = sym (and-true (eqb x 0x2E))
-none_is (x ∷ y ∷ a) e = absurd (let z : ⊥ = omega arith in z)
 
 -- the pieces of an ALT field are asked one by one, from place `from` on
 pub record Asked (a : List ℕ) (from : ℕ) : Type 0 where
@@ -104,11 +94,28 @@ unfolding alternates_sound alternates are_alleles
 sound-few a e m = rw (e, le-leb (length (pieces 0x2C a)) 254 (ltb-false 254 (length (pieces 0x2C a)) m))
 
 -- a line is asked test by test
-abbrev pub found : List ℕ → List ℕ → ℕ
-found name l = cond (is_record name l) (position l) 0
+abbrev pub found : List ℕ → List ℕ → Option ℕ
+found name l = cond (is_record name l) (Some (position l)) None
+
+-- what was found says whether the line is a record, and where
+pub unsound : (b : Bool) (p : ℕ) {x : Option ℕ} → x ≡ cond b (Some p) None → x ≡ None → b ≡ false
+unsound true p e f = absurd (let x : ◌≡◌ {A = ℕ} 0 1 = cc in let y : ⊥ = omega arith in y)
+unsound false p e f = refl
+
+pub sounds : (b : Bool) (p : ℕ) {r : ℕ} {x : Option ℕ} → x ≡ cond b (Some p) None → x ≡ Some r → (b ≡ true) × (p ≡ r)
+sounds true p e f = (refl, cc)
+sounds false p e f = absurd (let x : ◌≡◌ {A = ℕ} 0 1 = cc in let y : ⊥ = omega arith in y)
+
+pub unsounds : (b : Bool) (p : ℕ) {x : Option ℕ} {r : Bool} → x ≡ cond b (Some p) None → is_some x ≡ not r → r ≡ true → b ≡ false
+unsounds true p e f g = absurd (let x : ◌≡◌ {A = ℕ} 0 1 = cc in let y : ⊥ = omega arith in y)
+unsounds false p e f g = refl
+
+pub sounded : (b : Bool) (p : ℕ) {x : Option ℕ} {r : Bool} → x ≡ cond b (Some p) None → is_some x ≡ not r → r ≡ false → b ≡ true
+sounded true p e f g = refl
+sounded false p e f g = absurd (let x : ◌≡◌ {A = ℕ} 0 1 = cc in let y : ⊥ = omega arith in y)
 
 module _ (name l : List ℕ) where
-  pub few-fields : ltb 7 (length (pieces 0x09 l)) ≡ false → found name l ≡ 0
+  pub few-fields : ltb 7 (length (pieces 0x09 l)) ≡ false → found name l ≡ None
   unfolding is_record
   few-fields e = rw (lt-leb 8 (length (pieces 0x09 l)) (omega (arith, ltb-false 7 (length (pieces 0x09 l)) e)))
 
@@ -116,29 +123,29 @@ module _ (name l : List ℕ) where
     fields : leb 8 (length (pieces 0x09 l)) ≡ true
     fields = le-leb 8 (length (pieces 0x09 l)) (omega (arith, ltb-true 7 (length (pieces 0x09 l)) enough))
 
-    pub wrong_name : same (field l 0) name ≡ false → found name l ≡ 0
+    pub wrong_name : same (field l 0) name ≡ false → found name l ≡ None
     unfolding is_record
     wrong_name e = rw (fields, e)
 
     module _ (named : same (field l 0) name ≡ true) where
-      pub wrong-reference : allele (field l 3) ≡ false → found name l ≡ 0
+      pub wrong-reference : allele (field l 3) ≡ false → found name l ≡ None
       unfolding is_record
       wrong-reference e = rw (fields, named, e)
 
       module _ (refd : allele (field l 3) ≡ true) where
-        pub wrong-alternates : alternates_sound (field l 4) ≡ false → found name l ≡ 0
+        pub wrong-alternates : alternates_sound (field l 4) ≡ false → found name l ≡ None
         unfolding is_record
         wrong-alternates e = rw (fields, named, refd, e)
 
-        pub stated-position : alternates_sound (field l 4) ≡ true → found name l ≡ position l
+        pub stated-position : alternates_sound (field l 4) ≡ true → found name l ≡ stated (position l)
         unfolding is_record
         stated-position e = rw (fields, named, refd, e) (kept (position l))
           where
-            kept : (p : ℕ) → cond (ltb 0 p) p 0 ≡ p
+            kept : (p : ℕ) → cond (ltb 0 p) (Some p) None ≡ stated p
             kept p =
                 by_cases (dec_lt 0 p)
-                (λ (m : 0 < p). rw (lt-ltb 0 p m))
-                (λ (m : ¬ (0 < p)). rw (le-ltb 0 p (omega arith)) (omega arith))
+                (λ (m : 0 < p). rw (lt-ltb 0 p m, ne_eqb p 0 (λ (z : p ≡ 0). omega arith)))
+                (λ (m : ¬ (0 < p)). rw (le-ltb 0 p (omega arith), eq-eqb p 0 (omega arith)))
 
 -- a test of a part that a call handed out
 pub through : (f : List ℕ → Bool) {x y : List ℕ} {r b : Bool} → x ≡ y → r ≡ f x → r ≡ b → f y ≡ b

@@ -24,7 +24,8 @@ use Rattle.vcf.specs.Pieces.{pieces, lines}
 use Rattle.vcf.specs.Records.{heading, field, position, reference, alts, behind, allele, alternates_sound, is_record, placed}
 use Rattle.vcf.specs.Records.{outside, agrees, passed_over, comment, fitting, records, noted}
 use Rattle.vcf.specs.Building.{gap, text_from, building}
-use Rattle.vcf.specs.Measures.{Measure, measure_of, measuring}
+use Rattle.vcf.specs.Measures.{measure_of, measuring}
+use Rattle.vcf.specs.declared.measuring.Measured.{Measured}
 use Rattle.vcf.proofs.Alone.{one-segment}
 
 -- lines of which none is a record, and lines of which one is: that one is asked, at its number
@@ -167,7 +168,7 @@ module _ (name l : List ℕ) where
 
     -- a record that is measured is built, where there is room, and its segment has the bytes that were measured
     pub measured_built :
-        (m : Measure) → measuring name l ≡ ok m → first_segment + m.bytes ≤ room → (answer ≡ ok T) × (m ≡ measure_of l)
+        (m : Measured) → measuring name l ≡ ok m → first_segment + m.bytes ≤ room → (answer ≡ ok T) × (m ≡ measure_of l)
     unfolding measuring
     measured_built m e fits =
         let (put, e1) = demand-met (placed (field l 3) (position l)) 28 0 _ m e in
@@ -175,7 +176,7 @@ module _ (name l : List ℕ) where
         let (sound, e3) = demand-met (is_record name l) 19 0 _ m e2 in
         let (U, u, e4) = after-met (putting T greatest_stretch) (λ _. ok (measure_of l)) m e3 in
         let is : measure_of l ≡ m = ok-inj e4 in
-        let bytes : (measure_of l).bytes ≡ m.bytes = ap (λ (x : Measure). x.bytes) is in
+        let bytes : (measure_of l).bytes ≡ m.bytes = ap (λ (x : Measured). x.bytes) is in
         let size : length (encode T) ≤ room = omega (arith, one-segment (reference l ∷ alts l), bytes) in
         (alone-built.1 ∙ rw (put, spelt, sound, roomy U room u size), sym is)
 

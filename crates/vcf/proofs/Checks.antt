@@ -1,7 +1,7 @@
 -- Laws of the call: each refusal of the code is the definition's, in its order, whatever the room is.
 use Prim.Native.Nat.{ℕ, ◌<◌, ◌≤◌}
 use native.Mathlib.Omega.{arith}
-use mathlib.Core.Path.{◌≡◌, sym, ap, ◌∙◌}
+use mathlib.Core.Path.{◌≡◌, refl, sym, ap, ap₂, ◌∙◌}
 use mathlib.Core.Bool.{true, false}
 use mathlib.Core.List.{List}
 use lib.ListN.{length}
@@ -9,9 +9,9 @@ use borrow.Author.Tests.{le-leb, lt-leb}
 use Rattle.text.specs.Letter.{letter, meant, every, first_not}
 use Rattle.text.specs.Text.{Text}
 use Rattle.text.specs.Compare.{prefix}
-use Rattle.text.specs.Refusal.{Outcome, ok, refused, after}
+use Rattle.text.specs.Refusal.{Outcome, ok, refused, after, outcome}
 use Rattle.text.proofs.Letters.{first-le, first-every, first-not-every}
-use Rattle.text.proofs.Outcomes.{told-met, told-refused}
+use Rattle.text.proofs.Outcomes.{refused-ok, refused-inj, after-met}
 use Rattle.layout.specs.Encoding.{encode}
 use Rattle.writer.specs.Putting.{putting}
 use Rattle.vcf.specs.Pieces.{lines}
@@ -19,12 +19,21 @@ use Rattle.vcf.specs.Records.{heading, placed, records, touching}
 use Rattle.vcf.proofs.Kept.{kept}
 use Rattle.vcf.proofs.Windows.{placed-meant}
 use Rattle.vcf.specs.Building.{text_from, window_text, building}
-use Rattle.vcf.specs.Tallies.{nothing, tally_text}
+use Rattle.std.proofs.Common.{Result, Ok, Err}
+use Rattle.text.specs.declared.refusal.Refusal.{Refusal}
+use Rattle.text.proofs.Told.{told-once}
+use Rattle.vcf.specs.Tallies.{Tally, nothing, tally_text}
 use Rattle.vcf.specs.Steps.{Starting, scan_from, scanning}
 use Rattle.vcf.specs.Surveys.{Readable, Built, Unbuilt}
 use Rattle.vcf.specs.declared.survey.needed.Needed.{Needed}
-use Rattle.vcf.specs.declared.survey.needed.Needed.TheVariants.{Fits, Repeated, Long}
 use Rattle.vcf.proofs.Verdicts.{told-long, told-repeated, told-fits, Fitting}
+
+-- what is told is what was answered
+told-ok : {A : Type 0} (x : Result A Refusal) (a : A) → outcome x ≡ ok a → x ≡ Ok a
+told-ok x a e = told-once x (Ok a) e
+
+refused-alike : {A B : Type 0} {m q n k : ℕ} → ◌≡◌ {A = Outcome A} (refused m q) (refused n k) → ◌≡◌ {A = Outcome B} (refused m q) (refused n k)
+refused-alike e = let (i, j) = refused-inj e in ap₂ refused i j
 
 module _ (file window : List ℕ) (p : ℕ) (name : List ℕ) where
   abbrev answer : ℕ → Outcome Text
@@ -59,25 +68,33 @@ module _ (file window : List ℕ) (p : ℕ) (name : List ℕ) where
         unfolding building
         from-records room = rw (put, begun, spelt)
 
-        pub survey-record : (k : ℕ) → scanning name w p file ≡ refused 19 k → Unbuilt file window p name 19 k
+        -- what the records are refused for, and then what their text needs
+        pub survey-refused : (n k : ℕ) → scanning name w p file ≡ refused n k → Unbuilt file window p name n k
         unfolding scanning scan_from
-        survey-record k e =
-            let h : records name w p 1 0 (lines file) ≡ refused 19 k
-            = told-refused (records name w p 1 0 (lines file)) (λ rs. tally_text nothing (text_from w p 0 rs)) 19 k e in
-            record { always = λ room. from-records room ∙ rw h }
+        survey-refused n k e = record { always = λ room. from-records room ∙ step room (records name w p 1 0 (lines file)) e }
+          where
+            text : (room : ℕ) (T : Text) (t : Tally) → tally_text nothing T ≡ t → outcome t ≡ refused n k → putting T room ≡ refused n k
+            text room T (Ok t) h e = absurd (refused-ok n k t (sym e))
+            text room T (Err r) h e = told-long T room h ∙ refused-alike e
+
+            step :
+                (room : ℕ) (o : Outcome (List (List ℕ))) → after o (λ rs. outcome (tally_text nothing (text_from w p 0 rs))) ≡ refused n k →
+                after o (λ ls. putting (text_from w p 0 ls) room) ≡ refused n k
+            step room (ok ls) e = text room (text_from w p 0 ls) (tally_text nothing (text_from w p 0 ls)) refl e
+            step room (refused m q) e = refused-alike e
 
         module _ (t : Needed) (e : scanning name w p file ≡ ok t) where
-          -- the records, and the needed of their text
+          -- the records, and what their text needs
           pub record Tallied : Type 0 where
             pub kept : List (List ℕ)
             pub accepted : records name w p 1 0 (lines file) ≡ ok kept
-            pub needed : tally_text nothing (text_from w p 0 kept) ≡ t
+            pub needed : tally_text nothing (text_from w p 0 kept) ≡ Ok t
 
           keeps : Tallied
           unfolding scanning scan_from
           keeps =
-              let m = told-met (records name w p 1 0 (lines file)) (λ rs. tally_text nothing (text_from w p 0 rs)) t e in
-              record { kept = m.0; accepted = m.1; needed = m.2 }
+              let m = after-met (records name w p 1 0 (lines file)) (λ rs. outcome (tally_text nothing (text_from w p 0 rs))) t e in
+              record { kept = m.0; accepted = m.1; needed = told-ok (tally_text nothing (text_from w p 0 m.0)) t m.2 }
 
           abbrev T : Text
           T = text_from w p 0 keeps.kept
@@ -85,27 +102,26 @@ module _ (file window : List ℕ) (p : ℕ) (name : List ℕ) where
           from-text : (room : ℕ) → answer room ≡ putting T room
           from-text room = from-records room ∙ rw keeps.accepted
 
-          pub survey-long : t ≡ Long → Unbuilt file window p name 4 0
-          survey-long f = record { always = λ room. from-text room ∙ told-long T room (keeps.needed ∙ f) }
-
-          pub survey-repeated : (b k : ℕ) → t ≡ Repeated b k → Unbuilt file window p name 8 k
-          survey-repeated b k f = record { always = λ room. from-text room ∙ told-repeated T room b k (keeps.needed ∙ f) }
+          pub survey-repeated : {r : Refusal} → t.variants ≡ Err r → Unbuilt file window p name r.number r.place
+          survey-repeated f = record { always = λ room. from-text room ∙ told-repeated T room keeps.needed f }
 
           -- the records are the lines that have a base in the window
           of-lines : keeps.kept ≡ touching w p (lines file)
           of-lines = (kept name w p (lines file) keeps.kept 1 0 keeps.accepted).0
 
-          module _ (b g v : ℕ) (f : t ≡ Fits b g v) where
-            fit : (room : ℕ) → Fitting T room b g
-            fit room = told-fits T room b g v (keeps.needed ∙ f)
+          module _ {v : ℕ} (f : t.variants ≡ Ok v) where
+            fit : (room : ℕ) → Fitting T room keeps.needed
+            fit room = told-fits T room keeps.needed f
 
-            short : (room : ℕ) → room < b → answer room ≡ refused 15 0
-            short room m = from-text room ∙ (fit room).asks ∙ rw (lt-leb b room m)
+            short : (room : ℕ) → room < t.bytes → answer room ≡ refused 15 0
+            short room m = from-text room ∙ (fit room).asks ∙ rw (lt-leb t.bytes room m)
 
-            whole : (room : ℕ) → b ≤ room → answer room ≡ ok (window_text w p file)
-            whole room m = from-text room ∙ (fit room).asks ∙ rw (le-leb b room m, of-lines)
+            whole : (room : ℕ) → t.bytes ≤ room → answer room ≡ ok (window_text w p file)
+            whole room m = from-text room ∙ (fit room).asks ∙ rw (le-leb t.bytes room m, of-lines)
 
-            readable : {start n : ℕ} → Starting name w p file start n → (room : ℕ) → b ≤ room → Readable w p file start n g room
+            readable :
+                {start n : ℕ} → Starting name w p file start n → (room : ℕ) → t.bytes ≤ room →
+                Readable w p file start n t.segments room
             readable {start} {n} a room m =
                 record {
                   put = survey-placed;
@@ -119,7 +135,7 @@ module _ (file window : List ℕ) (p : ℕ) (name : List ℕ) where
                   fits = rw (← of-lines) (let l : length (encode T) ≤ room = omega (arith, (fit room).bytes) in l);
                 }
 
-            pub survey-fits : {start n : ℕ} → Starting name w p file start n → Built file window p name b g start n
+            pub survey-fits : {start n : ℕ} → Starting name w p file start n → Built file window p name t.bytes t.segments start n
             survey-fits a =
                 record {
                   size = rw (← of-lines) (sym (fit 0).bytes);

@@ -5,21 +5,14 @@ use native.Mathlib.Omega.{arith}
 use mathlib.Core.Path.{◌≡◌, refl, ◌∙◌}
 use mathlib.Core.Bool.{Bool, true, false, ◌&&◌, cond}
 use mathlib.Core.List.{List, [], ◌∷◌}
-use lib.Dec.{leb}
+use lib.Dec.{eqb, leb}
 use lib.ListN.{length, drop, get_or, drop_of_length-le}
 use lib.Seq.{drop-cons}
-use borrow.Author.Tests.{le-leb, lt-leb, leb-true}
+use borrow.Author.Tests.{le-leb, lt-leb, leb-true, eq-eqb, ne_eqb, eqb-true}
 use Rattle.text.specs.Letter.{every}
 use Rattle.text.proofs.Truth.{and-false, and_left, and_right}
-use Rattle.vcf.specs.Records.{digit, decimal, last_position, position_of}
-
-pub digit_low : (c : ℕ) → c < 48 → digit c ≡ false
-unfolding digit
-digit_low c l = rw (lt-leb 48 c l)
-
-pub digit-high : (c : ℕ) → 48 ≤ c → leb c 57 ≡ digit c
-unfolding digit
-digit-high c l = rw (le-leb 48 c l)
+use Rattle.std.proofs.Common.{Option, None, Some}
+use Rattle.vcf.specs.Records.{digit, decimal, last_position, position_of, stated}
 
 pub digit-range : (c : ℕ) → digit c ≡ true → (48 ≤ c) × (c ≤ 57)
 unfolding digit
@@ -75,6 +68,27 @@ module _ {s : List ℕ} {n i : ℕ} (h : Digits s n i) (l : i < length s) where
 pub digits-end : {s : List ℕ} {n i : ℕ} → Digits s n i → length s ≤ i → position_of s ≡ n
 unfolding read_on every decimal
 digits-end {s} {n} {i} h l = h.rest ∙ rw (drop_of_length-le s l, le-leb n last_position h.small)
+
+-- what is stated, and that nothing is
+pub stated-none : {p : ℕ} → p ≡ 0 → None ≡ stated p
+stated-none {p} e = rw (eq-eqb p 0 e)
+
+pub stated-some : {p n : ℕ} → p ≡ n → (n ≡ 0 → ⊥) → Some n ≡ stated p
+stated-some {p} {n} e m = rw (e, ne_eqb n 0 m)
+
+pub states-none : {p : ℕ} {x : Option ℕ} → x ≡ stated p → x ≡ None → p ≡ 0
+states-none {p} {x} e f = step (eqb p 0) refl e
+  where
+    step : (b : Bool) → eqb p 0 ≡ b → x ≡ cond b None (Some p) → p ≡ 0
+    step true h e = eqb-true p 0 h
+    step false h e = absurd (let x : ◌≡◌ {A = ℕ} 0 1 = cc in let y : ⊥ = omega arith in y)
+
+pub states-some : {p r : ℕ} {x : Option ℕ} → x ≡ stated p → x ≡ Some r → r ≡ p
+states-some {p} {r} {x} e f = step (eqb p 0) e
+  where
+    step : (b : Bool) → x ≡ cond b None (Some p) → r ≡ p
+    step true e = absurd (let x : ◌≡◌ {A = ℕ} 0 1 = cc in let y : ⊥ = omega arith in y)
+    step false e = cc
 
 pub position-small : (s : List ℕ) → position_of s ≤ last_position
 unfolding position_of

@@ -1,5 +1,4 @@
 -- Laws of the definitions in specs/, and the theorems about the calls.
-pub mod Told
 pub mod Marks
 pub mod Meant
 pub mod Digits

@@ -30,7 +30,7 @@ use Rattle.vcf.specs.Emission.{gap_of, line_text, line_base, line_left, Lies, Pl
 use Rattle.vcf.proofs.Marks.{lines_next, lines_none, next-behind}
 use Rattle.vcf.proofs.Meant.{alternates-meant}
 use Rattle.vcf.proofs.Scanning.{nothing-in}
-use Rattle.vcf.proofs.Windows.{placed-small, outside-capped, outside-some, agrees-inside}
+use Rattle.vcf.proofs.Windows.{placed-some, placed-small, outside-capped, outside-some, agrees-inside}
 
 abbrev pub bytes : Text → List ℕ
 bytes T = bytes_of encode_segment T
@@ -51,6 +51,14 @@ module _ (w : List ℕ) (p base : ℕ) (l : List ℕ) where
   pub idle-comment : comment l ≡ true → idle w p l ≡ true
   unfolding idle
   idle-comment e = rw e
+
+  -- a line that has no position
+  pub idle-nowhere : position l ≡ 0 → placed w p ≡ true → {left : ℕ} → (idle w p l ≡ false → Lies w p base left l) → idle w p l ≡ true
+  idle-nowhere e put {left} lies = step (idle w p l) refl
+    where
+      step : (b : Bool) → idle w p l ≡ b → b ≡ true
+      step true h = refl
+      step false h = absurd (let z : ⊥ = omega (arith, e, lies h, placed-some w p put) in z)
 
   -- a line that adds nothing
   pub idle-line :

@@ -8,9 +8,9 @@ use mathlib.Core.List.{List, [], ◌∷◌, ◌++◌, append_assoc, append-nil}
 use lib.Dec.{eqb, leb, ltb}
 use lib.ListN.{length, drop, length-append}
 use borrow.Author.Tests.{le-leb, lt-leb, leb-true, ltb-true, eqb-true}
-use Rattle.text.specs.Refusal.{Outcome, ok, refused, after}
+use Rattle.text.specs.Refusal.{Outcome, ok, refused, after, outcome}
 use Rattle.text.proofs.Outcomes.{ok-inj, after-after}
-use Rattle.text.proofs.Truth.{and_left, and_right, not-true-false}
+use Rattle.text.proofs.Truth.{and_left, and_right}
 use Rattle.text.specs.Letter.{letter, meant, every}
 use Rattle.text.proofs.Likes.{meant-length}
 use Rattle.text.specs.Compare.{same}
@@ -20,59 +20,40 @@ use Rattle.vcf.specs.Records.{allele, alternates_sound, beyond, field, position,
 use Rattle.vcf.specs.Records.{is_record, outside, agrees, passed_over, comment, fitting, records}
 use Rattle.vcf.specs.Records.{placed}
 use Rattle.vcf.specs.Building.{gap, text_from}
-use Rattle.vcf.specs.Tallies.{nothing, opened, tallied, tally_in, tally_text}
+use Rattle.vcf.specs.Tallies.{Tally, nothing, opened, spaced, tally_in, tally_text}
 use Rattle.vcf.specs.Steps.{over_record, behind_record, line_step, Reach, Starting, scan_from, scanning}
 use Rattle.vcf.specs.declared.survey.needed.Needed.{Needed}
 use Rattle.vcf.specs.declared.survey.scan.Reached.{Reached}
-use Rattle.vcf.specs.declared.survey.scan.Onward.TheVariants.{Passed, Wrong}
+use Rattle.std.proofs.Common.{None, Some, Ok, Err}
+use Rattle.text.specs.declared.refusal.Refusal.{Refusal}
 use Rattle.vcf.proofs.Marks.{lines_next, lines_none, next-behind}
 use Rattle.vcf.proofs.Meant.{alternates-meant}
 use Rattle.vcf.proofs.Digits.{position-small}
-use Rattle.vcf.proofs.Alleles.{found}
 use Rattle.vcf.proofs.Windows.{same-leb, placed-small, outside-capped, outside-some, agrees-inside}
-use Rattle.vcf.proofs.Tallying.{gap-tally, tally-append, sane-opened, sane-in, sane-text}
-
--- what the position of a line says: 0 where it is no record
-pub found_none : (name l : List ℕ) → found name l ≡ 0 → is_record name l ≡ false
-unfolding is_record
-found_none name l e =
-    not-true-false (is_record name l) (λ (h : is_record name l ≡ true).
-    let k : 0 < position l =
-    ltb-true 0 (position l)
-    (and_right (leb 8 (length (pieces 0x09 l)) && same (field l 0) name && allele (field l 3) && alternates_sound (field l 4))
-    (ltb 0 (position l)) h) in
-    let z : position l ≡ 0 = sym (rw h) ∙ e in
-    omega arith)
-
-pub found_some : (name l : List ℕ) (r : ℕ) → r ≡ found name l → (r ≡ 0 → ⊥) → (is_record name l ≡ true) × (position l ≡ r)
-found_some name l r e n = step (is_record name l) e
-  where
-    step : (b : Bool) → r ≡ cond b (position l) 0 → (b ≡ true) × (position l ≡ r)
-    step true h = (refl, sym h)
-    step false h = absurd (n h)
+use Rattle.vcf.proofs.Tallying.{gap-tally, spaced-err, tally-append, sane-opened, sane-in, sane-text}
 
 module _ (name w : List ℕ) (p : ℕ) (s : Reached) (l : List ℕ) where
-  pub step-comment : comment l ≡ true → Passed s ≡ line_step name w p s l
+  pub step-comment : comment l ≡ true → Some s ≡ line_step name w p s l
   unfolding line_step
   step-comment e = rw e
 
   module _ (plain : comment l ≡ false) where
-    step-wrong : fitting name w p s.from l ≡ false → Wrong ≡ line_step name w p s l
+    step-wrong : fitting name w p s.from l ≡ false → None ≡ line_step name w p s l
     unfolding line_step
     step-wrong e = rw (plain, e)
 
-    pub step-unsound : found name l ≡ 0 → Wrong ≡ line_step name w p s l
+    pub step-unsound : is_record name l ≡ false → None ≡ line_step name w p s l
     unfolding fitting
-    step-unsound e = step-wrong (rw (found_none name l e))
+    step-unsound e = step-wrong (rw e)
 
-    module _ (r : ℕ) (is : r ≡ found name l) (some : r ≡ 0 → ⊥) where
+    module _ (r : ℕ) (found : (is_record name l ≡ true) × (position l ≡ r)) where
       sound : is_record name l ≡ true
-      sound = (found_some name l r is some).0
+      sound = found.0
 
       at : position l ≡ r
-      at = (found_some name l r is some).1
+      at = found.1
 
-      pub step-early : r < s.from → Wrong ≡ line_step name w p s l
+      pub step-early : r < s.from → None ≡ line_step name w p s l
       unfolding fitting
       step-early m = step-wrong (rw (sound, at, lt-leb s.from r m))
 
@@ -89,13 +70,13 @@ module _ (name w : List ℕ) (p : ℕ) (s : Reached) (l : List ℕ) where
           unfolding fitting
           fit c e = rw (sound, over, le-leb s.from (position l) (omega (arith, at))) (ap (λ (x : Bool). b || x) (rw (at, ← refd, e)))
 
-        pub step-over : true ≡ outside w p r end → Passed (record { from = end; base = s.base; kept = s.kept; needed = s.needed })
+        pub step-over : true ≡ outside w p r end → Some (record { from = end; base = s.base; kept = s.kept; needed = s.needed })
             ≡ line_step name w p s l
         unfolding line_step
         step-over out = rw (plain, fit true out (agrees w p r ref) refl, over true out, ending)
 
         module _ (out : false ≡ outside w p r end) where
-          pub step-apart : false ≡ agrees w p r ref → Wrong ≡ line_step name w p s l
+          pub step-apart : false ≡ agrees w p r ref → None ≡ line_step name w p s l
           step-apart e = step-wrong (fit false out false e)
 
           module _ (e : true ≡ agrees w p r ref) where
@@ -109,16 +90,16 @@ module _ (name w : List ℕ) (p : ℕ) (s : Reached) (l : List ℕ) where
             step-bounds h = (lies.0, omega (arith, lies), omega (arith, lies, small))
 
             pub step_in :
-                (alt : List ℕ) → alt ≡ meant (field l 4) → (t u : Needed) →
-                t ≡ cond (ltb 0 (r - p - s.base)) (tallied (opened s.needed) (r - p - s.base) false) s.needed →
-                u ≡ tally_in (opened t) [] (ref ∷ alternates alt) →
-                Passed (record { from = end; base = end - p; kept = s.kept + 1; needed = u }) ≡ line_step name w p s l
+                (alt : List ℕ) → alt ≡ meant (field l 4) → (u : Tally) →
+                u ≡ tally_in (opened (spaced s.needed (r - p - s.base))) [] (ref ∷ alternates alt) →
+                Some (record { from = end; base = end - p; kept = s.kept + 1; needed = u }) ≡ line_step name w p s l
             unfolding line_step
-            step_in alt a t u f g =
+            step_in alt a u g =
                 let whole : end ≡ behind l =
                 ending ∙ (let h : min beyond (behind l) ≡ behind l = omega (arith, lies, small, at, ap length refd) in h) in
                 let room : r - p ≤ length w = omega (arith, lies) in
-                let gapped : t ≡ tally_text s.needed (gap w s.base (r - p)) = f ∙ sym (gap-tally s.needed w s.base (r - p) room) in
+                let gapped : spaced s.needed (r - p - s.base) ≡ tally_text s.needed (gap w s.base (r - p)) =
+                sym (gap-tally s.needed w s.base (r - p) room) in
                 let told : u ≡ tally_in (opened (tally_text s.needed (gap w s.base (position l - p)))) [] (reference l ∷ alts l) =
                 g ∙ rw (gapped, refd, a, at, alternates-meant (field l 4)) in
                 let based : end - p ≡ behind l - p = ap (λ (x : ℕ). x - p) whole in
@@ -174,12 +155,12 @@ module _ (name w : List ℕ) (p : ℕ) (s : Reached) (l : List ℕ) (n g : ℕ) 
       abbrev rest : Outcome (List (List ℕ))
       rest = records name w p (suc n) (behind l) ls
 
-      abbrev told : List (List ℕ) → Outcome Needed
-      told rs = ok (tally_text s.needed (text_from w p s.base rs))
+      abbrev tell : List (List ℕ) → Outcome Needed
+      tell rs = outcome (tally_text s.needed (text_from w p s.base rs))
 
       turn-over : passed_over w p l ≡ true → whole ≡ scan_from name w p (suc n) (behind l) s.base s.needed ls
       unfolding scan_from records
-      turn-over e = rw (plain, fitting-capped name w p s.from g l capped, fits, e) (after-after rest (λ rs. ok rs) told)
+      turn-over e = rw (plain, fitting-capped name w p s.from g l capped, fits, e) (after-after rest (λ rs. ok rs) tell)
 
       turn_in :
           passed_over w p l ≡ false →
@@ -187,9 +168,9 @@ module _ (name w : List ℕ) (p : ℕ) (s : Reached) (l : List ℕ) (n g : ℕ) 
       unfolding scan_from records text_from tally_text
       turn_in e =
           rw (plain, fitting-capped name w p s.from g l capped, fits, e)
-          (after-after rest (λ rs. ok (l ∷ rs)) told
-          ∙ after_same rest (λ rs. told (l ∷ rs)) (λ rs. ok (tally_text (behind_record w p s l).needed (text_from w p (behind l - p) rs)))
-          (λ rs. ap ok (tally-append (gap w s.base (position l - p)) ((reference l ∷ alts l) ∷ text_from w p (behind l - p) rs)
+          (after-after rest (λ rs. ok (l ∷ rs)) tell
+          ∙ after_same rest (λ rs. tell (l ∷ rs)) (λ rs. outcome (tally_text (behind_record w p s l).needed (text_from w p (behind l - p) rs)))
+          (λ rs. ap outcome (tally-append (gap w s.base (position l - p)) ((reference l ∷ alts l) ∷ text_from w p (behind l - p) rs)
           s.needed)))
 
   -- what a line that passes adds to the records
@@ -262,25 +243,25 @@ module _ (name w : List ℕ) (p : ℕ) (s : Reached) (l : List ℕ) (n g : ℕ) 
           few = omega (arith, lies, late, r.few, r.passed, some-reference name l recorded);
         }
 
-  pub line-wrong : line_step name w p s l ≡ Wrong → whole ≡ refused 19 n
+  pub line-wrong : line_step name w p s l ≡ None → whole ≡ refused 19 n
   unfolding line_step
   line-wrong e = cases (comment l) (fitting name w p s.from l) refl refl
     where
       cases : (b c : Bool) → comment l ≡ b → fitting name w p s.from l ≡ c → whole ≡ refused 19 n
-      cases true c h k = let z : Passed s ≡ Wrong = sym (rw h) ∙ e in absurd (let x : ◌≡◌ {A = ℕ} 0 1 = cc in let y : ⊥ = omega arith in y)
+      cases true c h k = let z : Some s ≡ None = sym (rw h) ∙ e in absurd (let x : ◌≡◌ {A = ℕ} 0 1 = cc in let y : ⊥ = omega arith in y)
       cases false false h k = turn-wrong h k
       cases false true h k =
           let t : Reached = cond (passed_over w p l) (over_record s l) (behind_record w p s l) in
-          let z : Passed t ≡ Wrong = sym (rw (h, k)) ∙ e in
+          let z : Some t ≡ None = sym (rw (h, k)) ∙ e in
           absurd (let x : ◌≡◌ {A = ℕ} 0 1 = cc in let y : ⊥ = omega arith in y)
 
-  pub line-passed : (s' : Reached) → Reach w p s → line_step name w p s l ≡ Passed s' → Behind s'
+  pub line-passed : (s' : Reached) → Reach w p s → line_step name w p s l ≡ Some s' → Behind s'
   unfolding line_step
   line-passed s' r e = cases (comment l) (fitting name w p s.from l) (passed_over w p l) refl refl refl
     where
       cases : (b c d : Bool) → comment l ≡ b → fitting name w p s.from l ≡ c → passed_over w p l ≡ d → Behind s'
       cases true c d h k m =
-          let z : Passed s ≡ Passed s' = sym (rw h) ∙ e in
+          let z : Some s ≡ Some s' = sym (rw h) ∙ e in
           let y : s ≡ s' = cc in
           rw (← y) record {
             from = g;
@@ -293,10 +274,10 @@ module _ (name w : List ℕ) (p : ℕ) (s : Reached) (l : List ℕ) (n g : ℕ) 
                 more-comment h;
           }
       cases false false d h k m =
-          let z : Wrong ≡ Passed s' = sym (rw (h, k)) ∙ e in
+          let z : None ≡ Some s' = sym (rw (h, k)) ∙ e in
           absurd (let x : ◌≡◌ {A = ℕ} 0 1 = cc in let y : ⊥ = omega arith in y)
       cases false true true h k m =
-          let z : Passed (over_record s l) ≡ Passed s' = sym (rw (h, k, m)) ∙ e in
+          let z : Some (over_record s l) ≡ Some s' = sym (rw (h, k, m)) ∙ e in
           let y : over_record s l ≡ s' = cc in
           rw (← y) record {
             from = behind l;
@@ -309,7 +290,7 @@ module _ (name w : List ℕ) (p : ℕ) (s : Reached) (l : List ℕ) (n g : ℕ) 
             more = more-over h k m;
           }
       cases false true false h k m =
-          let z : Passed (behind_record w p s l) ≡ Passed s' = sym (rw (h, k, m)) ∙ e in
+          let z : Some (behind_record w p s l) ≡ Some s' = sym (rw (h, k, m)) ∙ e in
           let y : behind_record w p s l ≡ s' = cc in
           rw (← y) record {
             from = behind l;
@@ -377,10 +358,10 @@ module _ {name w : List ℕ} {p : ℕ} {file : List ℕ} {at start passed : ℕ}
     here : scanning name w p file ≡ scan_from name w p (suc passed) h.from s.base s.needed (line ∷ left)
     here = h.rest ∙ rw (lines_next file at end l e)
 
-    pub scanning-wrong : line_step name w p s line ≡ Wrong → refused 19 (passed + 1) ≡ scanning name w p file
+    pub scanning-wrong : line_step name w p s line ≡ None → refused 19 (passed + 1) ≡ scanning name w p file
     scanning-wrong k = rw add-one (sym (here ∙ line-wrong name w p s line (suc passed) h.from h.cut left k))
 
-    module _ (s' : Reached) (k : line_step name w p s line ≡ Passed s') where
+    module _ (s' : Reached) (k : line_step name w p s line ≡ Some s') where
       passes : Behind name w p s line (suc passed) h.from h.cut left s'
       passes = line-passed name w p s line (suc passed) h.from h.cut left s' h.reach k
 
@@ -449,13 +430,21 @@ module _ {name w : List ℕ} {p : ℕ} {file : List ℕ} {at start passed : ℕ}
 
   module _ (l : length file ≤ at) where
     pub scanning-end :
-        (t : Needed) → t ≡ cond (ltb 0 (length w - s.base)) (tallied (opened s.needed) (length w - s.base) false) s.needed →
-        ok t ≡ scanning name w p file
+        (t : Tally) → t ≡ spaced s.needed (length w - s.base) → outcome t ≡ scanning name w p file
     unfolding scan_from records text_from
     scanning-end t e =
         let g : t ≡ tally_text s.needed (gap w s.base (length w)) =
         e ∙ sym (gap-tally s.needed w s.base (length w) (omega arith)) in
         sym (h.rest ∙ rw (lines_none file at l, g))
+
+    pub scanning-refused : {r : Refusal} → spaced s.needed (length w - s.base) ≡ Err r → refused r.number r.place ≡ scanning name w p file
+    scanning-refused {r} e = scanning-end (Err r) (sym e)
+
+    pub scanning-long : {r : Refusal} → s.needed ≡ Err r → refused r.number r.place ≡ scanning name w p file
+    scanning-long {r} e = scanning-refused (rw e (spaced-err r (length w - s.base)))
+
+    pub scanning-needs : {t : Needed} → spaced s.needed (length w - s.base) ≡ Ok t → ok t ≡ scanning name w p file
+    scanning-needs {t} e = scanning-end (Ok t) (sym e)
 
     pub scanning-starts : Starting name w p file start s.kept
     unfolding records

@@ -6,16 +6,16 @@ use mathlib.Core.Path.{◌≡◌, refl, sym, ◌∙◌}
 use mathlib.Core.Logic.{by_cases}
 use mathlib.Core.Bool.{Bool, true, false, ◌||◌, cond}
 use mathlib.Core.List.{List, [], ◌∷◌, ◌++◌, append_assoc}
-use lib.Dec.{leb, ltb}
+use lib.Dec.{ltb}
 use lib.ListN.{length, take, drop, length-take, length-drop, length-append}
 use lib.Seq.{take_at, take-nil}
-use borrow.Author.Tests.{le-leb, lt-leb, lt-ltb, le-ltb, leb-true}
+use borrow.Author.Tests.{lt-ltb, le-ltb, leb-true}
 use Rattle.text.specs.Text.{Variant, Segment, Text}
 use Rattle.text.specs.Bits.{any_of}
 use Rattle.text.specs.Letter.{meant}
 use Rattle.text.specs.Compare.{same, alike}
 use Rattle.text.proofs.Likes.{meant-length}
-use Rattle.text.proofs.Truth.{same_truth, or-false}
+use Rattle.text.proofs.Truth.{or-false}
 use Rattle.layout.specs.Bytes.{greatest_stretch, part}
 use Rattle.layout.specs.Reading.{among}
 use Rattle.layout.specs.Sizes.{first_variant, first_letter}
@@ -23,116 +23,91 @@ use Rattle.layout.proofs.Raised.{part-meant, alike-part}
 use Rattle.vcf.specs.Pieces.{pieces, end_of, Ends}
 use Rattle.vcf.specs.Records.{none, alternates}
 use Rattle.vcf.specs.Building.{gap}
-use Rattle.vcf.specs.Tallies.{within, opened, tallied, tally_in, tally_text, Sane}
+use Rattle.std.proofs.Common.{Result, Ok, Err, IfOk}
+use Rattle.text.specs.declared.refusal.Refusal.{Refusal}
+use Rattle.vcf.specs.Tallies.{Tally, within, needs, too_long, counted, grown, segmented, opened, recounted, tallied, spaced, tally_in}
+use Rattle.vcf.specs.Tallies.{tally_text, Sane}
 use Rattle.vcf.specs.declared.survey.needed.Needed.{Needed}
-use Rattle.vcf.specs.declared.survey.needed.Needed.TheVariants.{Fits, Repeated, Long}
 use Rattle.vcf.proofs.Marks.{cut-next, cut-last}
 use Rattle.vcf.proofs.Meant.{comma-ends, none-meant}
 
-pub fits_not : (b n : ℕ) → greatest_stretch < b → within (b + n) ≡ false
-fits_not b n l = lt-leb (b + n) greatest_stretch (omega arith)
-
-pub fits-is : (b n : ℕ) → b ≤ greatest_stretch → leb n (greatest_stretch - b) ≡ within (b + n)
-fits-is b n l =
-    same_truth (leb n (greatest_stretch - b)) (within (b + n))
-    (λ (e : leb n (greatest_stretch - b) ≡ true). le-leb (b + n) greatest_stretch (omega (arith, leb-true n (greatest_stretch - b) e)))
-    (λ (e : within (b + n) ≡ true). le-leb n (greatest_stretch - b) (omega (arith, leb-true (b + n) greatest_stretch e)))
-
--- the cases of a needed, as the code meets them
-module _ {t : Needed} {b g v : ℕ} (e : t ≡ Fits b g v) where
-  pub fits-sane : Sane t → (g ≤ b) × (v ≤ b) × (b ≤ greatest_stretch)
-  fits-sane s = rw e at s
-
-  pub open-fits : within (b + first_variant) ≡ true → Fits (b + first_variant) (g + 1) v ≡ opened t
-  open-fits h = rw (e, h)
-
-  pub open-long : within (b + first_variant) ≡ false → Long ≡ opened t
-  open-long h = rw (e, h)
-
-  module _ (n : ℕ) (again : Bool) where
-    pub variant-long : within (b + (n + first_letter)) ≡ false → Long ≡ tallied t n again
-    variant-long h = rw (e, h)
-
-    pub variant-again : within (b + (n + first_letter)) ≡ true → again ≡ true → Repeated (b + (n + first_letter)) v ≡ tallied t n again
-    variant-again h a = rw (e, h, a)
-
-    pub variant_fits : within (b + (n + first_letter)) ≡ true → again ≡ false → Fits (b + (n + first_letter)) g (v + 1) ≡ tallied t n again
-    variant_fits h a = rw (e, h, a)
-
-module _ {t : Needed} {b k : ℕ} (e : t ≡ Repeated b k) where
-  pub repeated-sane : Sane t → b ≤ greatest_stretch
-  repeated-sane s = rw e at s
-
-  pub open-repeated : within (b + first_variant) ≡ true → Repeated (b + first_variant) k ≡ opened t
-  open-repeated h = rw (e, h)
-
-  pub open-repeated-long : within (b + first_variant) ≡ false → Long ≡ opened t
-  open-repeated-long h = rw (e, h)
-
-  module _ (n : ℕ) (again : Bool) where
-    pub variant-repeated : within (b + (n + first_letter)) ≡ true → Repeated (b + (n + first_letter)) k ≡ tallied t n again
-    variant-repeated h = rw (e, h)
-
-    pub variant-repeated-long : within (b + (n + first_letter)) ≡ false → Long ≡ tallied t n again
-    variant-repeated-long h = rw (e, h)
-
-pub open-at-long : {t : Needed} → t ≡ Long → Long ≡ opened t
-open-at-long e = rw e
-
-pub variant-at-long : {t : Needed} (n : ℕ) (again : Bool) → t ≡ Long → Long ≡ tallied t n again
-variant-at-long n again e = rw e
-
-pub variant-huge : (t : Needed) (n : ℕ) (again : Bool) → greatest_stretch < n → Long ≡ tallied t n again
-variant-huge (Fits b g v) n again l = rw (lt-leb (b + (n + first_letter)) greatest_stretch (omega arith))
-variant-huge (Repeated b k) n again l = rw (lt-leb (b + (n + first_letter)) greatest_stretch (omega arith))
-variant-huge Long n again l = refl
-
 -- tallies stay sane
-pub sane-opened : (t : Needed) → Sane t → Sane (opened t)
-sane-opened (Fits b g v) s = step (within (b + first_variant)) (leb-true (b + first_variant) greatest_stretch)
-  where
-    step : (r : Bool) → (r ≡ true → b + first_variant ≤ greatest_stretch) → Sane (cond r (Fits (b + first_variant) (g + 1) v) Long)
-    step true h = let l : b + first_variant ≤ greatest_stretch = h refl in (omega arith, omega arith, l)
-    step false h = tt
-sane-opened (Repeated b k) s = step (within (b + first_variant)) (leb-true (b + first_variant) greatest_stretch)
-  where
-    step : (r : Bool) → (r ≡ true → b + first_variant ≤ greatest_stretch) → Sane (cond r (Repeated (b + first_variant) k) Long)
-    step true h = h refl
-    step false h = tt
-sane-opened Long s = tt
+few-more : (v : Result ℕ Refusal) {b c : ℕ} → IfOk v (λ x. x ≤ b) → b ≤ c → IfOk v (λ x. x ≤ c)
+few-more (Ok v) h l = omega arith
+few-more (Err r) h l = tt
 
-pub sane-tallied : (t : Needed) (n : ℕ) (again : Bool) → Sane t → Sane (tallied t n again)
-sane-tallied (Fits b g v) n again s = step (within (b + (n + first_letter))) again (leb-true (b + (n + first_letter)) greatest_stretch)
+few-counted : (v : Result ℕ Refusal) (again : Bool) {b c : ℕ} → IfOk v (λ x. x ≤ b) → b < c → IfOk (counted v again) (λ x. x ≤ c)
+few-counted (Ok v) true h l = tt
+few-counted (Ok v) false h l = omega arith
+few-counted (Err r) again h l = tt
+
+pub sane-grown : (t : Tally) (n : ℕ) → Sane t → Sane (grown t n)
+sane-grown (Ok t) n s = step (within (t.bytes + n)) (leb-true (t.bytes + n) greatest_stretch)
   where
     step :
-        (r a : Bool) → (r ≡ true → b + (n + first_letter) ≤ greatest_stretch) →
-        Sane (cond r (cond a (Repeated (b + (n + first_letter)) v) (Fits (b + (n + first_letter)) g (v + 1))) Long)
-    step true true h = h refl
-    step true false h = let l : b + (n + first_letter) ≤ greatest_stretch = h refl in (omega arith, omega arith, l)
-    step false a h = tt
-sane-tallied (Repeated b k) n again s = step (within (b + (n + first_letter))) (leb-true (b + (n + first_letter)) greatest_stretch)
-  where
-    step : (r : Bool) → (r ≡ true → b + (n + first_letter) ≤ greatest_stretch) → Sane (cond r (Repeated (b + (n + first_letter)) k) Long)
-    step true h = h refl
+        (r : Bool) → (r ≡ true → t.bytes + n ≤ greatest_stretch) → Sane (cond r (needs (t.bytes + n) t.segments t.variants) too_long)
+    step true h = (omega arith, few-more t.variants s.1 (omega arith), h refl)
     step false h = tt
-sane-tallied Long n again s = tt
+sane-grown (Err r) n s = tt
 
-pub sane-in : (g : Segment) (t : Needed) (seen : Segment) → Sane t → Sane (tally_in t seen g)
+pub sane-opened : (t : Tally) → Sane t → Sane (opened t)
+sane-opened (Ok t) s = step (within (t.bytes + first_variant)) (leb-true (t.bytes + first_variant) greatest_stretch)
+  where
+    step :
+        (r : Bool) → (r ≡ true → t.bytes + first_variant ≤ greatest_stretch) →
+        Sane (segmented (cond r (needs (t.bytes + first_variant) t.segments t.variants) too_long))
+    step true h = (omega arith, few-more t.variants s.1 (omega arith), h refl)
+    step false h = tt
+sane-opened (Err r) s = tt
+
+pub sane-tallied : (t : Tally) (n : ℕ) (again : Bool) → Sane t → Sane (tallied t n again)
+sane-tallied (Ok t) n again s = begun (within (t.bytes + first_letter))
+  where
+    whole :
+        (r : Bool) → (r ≡ true → t.bytes + first_letter + n ≤ greatest_stretch) →
+        Sane (recounted (cond r (needs (t.bytes + first_letter + n) t.segments t.variants) too_long) again)
+    whole true h = (omega arith, few-counted t.variants again s.1 (omega arith), h refl)
+    whole false h = tt
+
+    begun : (r : Bool) → Sane (recounted (grown (cond r (needs (t.bytes + first_letter) t.segments t.variants) too_long) n) again)
+    begun true = whole (within (t.bytes + first_letter + n)) (leb-true (t.bytes + first_letter + n) greatest_stretch)
+    begun false = tt
+sane-tallied (Err r) n again s = tt
+
+pub sane-in : (g : Segment) (t : Tally) (seen : Segment) → Sane t → Sane (tally_in t seen g)
 unfolding tally_in
 sane-in [] t seen s = s
 sane-in (v ∷ g) t seen s = sane-in g (tallied t (length v) (among v seen)) (seen ++ (v ∷ [])) (sane-tallied t (length v) (among v seen) s)
 
+-- what is too long stays so
+pub err-in : (r : Refusal) (seen g : Segment) → tally_in (Err r) seen g ≡ Err r
+unfolding tally_in
+err-in r seen [] = refl
+err-in r seen (v ∷ g) = err-in r (seen ++ (v ∷ [])) g
+
+pub tally-err : {t : Tally} {r : Refusal} (seen g : Segment) → t ≡ Err r → Err r ≡ tally_in t seen g
+tally-err {t} {r} seen g e = rw e (sym (err-in r seen g))
+
+pub sane-is : {t : Tally} {n : Needed} → t ≡ Ok n → Sane t → Sane (Ok n)
+sane-is e s = rw e at s
+
 -- bases between records
-pub gap-none : (t : Needed) (n : ℕ) → n ≡ 0 → t ≡ cond (ltb 0 n) (tallied (opened t) n false) t
+pub gap-none : (t : Tally) (n : ℕ) → n ≡ 0 → t ≡ spaced t n
 gap-none t n e = rw e
 
-pub gap-some : (t u r : Needed) (n : ℕ) → (n ≡ 0 → ⊥) → u ≡ opened t → r ≡ tallied u n false → r ≡ cond (ltb 0 n)
-    (tallied (opened t) n false) t
+pub gap-some : (t u r : Tally) (n : ℕ) → (n ≡ 0 → ⊥) → u ≡ opened t → r ≡ tallied u n false → r ≡ spaced t n
 gap-some t u r n m e f = rw (lt-ltb 0 n (omega (arith, m)), ← e) f
+
+pub spaced-err : (r : Refusal) (n : ℕ) → spaced (Err r) n ≡ Err r
+spaced-err r n = step (ltb 0 n)
+  where
+    step : (b : Bool) → cond b (tallied (opened (Err r)) n false) (Err r) ≡ Err r
+    step true = refl
+    step false = refl
 
 -- they are a segment of the text
 pub gap-tally :
-    (t : Needed) (w : List ℕ) (a b : ℕ) → b ≤ length w → tally_text t (gap w a b) ≡ cond (ltb 0 (b - a)) (tallied (opened t) (b - a) false) t
+    (t : Tally) (w : List ℕ) (a b : ℕ) → b ≤ length w → tally_text t (gap w a b) ≡ spaced t (b - a)
 unfolding gap tally_text tally_in among any_of
 gap-tally t w a b l =
     by_cases (dec_lt a b)
@@ -143,24 +118,28 @@ gap-tally t w a b l =
     let z : b - a ≡ 0 = omega arith in
     rw (le-ltb a b (omega arith), z))
 
-pub tally-append : (T U : Text) (t : Needed) → tally_text t (T ++ U) ≡ tally_text (tally_text t T) U
+pub tally-append : (T U : Text) (t : Tally) → tally_text t (T ++ U) ≡ tally_text (tally_text t T) U
 unfolding tally_text
 tally-append [] U t = refl
 tally-append (g ∷ T) U t = tally-append T U (tally_in (opened t) [] g)
 
-pub sane-text : (T : Text) (t : Needed) → Sane t → Sane (tally_text t T)
+pub sane-text : (T : Text) (t : Tally) → Sane t → Sane (tally_text t T)
 unfolding tally_text
 sane-text [] t s = s
 sane-text (g ∷ T) t s = sane-text T (tally_in (opened t) [] g) (sane-in g (opened t) [] (sane-opened t s))
 
 -- the segment of a record
-module _ (t : Needed) (ref a : List ℕ) (u : Needed) (e : u ≡ tallied (opened t) (length ref) false) where
+module _ (t : Tally) (ref a : List ℕ) (u : Tally) (e : u ≡ tallied (opened t) (length ref) false) where
   pub record-none : none a ≡ true → u ≡ tally_in (opened t) [] (meant ref ∷ alternates (meant a))
   unfolding tally_in alternates among any_of
   record-none n = rw (none-meant a, n, meant-length ref) e
 
+  pub record-err : {r : Refusal} → u ≡ Err r → Err r ≡ tally_in (opened t) [] (meant ref ∷ alternates (meant a))
+  unfolding tally_in among any_of
+  record-err {r} f = sym (err-in r (meant ref ∷ []) (alternates (meant a))) ∙ rw (← f, e, ← meant-length ref)
+
   pub record-some :
-      none a ≡ false → (r : Needed) → r ≡ tally_in u (meant ref ∷ []) (pieces 0x2C (meant a)) →
+      none a ≡ false → (r : Tally) → r ≡ tally_in u (meant ref ∷ []) (pieces 0x2C (meant a)) →
       r ≡ tally_in (opened t) [] (meant ref ∷ alternates (meant a))
   unfolding tally_in alternates among any_of
   record-some n r f = rw (none-meant a, n) (f ∙ rw (e, ← meant-length ref))
@@ -229,7 +208,7 @@ module _ {v a : List ℕ} {k from i : ℕ} (h : Compared v a k from i) where
   compared-end l = let z : k - i ≡ 0 = omega arith in h.rest ∙ rw z
 
 -- the alleles of ALT are tallied after REF: the first k of them are, and the others come next
-pub record Behind (t₀ : Needed) (ref a : List ℕ) (t : Needed) (from k : ℕ) : Type 0 where
+pub record Behind (t₀ : Tally) (ref a : List ℕ) (t : Tally) (from k : ℕ) : Type 0 where
   pub inside : from ≤ length a
   pub few : k ≤ from
   pub sane : Sane t
@@ -238,13 +217,13 @@ pub record Behind (t₀ : Needed) (ref a : List ℕ) (t : Needed) (from k : ℕ)
   pub are : pieces 0x2C (meant a) ≡ seen ++ pieces 0x2C (drop from (meant a))
   pub rest : tally_in t₀ (meant ref ∷ []) (pieces 0x2C (meant a)) ≡ tally_in t (meant ref ∷ seen) (pieces 0x2C (drop from (meant a)))
 
-pub behind-none : (t : Needed) (ref a : List ℕ) → Sane t → Behind t ref a t 0 0
+pub behind-none : (t : Tally) (ref a : List ℕ) → Sane t → Behind t ref a t 0 0
 behind-none t ref a s =
     record { inside = omega arith; few = omega arith; sane = s; seen = []; count = refl; are = refl; rest = refl }
 
-module _ {t₀ : Needed} {ref a : List ℕ} {t : Needed} {from k end : ℕ} (h : Behind t₀ ref a t from k) (e : Ends 0x2C a from end)
+module _ {t₀ : Tally} {ref a : List ℕ} {t : Tally} {from k end : ℕ} (h : Behind t₀ ref a t from k) (e : Ends 0x2C a from end)
     {again : Bool} (f : again ≡ among (meant (part a from (end - from))) (meant ref ∷ take k (pieces 0x2C (meant a))))
-    {u : Needed} (g : u ≡ tallied t (length (part a from (end - from))) again) where
+    {u : Tally} (g : u ≡ tallied t (length (part a from (end - from))) again) where
   next-end : Ends 0x2C (meant a) from end
   next-end = comma-ends e
 
@@ -287,7 +266,20 @@ module _ {t₀ : Needed} {ref a : List ℕ} {t : Needed} {from k end : ℕ} (h :
       let more : pieces 0x2C (drop from (meant a)) ≡ own ∷ [] = rw next-end.is (cut-last 0x2C (meant a) from inside n) in
       sym (h.rest ∙ rw (more, ← next))
 
-pub sane-gap : (t : Needed) (n : ℕ) → Sane t → Sane (cond (ltb 0 n) (tallied (opened t) n false) t)
+  pub behind-err : {r : Refusal} → u ≡ Err r → Err r ≡ tally_in t₀ (meant ref ∷ []) (pieces 0x2C (meant a))
+  unfolding tally_in
+  behind-err {r} z =
+      by_cases (dec_lt end (length a))
+      (λ (l : end < length a).
+      let m : end_of 0x2C (meant a) from < length (meant a) = omega (arith, next-end, meant-length a) in
+      let rest : Segment = pieces 0x2C (drop (end + 1) (meant a)) in
+      let more : pieces 0x2C (drop from (meant a)) ≡ own ∷ rest = rw next-end.is (cut-next 0x2C (meant a) from ([] ∷ []) m) in
+      let last : tally_in u (meant ref ∷ (h.seen ++ (own ∷ []))) rest ≡ Err r = rw z (err-in r (meant ref ∷ (h.seen ++ (own ∷ []))) rest) in
+      let own' = rw next at last in
+      sym (h.rest ∙ rw more own'))
+      (λ (l : ¬ (end < length a)). sym z ∙ behind-end (omega (arith, e.inside, h.inside)))
+
+pub sane-gap : (t : Tally) (n : ℕ) → Sane t → Sane (spaced t n)
 sane-gap t n s = step (ltb 0 n)
   where
     step : (b : Bool) → Sane (cond b (tallied (opened t) n false) t)

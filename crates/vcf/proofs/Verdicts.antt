@@ -2,7 +2,7 @@
 use Prim.Native.Nat.{ℕ, suc, ◌+◌, ◌<◌, ◌≤◌}
 use native.Mathlib.Numerals.{add-one}
 use native.Mathlib.Omega.{arith}
-use mathlib.Core.Path.{◌≡◌, refl, sym, ◌∙◌}
+use mathlib.Core.Path.{◌≡◌, refl, sym, ap, ◌∙◌}
 use mathlib.Core.Bool.{Bool, true, false, not, cond}
 use mathlib.Core.List.{[], ◌∷◌, ◌++◌}
 use lib.Dec.{leb}
@@ -10,77 +10,82 @@ use lib.ListN.{length, length-append}
 use borrow.Author.Tests.{lt-leb, leb-true, leb-false}
 use Rattle.text.specs.Text.{Variant, Segment, Text}
 use Rattle.text.specs.Refusal.{Outcome, ok, refused, demand, after}
-use Rattle.text.proofs.Outcomes.{after-after, refused-ok}
+use Rattle.text.proofs.Outcomes.{after-after}
 use Rattle.layout.specs.Bytes.{greatest_stretch, word_bytes}
 use Rattle.layout.specs.Reading.{among}
 use Rattle.layout.specs.Encoding.{bytes_of, encode_variant, encode_segment, encode}
 use Rattle.layout.specs.Sizes.{first_segment, first_variant, first_letter}
 use Rattle.layout.proofs.Lengths.{length-variant}
 use Rattle.writer.specs.Putting.{once_in, once, putting}
-use Rattle.vcf.specs.Tallies.{within, nothing, opened, tallied, tally_in, tally_text}
+use Rattle.std.proofs.Common.{Result, Ok, Err}
+use Rattle.text.specs.declared.refusal.Refusal.{Refusal}
+use Rattle.vcf.specs.Tallies.{Tally, within, nothing, needs, too_long, counted, grown, segmented, opened, recounted, tallied, tally_in}
+use Rattle.vcf.specs.Tallies.{tally_text}
 use Rattle.vcf.specs.declared.survey.needed.Needed.{Needed}
-use Rattle.vcf.specs.declared.survey.needed.Needed.TheVariants.{Fits, Repeated, Long}
 
--- b bytes, g segments, and how many variants or which is repeated
-abbrev verdict : ℕ → ℕ → Outcome ℕ → Needed
-verdict b g (ok v) = Fits b g v
-verdict b g (refused n k) = Repeated b k
+-- how many variants, or which is repeated
+abbrev number : Outcome ℕ → Result ℕ Refusal
+number (ok v) = Ok v
+number (refused n k) = Err (record { number = n; place = k })
 
-abbrev meaning : Bool → ℕ → ℕ → Outcome ℕ → Needed
-meaning true b g o = verdict b g o
-meaning false b g o = Long
+-- b bytes, g segments, and that number, if the bytes fit
+abbrev meaning : Bool → ℕ → ℕ → Outcome ℕ → Tally
+meaning true b g o = needs b g (number o)
+meaning false b g o = too_long
 
-abbrev meant : ℕ → ℕ → Outcome ℕ → Needed
+abbrev meant : ℕ → ℕ → Outcome ℕ → Tally
 meant b g o = meaning (within b) b g o
 
 -- what no longer fits never fits again
 within_more : (b n : ℕ) → within b ≡ false → within (b + n) ≡ false
 within_more b n e = let l : greatest_stretch < b = leb-false b greatest_stretch e in lt-leb (b + n) greatest_stretch (omega arith)
 
-opened-meant : (b g : ℕ) (o : Outcome ℕ) → opened (meant b g o) ≡ meant (b + first_variant) (g + 1) o
-opened-meant b g o = step (within b) o (within_more b first_variant)
+grown-meant : (b g : ℕ) (o : Outcome ℕ) (n : ℕ) → grown (meant b g o) n ≡ meant (b + n) g o
+grown-meant b g o n = step (within b) (within_more b n)
   where
-    step : (w : Bool) (o : Outcome ℕ) → (w ≡ false → within (b + first_variant) ≡ false) → opened (meaning w b g o) ≡ meant (b + first_variant) (g + 1) o
-    step true (ok v) h = fits (within (b + first_variant)) (ok v)
-      where
-        fits : (x : Bool) (o : Outcome ℕ) → cond x (Fits (b + first_variant) (g + 1) v) Long ≡ meaning x (b + first_variant) (g + 1) (ok v)
-        fits true o = refl
-        fits false o = refl
-    step true (refused n k) h = fits (within (b + first_variant))
-      where
-        fits : (x : Bool) → cond x (Repeated (b + first_variant) k) Long ≡ meaning x (b + first_variant) (g + 1) (refused n k)
-        fits true = refl
-        fits false = refl
-    step false o h = rw (h refl)
+    fits : (x : Bool) → cond x (needs (b + n) g (number o)) too_long ≡ meaning x (b + n) g o
+    fits true = refl
+    fits false = refl
+
+    step : (w : Bool) → (w ≡ false → within (b + n) ≡ false) → grown (meaning w b g o) n ≡ meant (b + n) g o
+    step true h = fits (within (b + n))
+    step false h = rw (h refl)
+
+opened-meant : (b g : ℕ) (o : Outcome ℕ) → opened (meant b g o) ≡ meant (b + first_variant) (g + 1) o
+opened-meant b g o = ap segmented (grown-meant b g o first_variant) ∙ step (within (b + first_variant))
+  where
+    step : (w : Bool) → segmented (meaning w (b + first_variant) g o) ≡ meaning w (b + first_variant) (g + 1) o
+    step true = refl
+    step false = refl
 
 -- the number after a variant that is repeated or not
-abbrev counted : Bool → ℕ → Outcome ℕ
-counted again v = demand (not again) 8 v (ok (v + 1))
+abbrev next_number : Bool → ℕ → Outcome ℕ
+next_number again v = demand (not again) 8 v (ok (v + 1))
+
+number-counted : (o : Outcome ℕ) (again : Bool) → counted (number o) again ≡ number (after o (next_number again))
+number-counted (ok v) true = refl
+number-counted (ok v) false = refl
+number-counted (refused n k) again = refl
 
 tallied-meant : (b g : ℕ) (o : Outcome ℕ) (n : ℕ) (again : Bool) → tallied (meant b g o) n again ≡ meant (b + (n + first_letter)) g
-    (after o (counted again))
-tallied-meant b g o n again = step (within b) o again (within_more b (n + first_letter))
+    (after o (next_number again))
+tallied-meant b g o n again =
+    let sum : b + first_letter + n ≡ b + (n + first_letter) = omega arith in
+    ap (λ (t : Tally). recounted (grown t n) again) (grown-meant b g o first_letter)
+    ∙ ap (λ (t : Tally). recounted t again) (grown-meant (b + first_letter) g o n)
+    ∙ step (within (b + first_letter + n))
+    ∙ ap (λ (m : ℕ). meant m g (after o (next_number again))) sum
   where
-    fits : (x : Bool) (a : Bool) (v : ℕ) → cond x (cond a (Repeated (b + (n + first_letter)) v) (Fits (b + (n + first_letter)) g (v + 1))) Long ≡ meaning x
-        (b + (n + first_letter)) g (counted a v)
-    fits true true v = refl
-    fits true false v = refl
-    fits false a v = refl
-
-    again-fits : (x : Bool) (m k : ℕ) → cond x (Repeated (b + (n + first_letter)) k) Long ≡ meaning x (b + (n + first_letter)) g (refused m k)
-    again-fits true m k = refl
-    again-fits false m k = refl
-
     step :
-        (w : Bool) (o : Outcome ℕ) (a : Bool) → (w ≡ false → within (b + (n + first_letter)) ≡ false) →
-        tallied (meaning w b g o) n a ≡ meant (b + (n + first_letter)) g (after o (counted a))
-    step true (ok v) a h = fits (within (b + (n + first_letter))) a v
-    step true (refused m k) a h = again-fits (within (b + (n + first_letter))) m k
-    step false o a h = rw (h refl)
+        (w : Bool) →
+        recounted (meaning w (b + first_letter + n) g o) again
+        ≡ meaning w (b + first_letter + n) g (after o (next_number again))
+    step true = ap (needs (b + first_letter + n) g) (number-counted o again)
+    step false = refl
 
 -- one variant after the other
 once-next : (o : Outcome ℕ) (seen : Segment) (v : Variant) (g : Segment) →
-    after (after o (counted (among v seen))) (λ k. once_in k (seen ++ (v ∷ [])) g) ≡ after o (λ k. once_in k seen (v ∷ g))
+    after (after o (next_number (among v seen))) (λ k. once_in k (seen ++ (v ∷ [])) g) ≡ after o (λ k. once_in k seen (v ∷ g))
 unfolding once_in
 once-next (refused n k) seen v g = refl
 once-next (ok k) seen v g = step (among v seen)
@@ -102,7 +107,7 @@ unfolding tally_in bytes_of once_in
 in-meant [] b s (ok k) seen = let e : b + 0 ≡ b = omega arith in rw e
 in-meant [] b s (refused n k) seen = let e : b + 0 ≡ b = omega arith in rw e
 in-meant (v ∷ g) b s o seen =
-    let next : Outcome ℕ = after o (counted (among v seen)) in
+    let next : Outcome ℕ = after o (next_number (among v seen)) in
     let h = in-meant g (b + (length v + first_letter)) s next (seen ++ (v ∷ [])) in
     rw (tallied-meant b s o (length v) (among v seen)) (h ∙ rw (size-more b v g, once-next o seen v g))
 
@@ -132,68 +137,57 @@ tally-means T =
     let z : 0 + length T ≡ length T = omega arith in
     text-meant T first_segment 0 (ok 0) ∙ rw (e, z)
 
--- only 8 is refused
-once-in-eight : (g : Segment) (k : ℕ) (seen : Segment) (n p : ℕ) → once_in k seen g ≡ refused n p → n ≡ 8
-unfolding once_in
-once-in-eight [] k seen n p e = absurd (refused-ok n p k (sym e))
-once-in-eight (v ∷ g) k seen n p e = step (among v seen) e (once-in-eight g (suc k) (seen ++ (v ∷ [])) n p)
-  where
-    step :
-        (a : Bool) → demand (not a) 8 k (once_in (suc k) (seen ++ (v ∷ [])) g) ≡ refused n p →
-        (once_in (suc k) (seen ++ (v ∷ [])) g ≡ refused n p → n ≡ 8) → n ≡ 8
-    step true e h = let z : ◌≡◌ {A = Outcome ℕ} (refused 8 k) (refused n p) = e in sym (let y : 8 ≡ n = cc in y)
-    step false e h = h e
-
-once-eight : (T : Text) (k n p : ℕ) → once k T ≡ refused n p → n ≡ 8
-unfolding once
-once-eight [] k n p e = absurd (refused-ok n p k (sym e))
-once-eight (g ∷ T) k n p e = step (once_in k [] g) e (once-in-eight g k []) (once-eight T)
-  where
-    step :
-        (o : Outcome ℕ) → after o (λ m. once m T) ≡ refused n p → ((n p : ℕ) → o ≡ refused n p → n ≡ 8) →
-        ((k n p : ℕ) → once k T ≡ refused n p → n ≡ 8) → n ≡ 8
-    step (ok m) e f h = h m n p e
-    step (refused m q) e f h = f n p e
-
 -- what each case of the needed says of the write
 module _ (T : Text) (room : ℕ) where
-  pub told-long : tally_text nothing T ≡ Long → putting T room ≡ refused 4 0
+  pub told-long : {r : Refusal} → tally_text nothing T ≡ Err r → putting T room ≡ refused r.number r.place
   unfolding putting
-  told-long e = rw (step (within (length (encode T))) (once 0 T) (sym (tally-means T) ∙ e))
-    where
-      step : (w : Bool) (o : Outcome ℕ) → meaning w (length (encode T)) (length T) o ≡ Long → w ≡ false
-      step true (ok v) h = absurd (let x : ◌≡◌ {A = ℕ} 0 1 = cc in let y : ⊥ = omega arith in y)
-      step true (refused n k) h = absurd (let x : ◌≡◌ {A = ℕ} 0 1 = cc in let y : ⊥ = omega arith in y)
-      step false o h = refl
-
-  pub told-repeated : (b k : ℕ) → tally_text nothing T ≡ Repeated b k → putting T room ≡ refused 8 k
-  unfolding putting
-  told-repeated b k e = step (within (length (encode T))) (once 0 T) (once-eight T 0) (sym (tally-means T) ∙ e)
+  told-long {r} e = step (within (length (encode T))) (once 0 T) (sym (tally-means T) ∙ e)
     where
       step :
-          (w : Bool) (o : Outcome ℕ) → ((n p : ℕ) → o ≡ refused n p → n ≡ 8) → meaning w (length (encode T)) (length T) o ≡ Repeated b k →
-          demand w 4 0 (after o λ _. demand (leb (length (encode T)) room) 15 0 (ok T)) ≡ refused 8 k
-      step true (ok v) f h = absurd (let x : ◌≡◌ {A = ℕ} 0 1 = cc in let y : ⊥ = omega arith in y)
-      step true (refused n q) f h = let y : q ≡ k = cc in rw (f n q refl, y)
-      step false o f h = absurd (let x : ◌≡◌ {A = ℕ} 0 1 = cc in let y : ⊥ = omega arith in y)
+          (w : Bool) (o : Outcome ℕ) → meaning w (length (encode T)) (length T) o ≡ Err r →
+          demand w 4 0 (after o λ _. demand (leb (length (encode T)) room) 15 0 (ok T)) ≡ refused r.number r.place
+      step true o h = absurd (let x : ◌≡◌ {A = ℕ} 0 1 = cc in let y : ⊥ = omega arith in y)
+      step false o h =
+          let y : ◌≡◌ {A = Refusal} (record { number = 4; place = 0 }) r = cc in
+          ap (λ (r : Refusal). refused r.number r.place) y
 
-  -- a text that fits
-  pub record Fitting (b g : ℕ) : Type 0 where
-    pub bytes : length (encode T) ≡ b
-    pub segments : length T ≡ g
-    pub small : b ≤ greatest_stretch
-    pub asks : putting T room ≡ demand (leb b room) 15 0 (ok T)
+  module _ {t : Needed} (e : tally_text nothing T ≡ Ok t) where
+    pub told-repeated : {r : Refusal} → t.variants ≡ Err r → putting T room ≡ refused r.number r.place
+    unfolding putting
+    told-repeated {r} f = step (within (length (encode T))) (once 0 T) (sym (tally-means T) ∙ e)
+      where
+        step :
+            (w : Bool) (o : Outcome ℕ) → meaning w (length (encode T)) (length T) o ≡ Ok t →
+            demand w 4 0 (after o λ _. demand (leb (length (encode T)) room) 15 0 (ok T)) ≡ refused r.number r.place
+        step true (ok v) h = absurd (let x : ◌≡◌ {A = ℕ} 0 1 = cc in let y : ⊥ = omega arith in y)
+        step true (refused n q) h =
+            let y : ◌≡◌ {A = Needed} (record { bytes = length (encode T); segments = length T; variants = number (refused n q) }) t = cc in
+            let z : ◌≡◌ {A = Result ℕ Refusal} (Err (record { number = n; place = q })) (Err r) = ap (λ (t : Needed). t.variants) y ∙ f in
+            let x : ◌≡◌ {A = Refusal} (record { number = n; place = q }) r = cc in
+            ap (λ (r : Refusal). refused r.number r.place) x
+        step false o h = absurd (let x : ◌≡◌ {A = ℕ} 0 1 = cc in let y : ⊥ = omega arith in y)
 
-  pub told-fits : (b g v : ℕ) → tally_text nothing T ≡ Fits b g v → Fitting b g
-  unfolding putting
-  told-fits b g v e = step (within (length (encode T))) (once 0 T) refl refl (sym (tally-means T) ∙ e)
-    where
-      step :
-          (w : Bool) (o : Outcome ℕ) → within (length (encode T)) ≡ w → once 0 T ≡ o →
-          meaning w (length (encode T)) (length T) o ≡ Fits b g v → Fitting b g
-      step true (ok m) f o h =
-          let y : length (encode T) ≡ b = cc in
-          let z : length T ≡ g = cc in
-          record { bytes = y; segments = z; small = rw y at (leb-true (length (encode T)) greatest_stretch f); asks = rw (f, o, y) }
-      step true (refused n q) f o h = absurd (let x : ◌≡◌ {A = ℕ} 0 1 = cc in let y : ⊥ = omega arith in y)
-      step false o f p h = absurd (let x : ◌≡◌ {A = ℕ} 0 1 = cc in let y : ⊥ = omega arith in y)
+    -- a text that fits
+    pub record Fitting : Type 0 where
+      pub bytes : length (encode T) ≡ t.bytes
+      pub segments : length T ≡ t.segments
+      pub small : t.bytes ≤ greatest_stretch
+      pub asks : putting T room ≡ demand (leb t.bytes room) 15 0 (ok T)
+
+    pub told-fits : {v : ℕ} → t.variants ≡ Ok v → Fitting
+    unfolding putting
+    told-fits {v} g = step (within (length (encode T))) (once 0 T) refl refl (sym (tally-means T) ∙ e)
+      where
+        step :
+            (w : Bool) (o : Outcome ℕ) → within (length (encode T)) ≡ w → once 0 T ≡ o →
+            meaning w (length (encode T)) (length T) o ≡ Ok t → Fitting
+        step true (ok m) f o h =
+            let x : ◌≡◌ {A = Needed} (record { bytes = length (encode T); segments = length T; variants = Ok m }) t = cc in
+            let y : length (encode T) ≡ t.bytes = ap (λ (t : Needed). t.bytes) x in
+            let z : length T ≡ t.segments = ap (λ (t : Needed). t.segments) x in
+            record { bytes = y; segments = z; small = rw y at (leb-true (length (encode T)) greatest_stretch f); asks = rw (f, o, y) }
+        step true (refused n q) f o h =
+            let x : ◌≡◌ {A = Needed} (record { bytes = length (encode T); segments = length T; variants = number (refused n q) }) t = cc in
+            let z : ◌≡◌ {A = Result ℕ Refusal} (Err (record { number = n; place = q })) (Ok v) = ap (λ (t : Needed). t.variants) x ∙ g in
+            absurd (let x : ◌≡◌ {A = ℕ} 0 1 = cc in let y : ⊥ = omega arith in y)
+        step false o f p h = absurd (let x : ◌≡◌ {A = ℕ} 0 1 = cc in let y : ⊥ = omega arith in y)

@@ -8,7 +8,7 @@ use mathlib.Core.Bool.{Bool, true, false, ◌||◌, ◌&&◌}
 use mathlib.Core.List.{List}
 use lib.Dec.{eqb, leb, ltb}
 use lib.ListN.{length, take, drop}
-use borrow.Author.Tests.{lt-ltb, lt-leb, le-leb, eq-eqb, ne_eqb, leb-true}
+use borrow.Author.Tests.{ltb-true, lt-ltb, lt-leb, le-leb, eq-eqb, ne_eqb, leb-true}
 use Rattle.text.specs.Letter.{meant}
 use Rattle.text.specs.Compare.{same, alike}
 use Rattle.text.proofs.Likes.{meant-length}
@@ -93,6 +93,11 @@ module _ (w : List ℕ) (p at : ℕ) where
 pub placed-meant : (w : List ℕ) (p : ℕ) → placed (meant w) p ≡ placed w p
 unfolding placed
 placed-meant w p = rw (meant-length w)
+
+-- a window that is placed has a position
+pub placed-some : (w : List ℕ) (p : ℕ) → placed w p ≡ true → 0 < p
+unfolding placed
+placed-some w p e = ltb-true 0 p (and_left (ltb 0 p) (eqb (length w) 0 || leb (p + length w) 2147483648) e)
 
 -- a placed window that has a base lies below 2 ^ 31
 pub placed-small : (w : List ℕ) (p : ℕ) → placed w p ≡ true → (length w ≡ 0 → ⊥) → p + length w ≤ 2147483648

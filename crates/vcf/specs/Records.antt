@@ -1,5 +1,6 @@
 -- The records of a variant file (Variant Call Format 4) and what is asked of them.
-use Rattle.std.specs.Prelude.{ℕ, suc, ◌+◌, ◌*◌, ◌-◌, Bool, ◌||◌, ◌&&◌, cond, List, [], ◌∷◌, map, eqb, leb, ltb, length, get_or}
+use Rattle.std.specs.Prelude.{ℕ, suc, ◌+◌, ◌*◌, ◌-◌, Bool, ◌||◌, ◌&&◌, cond, List, [], ◌∷◌, Option, None, Some, map, eqb, leb, ltb, length}
+use Rattle.std.specs.Prelude.{get_or}
 use Rattle.text.specs.Letter.{letter, meant, every}
 use Rattle.text.specs.Text.{Variant}
 use Rattle.text.specs.Compare.{same}
@@ -37,6 +38,10 @@ beyond = 4294967296
 -- the position that a field states, 1 or more; 0 where it states none
 unfoldable pub position_of : List ℕ → ℕ
 position_of s = cond (every digit s && leb (decimal 0 s) last_position) (decimal 0 s) 0
+
+-- a position, where there is one
+abbrev pub stated : ℕ → Option ℕ
+stated n = cond (eqb n 0) None (Some n)
 
 -- an allele: letters, at least one
 unfoldable pub allele : Variant → Bool

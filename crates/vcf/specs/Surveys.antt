@@ -1,13 +1,13 @@
 -- What a survey of a variant file says of the text of a window, whatever the room is.
-use Rattle.std.specs.Prelude.{ℕ, ◌<◌, ◌≤◌, ◌≡◌, true, List, length, drop}
+use Rattle.std.specs.Prelude.{ℕ, ◌<◌, ◌≤◌, ◌≡◌, true, List, Result, Ok, Err, length, drop}
 use Rattle.text.specs.Letter.{meant}
 use Rattle.text.specs.Refusal.{ok, refused}
 use Rattle.layout.specs.Encoding.{encode}
 use Rattle.vcf.specs.Pieces.{lines}
 use Rattle.vcf.specs.Records.{placed, records, touching}
 use Rattle.vcf.specs.Building.{window_text, building}
-use Rattle.vcf.specs.declared.survey.surveying.Surveyed.{Surveyed}
-use Rattle.vcf.specs.declared.survey.surveying.Surveyed.TheVariants.{Needs, Refused}
+use Rattle.text.specs.declared.refusal.Refusal.{Refusal}
+use Rattle.vcf.specs.declared.survey.scan.Gathered.{Gathered}
 
 -- the lines from place `start` on hold the records of the window, that many of them, and their text has that many segments and fits the room
 pub record Readable (w : List ℕ) (p : ℕ) (file : List ℕ) (start left segments room : ℕ) : Type 0 where
@@ -32,10 +32,6 @@ pub record Built (file window : List ℕ) (p : ℕ) (name : List ℕ) (bytes seg
 pub record Unbuilt (file window : List ℕ) (p : ℕ) (name : List ℕ) (number place : ℕ) : Type 0 where
   pub always : (room : ℕ) → building file window p name room ≡ refused number place
 
-abbrev pub Surveys : List ℕ → List ℕ → ℕ → List ℕ → Surveyed → Type 0
-Surveys file window p name (Needs bytes segments start kept) = Built file window p name bytes segments start kept
-Surveys file window p name (Refused r) = Unbuilt file window p name r.number r.place
-
--- a refusal of that number at that place
-abbrev pub turned_away : ℕ → ℕ → Surveyed
-turned_away number place = Refused (record { number = number; place = place })
+abbrev pub Surveys : List ℕ → List ℕ → ℕ → List ℕ → Result Gathered Refusal → Type 0
+Surveys file window p name (Ok g) = Built file window p name g.needed.bytes g.needed.segments g.start g.kept
+Surveys file window p name (Err r) = Unbuilt file window p name r.number r.place

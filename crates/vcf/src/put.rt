@@ -11,8 +11,9 @@ ghost use Rattle.vcf.specs.Emission.{gap_of, Placing, line_text, line_base, line
 
 use crate::records::pieces::{COMMA, LINE_FEED, end_of, far_end, next_line};
 use crate::records::position::position;
-use crate::records::record::{field, is_comment, is_none};
-use crate::records::window::{behind, is_outside};
+use crate::records::record::{Alleles, field, is_comment, is_none};
+use crate::records::window::{Window, behind};
+use crate::survey::Gathered;
 use layout::{
     FIRST_SEGMENT, FIRST_VARIANT, after_variant, put_segments, put_variant, put_variants,
     segment_bytes,
@@ -41,6 +42,7 @@ fn put_alleles(alt: &[u8], out: &mut [u8], at: usize) -> usize
 {
     let mut next = at;
     let mut from = 0;
+    // Goes from comma to comma, as in `are_alleles`.
     loop {
         let end = end_of(alt, COMMA, from);
         put_variant(&alt[from..end], &mut *out, next);
@@ -59,6 +61,7 @@ fn count(s: &[u8], mark: u8) -> usize
 {
     let mut n = 1;
     let mut from = 0;
+    // Goes from mark to mark, as in `are_alleles`.
     loop {
         let end = end_of(s, mark, from);
         if end == s.len() {
@@ -70,13 +73,15 @@ fn count(s: &[u8], mark: u8) -> usize
 }
 
 // A record's segment: its variant count, REF, and the alleles of ALT. The place after it.
-fn put_record(reference: &[u8], alt: &[u8], out: &mut [u8], at: usize) -> usize
-    requires alt_len_bound { length (alternates (meant alt.now)) ≤ 254 }
-    requires alt_in_bounds { at + length (encode_segment (meant reference.now ∷ alternates (meant alt.now))) ≤ length out.old }
-    ensures value { result ≡ at + length (encode_segment (meant reference.now ∷ alternates (meant alt.now))) }
+fn put_record(alleles: Alleles, out: &mut [u8], at: usize) -> usize
+    requires alt_len_bound { length (alternates (meant alleles.alt.now)) ≤ 254 }
+    requires alt_in_bounds { at + length (encode_segment (meant alleles.reference.now ∷ alternates (meant alleles.alt.now))) ≤ length out.old }
+    ensures value { result ≡ at + length (encode_segment (meant alleles.entry.reference.now ∷ alternates (meant alleles.entry.alt.now))) }
     ensures out_after { out.new ≡ over out.old at
-        (encode_segment (meant reference.now ∷ alternates (meant alt.now))) }
+        (encode_segment (meant alleles.entry.reference.now ∷ alternates (meant alleles.entry.alt.now))) }
 {
+    let reference = alleles.reference;
+    let alt = alleles.alt;
     let start = at + FIRST_VARIANT;
     let next = after_variant(start, reference.len());
     if is_none(alt) {
@@ -84,8 +89,8 @@ fn put_record(reference: &[u8], alt: &[u8], out: &mut [u8], at: usize) -> usize
         put_variant(reference, &mut *out, start);
         return next;
     }
-    let alleles = count(alt, COMMA);
-    put_variants(1 + alleles, &mut *out, at);
+    let others = count(alt, COMMA);
+    put_variants(1 + others, &mut *out, at);
     put_variant(reference, &mut *out, start);
     put_alleles(alt, &mut *out, next)
 }
@@ -99,69 +104,64 @@ pub struct Put {
 }
 
 // What one line adds.
-fn put_line(line: &[u8], window: &[u8], first: usize, put: Put, out: &mut [u8]) -> Put
-    requires placing { Placing (meant window.now) first put.base put.left line.now }
-    requires line_in_bounds { put.at + length (bytes_of encode_segment (line_text (meant window.now) first put.base line.now))
+fn put_line(line: &[u8], window: Window, put: Put, out: &mut [u8]) -> Put
+    requires placing { Placing (meant window.bases.now) window.first put.base put.left line.now }
+    requires line_in_bounds { put.at + length (bytes_of encode_segment (line_text (meant window.bases.now) window.first put.base line.now))
         ≤ length out.old }
-    ensures left_value { (result.left ≡ line_left (meant window.now) first put.left line.now)
-        × (result.base ≡ line_base (meant window.now) first put.base line.now)
+    ensures left_value { (result.left ≡ line_left (meant window.entry.bases.now) window.entry.first put.left line.now)
+        × (result.base ≡ line_base (meant window.entry.bases.now) window.entry.first put.base line.now)
         × (result.at ≡ put.at + length (bytes_of encode_segment
-        (line_text (meant window.now) first put.base line.now))) }
+        (line_text (meant window.entry.bases.now) window.entry.first put.base line.now))) }
     ensures out_after { out.new ≡ over out.old put.at
-        (bytes_of encode_segment (line_text (meant window.now) first put.base line.now)) }
+        (bytes_of encode_segment (line_text (meant window.entry.bases.now) window.entry.first put.base line.now)) }
 {
     if is_comment(line) {
         return put;
     }
-    let stated = field(line, 1);
-    let place = position(stated);
+    let Some(place) = position(field(line, 1)) else {
+        return put;
+    };
     let reference = field(line, 3);
     let end = behind(place, reference.len());
-    if is_outside(window, first, place, end) {
+    if window.is_outside(place, end) {
         return put;
     }
-    let base = put.base;
-    let at = put.at;
-    let left = put.left;
-    let start = place - first;
-    let next = put_gap(&window[base..start], &mut *out, at);
-    let alt = field(line, 4);
-    let last = put_record(reference, alt, &mut *out, next);
+    let bases = window.bases;
+    let start = place - window.first;
+    let next = put_gap(&bases[put.base..start], &mut *out, put.at);
+    let alleles = Alleles {
+        reference,
+        alt: field(line, 4),
+    };
+    let last = put_record(alleles, &mut *out, next);
     Put {
-        base: end - first,
+        base: end - window.first,
         at: last,
-        left: left - 1,
+        left: put.left - 1,
     }
 }
 
-// The whole text of that many segments. The lines from place `start` on hold its records, that many of them; none after the last of these
-// is looked at.
-pub fn put_text(
-    file: &[u8],
-    start: usize,
-    records: usize,
-    window: &[u8],
-    first: usize,
-    segments: usize,
-    out: &mut [u8],
-)
-    requires { Readable (meant window.now) first file.now start records segments (length out.old) }
+// The whole text of a window, as it was gathered: the lines from its start on hold its records; none after the last of these is looked at.
+pub fn put_text(file: &[u8], window: Window, gathered: Gathered, out: &mut [u8])
+    requires { Readable (meant window.bases.now) window.first file.now gathered.start gathered.kept gathered.needed.segments
+        (length out.old) }
     ensures { out.new ≡ over out.old 0
-        (encode (window_text (meant window.now) first file.now)) }
+        (encode (window_text (meant window.entry.bases.now) window.entry.first file.now)) }
 {
-    put_segments(segments, &mut *out);
+    let needed = gathered.needed;
+    put_segments(needed.segments, &mut *out);
     let mut put = Put {
         base: 0,
         at: FIRST_SEGMENT,
-        left: records,
+        left: gathered.kept,
     };
-    let mut at = start;
+    let mut at = gathered.start;
+    // Goes from line to line, as long as records are left: no count that is known before.
     while 0 < put.left {
         let end = far_end(file, LINE_FEED, at);
-        put = put_line(&file[at..end], window, first, put, &mut *out);
+        put = put_line(&file[at..end], window, put, &mut *out);
         at = next_line(file, end);
     }
-    let base = put.base;
-    let last = put.at;
-    put_gap(&window[base..], &mut *out, last);
+    let bases = window.bases;
+    put_gap(&bases[put.base..], &mut *out, put.at);
 }

@@ -4,4 +4,5 @@ mod scan;
 mod surveying;
 
 pub use needed::Needed;
-pub use surveying::{Surveyed, survey};
+pub use scan::Gathered;
+pub use surveying::survey;

@@ -14,17 +14,22 @@ use Rattle.text.specs.State.{marks, fresh}
 use Rattle.text.specs.Card.{none, first_end}
 use Rattle.text.specs.Refusal.{ok, demand, SoundPattern}
 use Rattle.text.proofs.Outcomes.{demand-met}
+use Rattle.text.proofs.Truth.{and_left, and_right}
 use Rattle.text.proofs.Marks.{marks-length}
 use Rattle.text.proofs.Ends.{first_end-le, first_end-least, first_end-within, first_end-mark}
 use Rattle.layout.specs.Reading.{stretch_of}
 use Rattle.layout.proofs.Stretches.{stretch-most}
-use Rattle.watch.specs.Watching.{most_watched, bases_of, all_sound, first_wrong, listing, first_of, ends_in, seen, clear}
+use Rattle.watch.specs.Watching.{blank, most_watched, bases_of, sound, all_sound, first_wrong, listing, first_of, ends_in, seen, clear}
 use Rattle.watch.specs.Watching.{first_seen, marks_of}
-use Rattle.watch.specs.Rounds.{blank}
 use Rattle.watch.specs.declared.watched.Watched.{Watched}
 use Rattle.watch.proofs.Records.{sound-spells}
 use Rattle.watch.proofs.Told.{seen-inj, clear-seen}
-use Rattle.watch.proofs.Rounds.{all-spell}
+
+pub all-spell : (ws : List Watched) → all_sound ws ≡ true → (k : ℕ) → k < length ws → sound (get_or ws k blank) ≡ true
+unfolding all_sound
+all-spell [] e k l = absurd (let z : ⊥ = omega (arith, l) in z)
+all-spell (w ∷ ws) e zero l = and_left (sound w) (all_sound ws) e
+all-spell (w ∷ ws) e (suc k) l = all-spell ws (and_right (sound w) (all_sound ws) e) k (omega (arith, l))
 
 -- a list that is accepted with a text: it is not too long, its patterns are sound, and the stretch has this text
 pub record Taken (ws : List Watched) (s : List ℕ) (t : Text) : Type 0 where

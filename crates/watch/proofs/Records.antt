@@ -8,7 +8,10 @@ use borrow.Author.Tests.{le-leb, lt-leb, leb-true}
 use lib.Dec.{leb}
 use lib.ListN.{length, take}
 use lib.Seq.{length-take-le}
-use Rattle.text.specs.Refusal.{Outcome, ok, refused, pattern, SoundPattern}
+use Rattle.std.proofs.Common.{Result, Ok, Err}
+use Rattle.std.specs.Result.{is_ok as std_ok}
+use Rattle.text.specs.Refusal.{Outcome, ok, refused, pattern, outcome, SoundPattern}
+use Rattle.text.specs.declared.refusal.Refusal.{Refusal}
 use Rattle.text.proofs.Truth.{and_left, and_right}
 use Rattle.text.proofs.Patterns.{pattern-sound}
 use Rattle.watch.specs.Watching.{bases_of, is_ok, sound}
@@ -23,14 +26,11 @@ pub wrong-long : (w : Watched) → 64 < w.m → false ≡ sound w
 unfolding sound
 wrong-long w l = rw (lt-leb w.m 64 l) refl
 
-module _ (w : Watched) (l : w.m ≤ 64) where
-  pub sound-pattern : pattern (take w.m w.pattern) (ok (tt {0})) ≡ ok tt → true ≡ sound w
-  unfolding sound bases_of
-  sound-pattern e = rw (le-leb w.m 64 l, e) refl
-
-  pub wrong-pattern : (n p : ℕ) → pattern (take w.m w.pattern) (ok (tt {0})) ≡ refused n p → false ≡ sound w
-  unfolding sound bases_of
-  wrong-pattern n p e = rw (le-leb w.m 64 l, e) refl
+pub sound-checked : (w : Watched) → w.m ≤ 64 → (r : Result (Unit {0}) Refusal) → outcome r ≡ pattern (take w.m w.pattern) (ok (tt {0}))
+    → std_ok r ≡ sound w
+unfolding sound bases_of
+sound-checked w l (Ok u) e = rw (le-leb w.m 64 l, ← e) refl
+sound-checked w l (Err f) e = rw (le-leb w.m 64 l, ← e) refl
 
 accepts : (o : Outcome (Unit {0})) → is_ok o ≡ true → o ≡ ok tt
 accepts (ok tt) e = refl

@@ -13,16 +13,16 @@ use Rattle.text.specs.Letter.{letter, meant, Classes}
 use Rattle.text.specs.Text.{Variant, Segment, Text}
 use Rattle.text.specs.State.{fresh, next, ends, run, marks_from, marks}
 use Rattle.text.specs.Card.{none, later, first_end, tabulate}
-use Rattle.text.specs.Refusal.{ok}
+use Rattle.text.specs.Refusal.{ok, outcome}
 use Rattle.text.specs.declared.refusal.Refusal.{Refusal}
 use Rattle.text.proofs.Outcomes.{ok-inj, refused-ok}
 use Rattle.text.proofs.Ends.{later-none, later-zero, later-add, first_end-le}
 use Rattle.text.proofs.Rows.{length-tabulate, get_d_tabulate}
 use Rattle.layout.specs.Pieces.{most_in_stretch}
 use Rattle.layout.specs.Reading.{Taken, segment_at, whole_stretch, Readable}
-use Rattle.layout.specs.Walk.{opened_at, passed_to, told_walk}
+use Rattle.layout.specs.Walk.{opened_at, passed_to}
 use Rattle.layout.specs.declared.walk.Walk.{Walk}
-use Rattle.layout.specs.declared.walk.Opened.{Opened}
+use Rattle.std.proofs.Common.{Result, Err, Some, None}
 use Rattle.layout.proofs.Going.{Opening, open-not, passed_on}
 use Rattle.layout.specs.declared.cursor.Cursor.{Cursor}
 use Rattle.layout.proofs.Walking.{walk-done}
@@ -35,7 +35,8 @@ use Rattle.search.proofs.BitScans.{Turning, turning-none, turning-more, turning-
 use Rattle.search.proofs.Words.{Sweeping, sweeping-taken}
 use Rattle.search.proofs.Searches.{run-state}
 use Rattle.watch.specs.Watching.{bases_of, sound, first_of}
-use Rattle.watch.specs.Sight.{Vectors, Armed, Stepped}
+use borrow.Author.Tests.{lt-ltb}
+use Rattle.watch.specs.Sight.{Vectors, Armed, Stepped, some_end}
 use Rattle.watch.specs.declared.watched.Watched.{Watched}
 use Rattle.watch.proofs.Records.{sound-spells}
 
@@ -83,8 +84,8 @@ sweep-all w vectors y none high is =
     record { segment = t.seen; read = walk-done t.walk none; reached = t.reached; ended = t.ended }
 
 -- a sound stretch opens
-pub open-there : (s : List ℕ) (t : Text) → whole_stretch s ≡ ok t → {r : Opened} → told_walk r ≡ opened_at s → {f : Refusal}
-    → r ≡ Opened.Refused f → ⊥
+pub open-there : (s : List ℕ) (t : Text) → whole_stretch s ≡ ok t → {r : Result Walk Refusal} → outcome r ≡ opened_at s → {f : Refusal}
+    → r ≡ Err f → ⊥
 open-there s t e told {f} is = refused-ok f.number f.place t (sym (open-not s told is).1 ∙ e)
 
 -- the walk stands after some of the segments of a text, and none ends; the first end of the text is that of what is left
@@ -160,12 +161,13 @@ module _ {P s : List ℕ} {t : Text} {bits : ℕ} {w : Walk} (q : Unended P s t 
           ∙ front P bits state here.segment here.more end (p.ended ∙ ap (ends P bits) (sym same)) (p.reached
           ∙ ap (next P bits) (sym same))
 
-      pub unended-ends : end ≡ true → w.passed ≡ first_end (marks P t)
-      unfolding later
+      pub unended-ends : end ≡ true → Some w.passed ≡ some_end (first_end (marks P t))
+      unfolding later some_end
       unended-ends hit =
           let one : first_end (marks P t) ≡ later w.passed 0 = q.rest ∙ ap (later w.passed) (split
           ∙ ap (λ (b : Bool). cond b 0 (later 1 (first_end (marks_from P state here.more)))) hit) in
-          omega (arith, one, l, q.few)
+          let is : first_end (marks P t) ≡ w.passed = omega (arith, one, l, q.few) in
+          rw (is, lt-ltb w.passed none (omega (arith, l, q.few))) refl
 
       pub unended-more : 0 < length P → end ≡ false → (size : ℕ) {v : Walk} → v ≡ passed_to w behind size → Unended P s t state v
       unfolding run
@@ -184,9 +186,9 @@ module _ {P s : List ℕ} {t : Text} {bits : ℕ} {w : Walk} (q : Unended P s t 
                 ∙ ap (λ (i : ℕ). later i (first_end (marks_from P state here.more))) (sym on.1);
           }
 
-  pub unended-all : w.count ≤ w.passed → none ≡ first_end (marks P t)
-  unfolding marks_from first_end
-  unended-all l = last q.left (omega (arith, l, q.count)) q.rest
+  pub unended-all : w.count ≤ w.passed → None ≡ some_end (first_end (marks P t))
+  unfolding marks_from first_end some_end
+  unended-all l = ap some_end (last q.left (omega (arith, l, q.count)) q.rest)
     where
       last : (left : Text) → length left ≤ 0 → first_end (marks P t) ≡ later w.passed (first_end (marks_from P bits left))
           → none ≡ first_end (marks P t)

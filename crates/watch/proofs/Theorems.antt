@@ -22,9 +22,8 @@ use Rattle.layout.specs.Bytes.{left_by}
 use Rattle.search.specs.Answers.{searching}
 use Rattle.search.specs.declared.searching.Searched.{Searched}
 use Rattle.search.proofs.Theorems.{Promised, search-marks}
-use Rattle.watch.specs.Watching.{most_watched, bases_of, all_sound, first_wrong, listing, ends_in, first_of, seen, clear, first_seen}
+use Rattle.watch.specs.Watching.{blank, most_watched, bases_of, all_sound, first_wrong, listing, ends_in, first_of, seen, clear, first_seen}
 use Rattle.watch.specs.Watching.{watching, marks_of, marking}
-use Rattle.watch.specs.Rounds.{blank}
 use Rattle.watch.specs.declared.watched.Watched.{Watched}
 use Rattle.watch.proofs.Lists.{Taken, listing-met, taken-sound, taken-few, mark-at, marks-count, mark-one, ends-marked, before-first}
 use Rattle.watch.proofs.Lists.{marked-ends, earliest, none-ends, ends-none}

@@ -6,8 +6,8 @@ use Rattle.text.specs.Refusal.{Outcome, refused}
 use Rattle.text.specs.declared.refusal.Refusal.{Refusal}
 use Rattle.text.proofs.Outcomes.{refused-ok, refused-inj, ok-inj}
 use Rattle.watch.specs.Watching.{seen, clear, told_found, told_listed}
-use Rattle.watch.specs.declared.round.Found.{Found}
-use Rattle.watch.specs.declared.round.Listed.{Listed}
+use Rattle.watch.specs.declared.answers.Found.{Found}
+use Rattle.watch.specs.declared.answers.Listed.{Listed}
 
 same-refusal : {A : Type 0} (r s : Refusal) → ◌≡◌ {A = Outcome A} (refused r.number r.place) (refused s.number s.place) → r ≡ s
 same-refusal r s e = let i = refused-inj e in λ k. record { number = i.0 k; place = i.1 k }

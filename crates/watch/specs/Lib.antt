@@ -1,3 +1,2 @@
 pub mod Watching
-pub mod Rounds
 pub mod Sight

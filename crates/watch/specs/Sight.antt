@@ -1,10 +1,14 @@
 -- The walk of a record over a stretch that was found sound: what its steps rest on, and what they tell.
-use Rattle.std.specs.Prelude.{ℕ, ◌≤◌, ◌<◌, ◌≡◌, Bool, List, [], ◌∷◌, length}
+use Rattle.std.specs.Prelude.{ℕ, ◌≤◌, ◌<◌, ◌≡◌, Bool, true, cond, List, [], ◌∷◌, length, ltb, Option, Some, None}
 use Rattle.text.specs.Letter.{meant}
-use Rattle.text.specs.Text.{Variant, Segment}
+use Rattle.text.specs.Text.{Variant, Segment, Text}
 use Rattle.text.specs.State.{next, ends}
 use Rattle.text.specs.Refusal.{ok}
-use Rattle.layout.specs.Reading.{segment_at}
+use Rattle.text.specs.Card.{none}
+use Rattle.layout.specs.Reading.{segment_at, whole_stretch}
+use Rattle.search.specs.First.{unless}
+use Rattle.watch.specs.Watching.{sound}
+use Rattle.watch.specs.declared.watched.Watched.{Watched}
 use Rattle.search.specs.Masks.{Others, StateOf}
 use Rattle.search.specs.Words.{Turned}
 
@@ -29,3 +33,16 @@ pub record Stepped (P : List ℕ) (st : ℕ) (s : List ℕ) (at behind state : �
   pub read : segment_at s at ≡ ok (record { value = segment; next = behind })
   pub reached : state ≡ next P st segment
   pub ended : end ≡ ends P st segment
+
+-- the text of a sound stretch
+unfoldable pub text_of : List ℕ → Text
+text_of s = unless (whole_stretch s) [] (λ t. t)
+
+-- a record that may be looked for in a stretch: both were found sound
+pub record Sought (s : List ℕ) (w : Watched) : Type 0 where
+  pub means : whole_stretch s ≡ ok (text_of s)
+  pub spells : sound w ≡ true
+
+-- a segment in which an occurrence ends, or none
+unfoldable pub some_end : ℕ → Option ℕ
+some_end k = cond (ltb k none) (Some k) None

@@ -1,15 +1,21 @@
 -- The watch list: what is told of a list of records and a stretch, and what may be refused.
-use Rattle.std.specs.Prelude.{ℕ, suc, Bool, true, false, cond, ◌&&◌, List, [], ◌∷◌, map, leb, ltb, length, take}
+use Rattle.std.specs.Prelude.{ℕ, suc, Bool, true, false, cond, ◌&&◌, List, [], ◌∷◌, map, leb, ltb, length, take, Result, Ok, Err, Option, Some, None}
 use Rattle.text.specs.Text.{Text}
 use Rattle.text.specs.State.{marks}
 use Rattle.text.specs.Card.{none, first_end}
 use Rattle.text.specs.Refusal.{Outcome, ok, refused, demand, after, greatest_pattern, pattern, Answer, answer}
 use Rattle.layout.specs.Reading.{stretch_of}
 use Rattle.watch.specs.declared.watched.Watched.{Watched}
-use Rattle.watch.specs.declared.round.Found.{Found}
-use Rattle.watch.specs.declared.round.Found.TheVariants.{Ends}
-use Rattle.watch.specs.declared.round.Listed.{Listed}
-use Rattle.watch.specs.declared.round.Listed.TheVariants.{Marked}
+use Rattle.watch.specs.declared.answers.Found.{Found}
+use Rattle.watch.specs.declared.answers.Found.TheVariants.{Ends}
+use Rattle.watch.specs.declared.answers.Seen.{Seen}
+use Rattle.text.specs.declared.refusal.Refusal.{Refusal}
+use Rattle.watch.specs.declared.answers.Listed.{Listed}
+use Rattle.watch.specs.declared.answers.Listed.TheVariants.{Marked}
+
+-- a record of nothing
+abbrev pub blank : Watched
+blank = record { pattern = []; m = 0; label = 0 }
 
 -- the most records of a list
 abbrev pub most_watched : ℕ
@@ -70,6 +76,12 @@ abbrev pub told_found : Found → Outcome Sighting
 told_found (Ends label segment) = ok (seen label segment)
 told_found Found.None = ok clear
 told_found (Found.Refused r) = refused r.number r.place
+
+-- the same before it is told
+abbrev pub told_seen : Result (Option Seen) Refusal → Outcome Sighting
+told_seen (Ok (Some x)) = ok (seen x.label x.segment)
+told_seen (Ok None) = ok clear
+told_seen (Err r) = refused r.number r.place
 
 -- the same in numbers: the label and the segment; 0 and "none" where no record ends
 pub record Pointed : Type 0 where

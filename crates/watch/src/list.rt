@@ -1,42 +1,72 @@
-// The calls over a list of records. They are thin: one reads a record, one goes over the list, and what is done of a record is a step of
-// round.rt.
-ghost use Rattle.std.specs.Prelude.{◌≡◌, ◌<◌, length, get_or};
+// The calls over a list of records.
+ghost use Rattle.std.specs.Prelude.{◌≡◌, leb, length, cond};
+ghost use Rattle.text.specs.Refusal.{ok, demand, outcome};
 ghost use Rattle.layout.specs.Bytes.{left_by};
-ghost use Rattle.watch.specs.Watching.{watching, told_found};
+ghost use Rattle.watch.specs.Watching.{most_watched, all_sound, first_wrong, listing, watching, told_found, told_seen};
 ghost use Rattle.watch.specs.Watching.{marking, told_listed, marks_of, accepted};
-ghost use Rattle.watch.specs.Rounds.{blank, ReadyAll, rounds, text_of, watched};
 
-use crate::round::{Found, Listed, Round, begun, put_marks, sighted, step, turned};
+use crate::answers::{Found, Listed, Seen};
+use crate::sight::sight;
 use crate::watched::Watched;
+use stretch::{Checked, check};
+use text::{Refusal, limits, refusal};
 
-// Record i.
-fn at(list: &[Watched], i: usize) -> Watched
-    requires { i < length list.now }
-    ensures { result ≡ get_or list.now i blank }
+// The first record whose pattern is refused.
+fn wrong(list: &[Watched]) -> Option<usize>
+    ensures { result ≡ cond (all_sound list.now) None (Some (first_wrong list.now)) }
 {
-    list[i]
+    list.iter().position(|item| !item.is_sound())
 }
 
-// A round over the list: a step for each record.
-fn over_all(list: &[Watched], stretch: &[u8], begin: Round) -> Round
-    requires { ReadyAll stretch.now list.now 0 begin }
-    ensures { result ≡ rounds (text_of stretch.now) 0 list.now begin }
+// Refusals 20 and 21.
+fn check_list(list: &[Watched]) -> Result<(), Refusal>
+    ensures { outcome result ≡ demand (leb (length list.now) most_watched) 20 0
+        (demand (all_sound list.now) 21 (first_wrong list.now) (ok tt)) }
 {
-    let mut round = begin;
-    let mut i = 0;
-    while i < list.len() {
-        round = step(stretch, i, at(list, i), round);
-        i += 1;
+    if limits::MOST_WATCHED < list.len() {
+        return Err(Refusal {
+            number: refusal::LIST_LONG,
+            place: 0,
+        });
     }
-    round
+    match wrong(list) {
+        Some(place) => Err(Refusal {
+            number: refusal::WATCHED_WRONG,
+            place,
+        }),
+        None => Ok(()),
+    }
 }
 
-// Both rounds: the first asks every pattern, the second looks for every record, or for the first that ends.
-fn watch(list: &[Watched], stretch: &[u8], all: bool) -> Round
-    ensures { result ≡ watched list.now stretch.now all }
+// Those, then those of the stretch.
+fn check_all(list: &[Watched], stretch: &[u8]) -> Result<(), Refusal>
+    ensures { outcome result ≡ accepted (listing list.now stretch.now) }
 {
-    let asked = over_all(list, stretch, begun(list.len()));
-    over_all(list, stretch, turned(stretch, all, asked))
+    check_list(list)?;
+    // Stays a match: the name and shape of what `check` answers are fixed.
+    match check(stretch) {
+        Checked::Sound {
+            segments: _,
+            size: _,
+        } => Ok(()),
+        Checked::Refused(wrong) => Err(wrong),
+    }
+}
+
+// The first record that ends anywhere in the stretch.
+fn first_seen(list: &[Watched], stretch: &[u8]) -> Result<Option<Seen>, Refusal>
+    ensures { told_seen result ≡ watching list.now stretch.now }
+{
+    check_all(list, stretch)?;
+    for item in list {
+        if let Some(segment) = sight(stretch, item) {
+            return Ok(Some(Seen {
+                label: item.label,
+                segment,
+            }));
+        }
+    }
+    Ok(None)
 }
 
 // The label and the first ending segment of the first record that ends anywhere in the stretch: refusals 20 and 21, then those of the
@@ -44,7 +74,25 @@ fn watch(list: &[Watched], stretch: &[u8], all: bool) -> Round
 pub fn first(list: &[Watched], stretch: &[u8]) -> Found
     ensures { told_found result ≡ watching list.now stretch.now }
 {
-    sighted(watch(list, stretch, false))
+    Found::from(first_seen(list, stretch))
+}
+
+// Writes the marks of the records.
+fn put_marks(list: &[Watched], stretch: &[u8], marks: &mut [u8]) -> Result<(), Refusal>
+    ensures result_value { outcome result ≡ accepted (marking list.now stretch.now (length marks.old)) }
+    ensures marks_after { marks.new ≡ left_by (marks_of list.now) (marking list.now stretch.now (length marks.old)) marks.old }
+{
+    check_all(list, stretch)?;
+    if marks.len() < list.len() {
+        return Err(Refusal {
+            number: refusal::BUFFER_SHORT,
+            place: 0,
+        });
+    }
+    for (i, item) in list.iter().enumerate() {
+        marks[i] = sight(stretch, item).is_some() as u8;
+    }
+    Ok(())
 }
 
 // Writes 1 or 0 for each record, 1 where it ends anywhere in the stretch: refusals 20 and 21, those of the stretch, then 10. Further
@@ -54,5 +102,5 @@ pub fn mark(list: &[Watched], stretch: &[u8], marks: &mut [u8]) -> Listed
         × (marks.new ≡ left_by (marks_of list.now)
         (marking list.now stretch.now (length marks.old)) marks.old) }
 {
-    put_marks(list.len(), watch(list, stretch, true), marks)
+    Listed::from(put_marks(list, stretch, marks))
 }

@@ -6,15 +6,12 @@ ghost use Rattle.text.specs.State.{marks};
 ghost use Rattle.text.specs.Card.{first_end};
 ghost use Rattle.layout.specs.Reading.{whole_stretch, Readable};
 ghost use Rattle.watch.specs.Watching.{first_of};
-ghost use Rattle.watch.specs.Rounds.{Sought, text_of};
-ghost use Rattle.watch.specs.Sight.{Armed, Vectors, ScannedBy, Stepped};
+ghost use Rattle.watch.specs.Sight.{Armed, Vectors, ScannedBy, Stepped, Sought, text_of, some_end};
 
 use crate::watched::Watched;
-use layout::cursor::{Cursor, Entered};
-use layout::pieces::Part;
-use layout::walk::{Opened, Walk};
+use layout::cursor::Cursor;
+use layout::walk::Walk;
 use search::{State, complements};
-use text::limits;
 
 // The complement of the word after a variant, and the bits that no word has had so far.
 #[derive(Clone, Copy)]
@@ -37,13 +34,10 @@ fn scan(vectors: &[u64; 256], bits: u64, before: u64, variant: &[u8]) -> Led
 {
     let mut out = !bits;
     let mut missed = before;
-    let mut i = 0;
-    while i < variant.len() {
-        let c = variant[i] as usize;
-        let e = out | vectors[c];
-        missed = missed & e;
+    for letter in variant {
+        let e = out | vectors[*letter as usize];
+        missed &= e;
         out = e << 1;
-        i += 1;
     }
     Led { out, missed }
 }
@@ -53,32 +47,28 @@ fn over(state: State, pattern: &[u8], vectors: &[u64; 256], stretch: &[u8], at: 
     requires { Armed pattern.now vectors.now state.bits × Readable stretch.now at }
     ensures { Stepped pattern.now state.bits stretch.now at result.next result.state.bits result.ends }
 {
-    let Entered::At(entered) = Cursor::enter(stretch, at) else {
-        // A sound segment has its count.
-        return Passed {
-            next: at,
-            state,
-            ends: false,
-        };
+    let here = Passed {
+        next: at,
+        state,
+        ends: false,
     };
-    let bits = state.bits;
-    let mut cursor = entered;
+    let Ok(mut cursor) = Cursor::enter(stretch, at) else {
+        // A sound segment has its count.
+        return here;
+    };
     let mut out = 0xffff_ffff_ffff_fffe;
     let mut missed = 0xffff_ffff_ffff_ffff;
+    // Each variant tells where the next begins: no iterator does.
     while 0 < cursor.left {
-        let Part::At { start, next } = cursor.head(stretch) else {
+        let Ok(part) = cursor.head(stretch) else {
             // In a sound segment no variant is cut off.
-            return Passed {
-                next: at,
-                state,
-                ends: false,
-            };
+            return here;
         };
-        let letters = &stretch[start..next];
-        let scanned = scan(vectors, bits, missed, letters);
-        out = out & scanned.out;
+        let letters = &stretch[part.start..part.next];
+        let scanned = scan(vectors, state.bits, missed, letters);
+        out &= scanned.out;
         missed = scanned.missed;
-        cursor = cursor.past(stretch, next, letters.len());
+        cursor = cursor.past(stretch, part.next, letters.len());
     }
     let high = 0xffff_ffff_ffff_ffff << (pattern.len() - 1);
     let reached = State {
@@ -91,36 +81,33 @@ fn over(state: State, pattern: &[u8], vectors: &[u64; 256], stretch: &[u8], at: 
     }
 }
 
-// The first segment of a sound stretch in which an occurrence of the pattern ends, or none. Sizes are not asked for.
-fn first_end(pattern: &[u8], vectors: &[u64; 256], stretch: &[u8]) -> usize
+// The first segment of a sound stretch in which an occurrence of the pattern ends. Sizes are not asked for.
+fn first_end(pattern: &[u8], vectors: &[u64; 256], stretch: &[u8]) -> Option<usize>
     requires { Vectors pattern.now vectors.now × (whole_stretch stretch.now ≡ ok (text_of stretch.now)) }
-    ensures { result ≡ first_end (marks pattern.now (text_of stretch.now)) }
+    ensures { result ≡ some_end (first_end (marks pattern.now (text_of stretch.now))) }
 {
-    let Opened::At(opened) = Walk::open(stretch) else {
+    let Ok(mut walk) = Walk::open(stretch) else {
         // A sound stretch has its count.
-        return limits::NO_SEGMENT;
+        return None;
     };
-    let mut walk = opened;
     let mut state = State::FRESH;
+    // Each segment tells where the next begins: no iterator does.
     while walk.passed < walk.count {
         let passed = over(state, pattern, vectors, stretch, walk.at);
         if passed.ends {
-            return walk.passed;
+            return Some(walk.passed);
         }
         state = passed.state;
         walk = walk.past(passed.next, 0);
     }
-    limits::NO_SEGMENT
+    None
 }
 
-// The first segment in which an occurrence of a record ends, or none.
-pub fn sight(stretch: &[u8], item: Watched) -> usize
-    requires { Sought stretch.now item }
-    ensures { result ≡ first_of item (text_of stretch.now) }
+// The first segment in which an occurrence of a record ends.
+pub fn sight(stretch: &[u8], item: &Watched) -> Option<usize>
+    requires { Sought stretch.now item.now }
+    ensures { result ≡ some_end (first_of item.now (text_of stretch.now)) }
 {
-    let m = item.m as usize;
-    let bytes = item.pattern;
-    let pattern = &bytes[..m];
-    let vectors = complements(pattern);
-    first_end(pattern, &vectors, stretch)
+    let pattern = &item.pattern[..item.m as usize];
+    first_end(pattern, &complements(pattern), stretch)
 }

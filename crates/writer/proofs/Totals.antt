@@ -2,7 +2,7 @@
 use Prim.Native.Nat.{ℕ, ◌+◌, ◌-◌, ◌<◌, ◌≤◌}
 use native.Mathlib.Numerals.{add-one}
 use native.Mathlib.Omega.{arith}
-use mathlib.Core.Path.{◌≡◌, ◌∙◌}
+use mathlib.Core.Path.{◌≡◌, sym, ap, ◌∙◌}
 use mathlib.Core.Bool.{false}
 use mathlib.Core.List.{List}
 use borrow.Author.Tests.{eqb-true, eq-eqb, ne_eqb}
@@ -18,28 +18,37 @@ pub sum-at : (ns : List ℕ) (i : ℕ) → i < length ns → sum (drop i ns) ≡
 unfolding total
 sum-at ns i l = rw (add-one, drop-cons ns i 0)
 
--- the first i numbers are taken off the target, and `left` is left of it
-pub record Summing (ns : List ℕ) (target i left : ℕ) : Type 0 where
-  pub inside : i ≤ length ns
-  pub rest : sum ns + left ≡ target + sum (drop i ns)
-
-pub summing-none : (ns : List ℕ) (target : ℕ) → Summing ns target 0 target
-summing-none ns target = record { inside = omega arith; rest = omega arith }
-
-module _ {ns : List ℕ} {target i left : ℕ} (s : Summing ns target i left) where
-  -- the next number, n
-  module _ (l : i < length ns) {n : ℕ} (next : n ≡ get_or ns i 0) where
-    pub summing-more : n ≤ left → Summing ns target (i + 1) (left - n)
-    summing-more k = record { inside = omega arith; rest = omega (arith, sum-at ns i l) }
-
-    -- it is more than what is left
-    pub summing-over : left < n → eqb (sum ns) target ≡ false
-    summing-over k = ne_eqb (sum ns) target (λ e. let z : ⊥ = omega (arith, sum-at ns i l) in z)
-
-  pub summing-end : length ns ≤ i → eqb left 0 ≡ eqb (sum ns) target
+module _ {A : Type 0} (f : A → ℕ) where
+  -- the same of what each of a list states, from the one at i on
+  total-at : (xs : List A) (i : ℕ) (d : A) → i < length xs → total f (drop i xs) ≡ f (get_or xs i d) + total f (drop (i + 1) xs)
   unfolding total
-  summing-end l =
-      let all : sum ns + left ≡ target = s.rest ∙ rw (drop_of_length-le ns l) (omega arith) in
-      same_truth (eqb left 0) (eqb (sum ns) target)
-      (λ e. let h : left ≡ 0 = eqb-true left 0 e in let k : sum ns ≡ target = omega arith in eq-eqb (sum ns) target k)
-      (λ e. let h : sum ns ≡ target = eqb-true (sum ns) target e in let k : left ≡ 0 = omega arith in eq-eqb left 0 k)
+  total-at xs i d l = rw (add-one, drop-cons xs i d)
+
+  -- what the first i state is taken off the target, and `left` is left of it
+  pub record Summing (xs : List A) (target i left : ℕ) : Type 0 where
+    pub inside : i ≤ length xs
+    pub rest : total f xs + left ≡ target + total f (drop i xs)
+
+  pub summing-none : (xs : List A) (target : ℕ) → Summing xs target 0 target
+  summing-none xs target = record { inside = omega arith; rest = omega arith }
+
+  module _ {xs : List A} {target i left : ℕ} (s : Summing xs target i left) where
+    -- the next one, which states n
+    module _ (l : i < length xs) {x : A} (here : x ≡ get_or xs i x) {n : ℕ} (next : n ≡ f x) where
+      states : total f (drop i xs) ≡ n + total f (drop (i + 1) xs)
+      states = total-at xs i x l ∙ ap (λ (y : A). f y + total f (drop (i + 1) xs)) (sym here) ∙ ap (λ (m : ℕ). m + total f (drop (i + 1) xs)) (sym next)
+
+      pub summing-more : n ≤ left → Summing xs target (i + 1) (left - n)
+      summing-more k = record { inside = omega arith; rest = omega (arith, states) }
+
+      -- it is more than what is left
+      pub summing-over : left < n → eqb (total f xs) target ≡ false
+      summing-over k = ne_eqb (total f xs) target (λ e. let z : ⊥ = omega (arith, states) in z)
+
+    pub summing-end : length xs ≤ i → eqb left 0 ≡ eqb (total f xs) target
+    unfolding total
+    summing-end l =
+        let all : total f xs + left ≡ target = s.rest ∙ rw (drop_of_length-le xs l) (omega arith) in
+        same_truth (eqb left 0) (eqb (total f xs) target)
+        (λ e. let h : left ≡ 0 = eqb-true left 0 e in let k : total f xs ≡ target = omega arith in eq-eqb (total f xs) target k)
+        (λ e. let h : total f xs ≡ target = eqb-true (total f xs) target e in let k : left ≡ 0 = omega arith in eq-eqb left 0 k)

@@ -2,6 +2,7 @@
 #![tactic(auto)]
 
 mod bytes;
+mod given;
 mod sound;
 mod sums;
 mod writing;

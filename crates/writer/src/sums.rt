@@ -1,46 +1,43 @@
-// The numbers that a write is given: whether they fit together (refusal 14).
-ghost use Rattle.std.specs.Prelude.{◌≡◌, eqb};
-ghost use Rattle.writer.specs.Cuts.{sum};
+// The numbers that a write is given: what each of them states, and whether they fit together (refusal 14).
+ghost use Rattle.std.specs.Prelude.{◌≡◌, ℕ, eqb};
+ghost use Rattle.text.specs.Text.{total};
 
-use layout::number::wide;
+// A number of a write: a count of variants or a length.
+pub trait Stated: Copy {
+    ghost value: { Self → ℕ };
 
-// The number of letters that a length states.
-pub fn stated(length: u16) -> usize
-    ensures { result ≡ length }
-{
-    length as usize
+    // What it states.
+    fn stated(self) -> usize
+        ensures { result ≡ value self };
 }
 
-// Whether the counts sum to `target`. Only what is left of it is kept, so no sum grows beyond it.
-pub fn counts_sum(counts: &[u8], target: usize) -> bool
-    ensures { result ≡ eqb (sum counts.now) target }
-{
-    let mut left = target;
-    let mut i = 0;
-    while i < counts.len() {
-        let count = wide(counts[i]);
-        if left < count {
-            return false;
-        }
-        left -= count;
-        i += 1;
+impl Stated for u8 {
+    ghost value = { λ n. n };
+
+    fn stated(self) -> usize {
+        usize::from(self)
     }
-    left == 0
 }
 
-// Whether the lengths sum to `target`, in the same way.
-pub fn lengths_sum(lengths: &[u16], target: usize) -> bool
-    ensures { result ≡ eqb (sum lengths.now) target }
+impl Stated for u16 {
+    ghost value = { λ n. n };
+
+    fn stated(self) -> usize {
+        usize::from(self)
+    }
+}
+
+// Whether the numbers sum to `target`. Only what is left of it is kept, so no sum grows beyond it.
+pub fn sums_to<T: Stated>(numbers: &[T], target: usize) -> bool
+    ensures { result ≡ eqb (total T.value numbers.now) target }
 {
     let mut left = target;
-    let mut i = 0;
-    while i < lengths.len() {
-        let length = stated(lengths[i]);
-        if left < length {
+    for number in numbers {
+        let more = number.stated();
+        if left < more {
             return false;
         }
-        left -= length;
-        i += 1;
+        left -= more;
     }
     left == 0
 }

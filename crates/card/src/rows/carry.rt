@@ -21,20 +21,17 @@ pub fn carry(pattern: &[u8], masks: &[u64; 256], live: u64, variant: &[u8]) -> M
     let last = 1 << (m - 1);
     let mut d = live;
     let mut finished = 0;
-    let mut i = 0;
-    while i < variant.len() {
+    for (i, letter) in variant.iter().enumerate() {
         if d == 0 {
             return Moved {
                 reached: 0,
                 finished,
             };
         }
-        let c = variant[i] as usize;
-        let e = d & masks[c];
+        let e = d & masks[*letter as usize];
         // What stands at the last base now was carried in i bases before it.
-        finished = finished | ((e & last) >> i);
+        finished |= (e & last) >> i;
         d = e << 1;
-        i += 1;
     }
     Moved {
         reached: d & low(m),

@@ -4,7 +4,7 @@ ghost use Rattle.text.specs.Card.{none, most_segments, first_end};
 
 use text::limits;
 
-// The first end where none is.
+// The first end where none is. It stays a number, as in a card: it is the latest, so that the earlier of two ends is the lesser.
 pub const NONE: u32 = limits::NO_SEGMENT as u32;
 
 // The number of the first mark that is 1.
@@ -12,26 +12,15 @@ pub fn first_end(marks: &[u8]) -> u32
     requires { length marks.now ≤ most_segments }
     ensures { result ≡ first_end marks.now }
 {
-    let mut k = 0;
-    while k < marks.len() {
-        if marks[k] == 1 {
-            return k as u32;
-        }
-        k += 1;
+    match marks.iter().position(|mark| *mark == 1) {
+        Some(k) => k as u32,
+        None => NONE,
     }
-    NONE
-}
-
-// The earlier of two first ends; "none" is the latest.
-pub fn earlier(a: u32, b: u32) -> u32
-    ensures { result ≡ min a b }
-{
-    if b < a { b } else { a }
 }
 
 // The earlier of a first end and of segment k, where an occurrence ends in it.
 pub fn sooner(first: u32, ends: bool, k: u32) -> u32
     ensures { result ≡ min first (cond ends k none) }
 {
-    if ends { earlier(first, k) } else { first }
+    if ends { first.min(k) } else { first }
 }

@@ -1,30 +1,33 @@
-// The rows of no segments: each carried length leaves as it came.
-ghost use Rattle.std.specs.Prelude.{◌≡◌, min};
+// The rows as they are held, and those of no segments: each carried length leaves as it came.
+ghost use Rattle.std.specs.Prelude.{◌≡◌, replicate};
+ghost use Rattle.text.specs.Card.{none};
+ghost use Rattle.text.specs.Refusal.{greatest_pattern};
 ghost use Rattle.card.specs.Held.{lones};
 
+use crate::rows::ends::NONE;
 use text::limits;
 
-// As many rows as there are, of m.
-fn most(m: usize) -> usize
-    ensures { result ≡ min m 64 }
-{
-    if m < limits::GREATEST_PATTERN {
-        m
-    } else {
-        limits::GREATEST_PATTERN
-    }
+// For each carried length the state that leaves and the first segment where an occurrence ends. Row q is of a lone q carried in, row 0
+// of nothing carried in; from m up nothing leaves or ends.
+// Two arrays side by side, as in a card: row after row is shifted and masked by itself.
+#[derive(Clone, Copy)]
+pub struct Rows {
+    pub exits: [u64; limits::GREATEST_PATTERN],
+    pub firsts: [u32; limits::GREATEST_PATTERN],
 }
 
-// The exits of no segments: bit q alone in row q below m.
-pub fn lone(m: usize) -> [u64; limits::GREATEST_PATTERN]
-    ensures { result ≡ lones m }
-{
-    let most = most(m);
-    let mut exits = [0u64; limits::GREATEST_PATTERN];
-    let mut q = 0;
-    while q < most {
-        exits[q] = 1 << q;
-        q += 1;
+impl Rows {
+    // The rows of no segments: bit q alone leaves in row q below m.
+    pub fn lone(m: usize) -> Rows
+        ensures { result ≡ record { exits = lones m; firsts = replicate greatest_pattern none } }
+    {
+        let mut exits = [0u64; limits::GREATEST_PATTERN];
+        for q in 0..m.min(limits::GREATEST_PATTERN) {
+            exits[q] = 1 << q;
+        }
+        Rows {
+            exits,
+            firsts: [NONE; limits::GREATEST_PATTERN],
+        }
     }
-    exits
 }

@@ -14,8 +14,7 @@ pub fn code(wrong: Refusal) -> u64
     requires { wrong.number + 256 * wrong.place < 2 ^ 64 }
     ensures { result ≡ wrong.number + 256 * wrong.place }
 {
-    let place = wrong.place as u64;
-    wrong.number + 256 * place
+    wrong.number + 256 * wrong.place as u64
 }
 
 // Writes a number over the 8 bytes from `at` on.
@@ -23,13 +22,7 @@ pub fn put(number: u64, block: &mut [u8], at: usize)
     requires { at + 8 ≤ length block.old }
     ensures { block.new ≡ over block.old at (low_first 8 number) }
 {
-    let mut rest = number;
-    let mut i = 0;
-    while i < 8 {
-        block[at + i] = (rest % 256) as u8;
-        rest = rest / 256;
-        i += 1;
-    }
+    block[at..at + 8].copy_from_slice(&number.to_le_bytes());
 }
 
 // The answer of a call that has two results: they go into the block, whose room is asked last.

@@ -10,8 +10,8 @@ use crate::forms::block::{code, put};
 use search::{Searched, by_bits, by_borders, either};
 use stretch::Checked;
 use text::pattern::check;
+use text::refusal;
 use text::strand::Strand;
-use text::{Verdict, refusal};
 
 // The bytes of a search's results.
 const SEARCH_BLOCK: usize = 24;
@@ -20,12 +20,12 @@ const SEARCH_BLOCK: usize = 24;
 fn roomless(pattern: &[u8], stretch: &[u8]) -> u64
     ensures { result ≡ coded (searching_into pattern.now stretch.now 0 0) }
 {
-    match check(pattern) {
-        Verdict::Refused(wrong) => code(wrong),
-        Verdict::Sound => match stretch::check(stretch) {
-            Checked::Refused(wrong) => code(wrong),
-            Checked::Sound { .. } => refusal::BUFFER_SHORT,
-        },
+    if let Err(wrong) = check(pattern) {
+        return code(wrong);
+    }
+    match stretch::check(stretch) {
+        Checked::Refused(wrong) => code(wrong),
+        Checked::Sound { .. } => refusal::BUFFER_SHORT,
     }
 }
 
@@ -50,7 +50,7 @@ fn told(searched: Searched, block: &mut [u8]) -> u64
     }
 }
 
-// Which search a form runs.
+// Which search a form runs. Stays an enum: both promise the same, so a closure would make the callers prove it.
 #[derive(Clone, Copy)]
 pub enum Search {
     Bits,
@@ -75,16 +75,11 @@ pub fn search_strand(
     if block.len() < SEARCH_BLOCK {
         return roomless(pattern, stretch);
     }
-    match search {
-        Search::Bits => {
-            let searched = by_bits(pattern, strand, stretch, &mut *marks);
-            told(searched, &mut *block)
-        }
-        Search::Borders => {
-            let searched = by_borders(pattern, strand, stretch, &mut *marks);
-            told(searched, &mut *block)
-        }
-    }
+    let searched = match search {
+        Search::Bits => by_bits(pattern, strand, stretch, &mut *marks),
+        Search::Borders => by_borders(pattern, strand, stretch, &mut *marks),
+    };
+    told(searched, &mut *block)
 }
 
 // The search of both strands at once.

@@ -1,4 +1,4 @@
-// The lines that the desk prints, put into a buffer.
+// The lines that the desk prints, put into a buffer of a fixed size. Display writes text alone, and a file's name is any bytes.
 ghost use Rattle.lines.specs.Puts.{Put};
 ghost use Rattle.desk_verdict.specs.Said.{counted, named, hit_line, standing_line, refused_line};
 ghost use Rattle.desk_verdict.specs.Said.{done_line, fault_words, Fits};

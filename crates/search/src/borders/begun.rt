@@ -28,15 +28,13 @@ fn scan(pattern: &[u8], table: &[u64; 256], variant: &[u8]) -> Scanned
     let m = pattern.len();
     let mut longest = 0;
     let mut whole = false;
-    let mut i = 0;
-    while i < variant.len() {
-        let c = variant[i] & 0xDF;
+    for letter in variant {
+        let c = *letter & 0xDF;
         longest = fallback(pattern, table, longest, c);
         if longest == m {
             whole = true;
             longest = table[m] as usize;
         }
-        i += 1;
     }
     Scanned { longest, whole }
 }
@@ -48,6 +46,7 @@ fn longest_end(pattern: &[u8], variant: &[u8]) -> usize
     ensures { Longest pattern.now (meant variant.now) (length pattern.now - 1) result }
 {
     let mut k = variant.len();
+    // Stays a while: it ends at a test, which k at 0 always passes, and not at a count.
     while !alike_suffix(&pattern[..k], variant) {
         k -= 1;
     }
@@ -80,9 +79,10 @@ pub fn begun(pattern: &[u8], table: &[u64; 256], variant: &[u8]) -> Stepped
     let scanned = looked_through(pattern, table, variant);
     let mut k = scanned.longest;
     let mut bits: u64 = 1 << k;
+    // Stays a while: it goes from border to border.
     while k != 0 {
         k = table[k] as usize;
-        bits = bits | (1 << k);
+        bits |= 1 << k;
     }
     Stepped {
         bits,

@@ -45,13 +45,14 @@ pub fn carried(pattern: &[u8], state: u64, variant: &[u8]) -> Stepped
     let mut ends = false;
     let mut rest = state / 2;
     let mut q = 1;
+    // Stays a while: it ends at the highest bit that is set, mostly at once, and not at a count.
     while rest != 0 {
         if rest % 2 == 1 {
             let one = carried_one(pattern, q, variant);
-            bits = bits | one.bits;
-            ends = ends | one.ends;
+            bits |= one.bits;
+            ends |= one.ends;
         }
-        rest = rest / 2;
+        rest /= 2;
         q += 1;
     }
     Stepped { bits, ends }

@@ -9,6 +9,7 @@ pub fn fallback(pattern: &[u8], table: &[u64; 256], k: usize, letter: u8) -> usi
     ensures { Next pattern.now k letter result }
 {
     let mut q = k;
+    // Stays a while: it goes from border to border.
     while pattern[q] != letter {
         if q == 0 {
             return 0;
@@ -25,11 +26,9 @@ pub fn border_table(pattern: &[u8]) -> [u64; 256]
 {
     let mut table = [0u64; 256];
     let mut k = 0;
-    let mut i = 1;
-    while i < pattern.len() {
+    for i in 1..pattern.len() {
         k = fallback(pattern, &table, k, pattern[i]);
-        i += 1;
-        table[i] = k as u64;
+        table[i + 1] = k as u64;
     }
     table
 }

@@ -6,13 +6,12 @@ ghost use Rattle.layout.specs.Reading.{segments_of};
 ghost use Rattle.layout.specs.Walk.{Begun, most_ahead};
 ghost use Rattle.search.specs.Answers.{MarksOf};
 ghost use Rattle.search.specs.Masks.{StateOf};
-ghost use Rattle.search.specs.Either.{evens, odds, Vectors, either_from, seen_both, told_both};
+ghost use Rattle.search.specs.Either.{evens, odds, Vectors, either_from, seen_both, told_marked_both};
 
-use crate::both::SoughtBoth;
-use crate::both::segment::PassedBoth;
 use crate::both::words::Pair;
+use crate::marking::Marked;
 use layout::walk::Walk;
-use text::Verdict;
+use text::Refusal;
 
 // Takes the states over the segments of a walk that begins, up to its end, and puts their marks into `marks`. A refusal may leave some
 // there, so they are not the caller's yet.
@@ -24,12 +23,12 @@ pub fn run_both(
     stretch: &[u8],
     walk: Walk,
     marks: &mut [u8],
-) -> SoughtBoth
+) -> Result<Marked<Pair>, Refusal>
     requires vectors { Vectors pattern.now (evens table.now) classes.now
         × Vectors (opposite pattern.now) (odds table.now) classes.now }
     requires state_of { StateOf pattern.now state.given × StateOf (opposite pattern.now) state.opposite }
     requires begun { Begun stretch.now walk × (most_ahead stretch.now walk ≤ length marks.old) }
-    ensures result_value { told_both result ≡ after (segments_of stretch.now walk.count walk.at)
+    ensures result_value { told_marked_both result ≡ after (segments_of stretch.now walk.count walk.at)
         (λ t. ok (seen_both pattern.now state.given state.opposite t)) }
     ensures marks_of { MarksOf (either_from pattern.now state.given state.opposite)
         (segments_of stretch.now walk.count walk.at) marks.new }
@@ -37,34 +36,20 @@ pub fn run_both(
     let mut walked = walk;
     let mut ends = 0;
     let mut reached = state;
+    // Stays a while: the walk counts the segments, and each step may refuse.
     while walked.passed < walked.count {
-        match reached.over(pattern, table, classes, stretch, walked.at) {
-            PassedBoth::Refused(refused) => {
-                return SoughtBoth::Refused(refused);
-            }
-            PassedBoth::To {
-                next,
-                size,
-                state: further,
-                given,
-                opposite,
-            } => {
-                let hit = given | opposite;
-                let k = walked.passed;
-                marks[k] = hit as u8;
-                walked = walked.past(next, size);
-                ends += hit as usize;
-                reached = further;
-            }
-        }
+        let passed = reached.over(pattern, table, classes, stretch, walked.at)?;
+        let hit = passed.given | passed.opposite;
+        marks[walked.passed] = hit as u8;
+        walked = walked.past(passed.next, passed.size);
+        ends += hit as usize;
+        reached = passed.state;
     }
-    match walked.end(stretch) {
-        Verdict::Refused(wrong) => SoughtBoth::Refused(wrong),
-        Verdict::Sound => SoughtBoth::Marked {
-            segments: walked.passed,
-            size: walked.size,
-            ends,
-            state: reached,
-        },
-    }
+    walked.end(stretch)?;
+    Ok(Marked {
+        segments: walked.passed,
+        size: walked.size,
+        ends,
+        state: reached,
+    })
 }

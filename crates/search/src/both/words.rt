@@ -60,12 +60,10 @@ pub fn masks_both(given: &[u8], opposite: &[u8]) -> [u64; 512]
     let evens = complements(given);
     let odds = complements(opposite);
     let mut table = [0u64; 512];
-    let mut c = 0;
-    while c < 256 {
+    for c in 0..256 {
         let even = 2 * c;
         table[even] = evens[c];
         table[even + 1] = odds[c];
-        c += 1;
     }
     table
 }
@@ -88,18 +86,16 @@ pub fn scan_both(
     let mut missed = before.given;
     let mut met = before.opposite;
     let mut bad = 0u8;
-    let mut i = 0;
-    while i < variant.len() {
-        let c = variant[i] as usize;
-        bad = bad | classes[c];
+    for letter in variant {
+        let c = *letter as usize;
+        bad |= classes[c];
         let even = 2 * c;
         let f = d | table[even];
         let g = e | table[even + 1];
-        missed = missed & f;
-        met = met & g;
+        missed &= f;
+        met &= g;
         d = f << 1;
         e = g << 1;
-        i += 1;
     }
     ScannedBoth {
         out: Pair {

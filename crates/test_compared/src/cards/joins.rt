@@ -1,58 +1,45 @@
 // A text in two parts: their cards joined, and what cards make of the states before their parts.
-use crate::cards::cards;
+use crate::NONE;
+use crate::cards::compare_rows;
 use card::Card;
 use search::State;
-use std::num::wrapping_add_usize;
-use test_reference::places::part;
-use test_reference::{Verdict, run};
-use test_tally::{Answer, Tally, asked};
+use test_random::Case;
+use test_random::drawn::{below, stretch};
+use test_reference::{Bytes, Ran, run};
+use test_tally::{Answer, Tally};
 use text::strand::Strand;
 
 // The group of the joins.
 const JOINS: usize = 1;
 
+// What comes of a set of lengths in a stretch.
+fn found(p: &[u8], bytes: &[u8], bits: u64) -> Ran {
+    let segments = test_reference::stretch(bytes).map_or(0, |sound| sound.segments);
+    run(p, bytes, segments, bits)
+}
+
 // What the card of a text makes of a state is what is found.
-fn ask(rt: &HostRuntime, tally: Tally, p: &[u8], bytes: &[u8], bits: u64) -> Tally {
-    let found = run(p, bytes, test_reference::stretch(bytes), bits);
-    let wanted = Answer::told(found.bits as usize, found.first, 0);
+fn ask(tally: &mut Tally, p: &[u8], bytes: &[u8], bits: u64) {
+    let found = found(p, bytes, bits);
+    let wanted = Answer::told(found.bits as usize, found.first.unwrap_or(NONE), 0);
     let made = Card::of(p, Strand::Given, bytes);
-    tally.compare(rt, JOINS, asked(made.card.ask(State { bits })), wanted)
+    tally.compare(JOINS, Answer::from(made.card.ask(State { bits })), wanted);
 }
 
-// The parts of a text, asked with the states before them, and joined.
-fn parts(
-    rt: &HostRuntime,
-    tally: Tally,
-    p: &[u8],
-    bytes: &[u8],
-    verdict: Verdict,
-    left: &[u8],
-    right: &[u8],
-) -> Tally {
-    let first = ask(rt, tally, p, left, 1);
-    let middle = run(p, left, test_reference::stretch(left), 1);
-    let t = ask(rt, first, p, right, middle.bits);
-    let front = Card::of(p, Strand::Given, left);
-    let back = Card::of(p, Strand::Given, right);
-    cards::compare(rt, t, JOINS, p, bytes, verdict, front.card.join(back.card))
-}
-
-// A text, asked whole, and cut after some of its segments.
-pub fn compare(rt: &HostRuntime, tally: Tally, p: &[u8], bytes: &[u8], verdict: Verdict) -> Tally {
-    let t = ask(rt, tally, p, bytes, 1);
-    let segments = verdict.segments;
-    let cut = test_random::drawn::below(t.at, 800, wrapping_add_usize(segments, 1));
-    let mut left = [0u8; 2048];
-    let n = test_random::drawn::stretch(&mut left, bytes, 0, cut);
-    let mut right = [0u8; 2048];
-    let m = test_random::drawn::stretch(&mut right, bytes, cut, segments);
-    parts(
-        rt,
-        t,
-        p,
-        bytes,
-        verdict,
-        part(&left, 0, n),
-        part(&right, 0, m),
-    )
+// A text, asked whole, and cut after some of its segments: its parts are asked with the states before them, and joined.
+pub fn compare(tally: &mut Tally, case: &Case) {
+    let p = case.read.as_slice();
+    let bytes = case.bytes.as_slice();
+    ask(&mut *tally, p, bytes, 1);
+    let segments = case.segments();
+    let cut = below(case.number, 800, segments.wrapping_add(1));
+    let left = Bytes::<2048>::put(|out| stretch(out, bytes, 0, cut));
+    let right = Bytes::<2048>::put(|out| stretch(out, bytes, cut, segments));
+    ask(&mut *tally, p, left.as_slice(), 1);
+    let middle = found(p, left.as_slice(), 1);
+    ask(&mut *tally, p, right.as_slice(), middle.bits);
+    let front = Card::of(p, Strand::Given, left.as_slice());
+    let back = Card::of(p, Strand::Given, right.as_slice());
+    let joined = front.card.join(back.card);
+    compare_rows(&mut *tally, JOINS, p, bytes, case.verdict, &joined);
 }

@@ -1,54 +1,53 @@
 // A text cut in two and searched on both strands at once: the search of the second stretch goes on from the states after the first, and
 // both together mark what either strand has in the whole text.
+use crate::parts::{Come, parted};
 use crate::strands::EITHER;
 use search::{Pair, SoughtBoth};
-use std::num::wrapping_add_usize;
-use test_reference::places::part;
-use test_tally::{Answer, Tally, held};
+use test_random::Case;
+use test_reference::places::put_part;
+use test_tally::{Answer, Tally, held_in};
+use text::refusal::Refusal;
 
-// One stretch more, after those that told that many segments and the bits of a state of each strand: its marks go after theirs.
-fn onward(before: Answer, p: &[u8], stretch: &[u8], marks: &mut [u8]) -> Answer {
-    let from = before.first;
-    if marks.len() < from {
-        return before;
-    }
-    let states = Pair {
-        given: before.second as u64,
-        opposite: before.third as u64,
-    };
-    match states.through(p, stretch, &mut marks[from..]) {
-        SoughtBoth::Refused(wrong) => Answer::refused(wrong.number, wrong.place),
-        SoughtBoth::Marked {
-            segments,
-            size: _,
-            ends: _,
-            state,
-        } => Answer::told(
-            wrapping_add_usize(from, segments),
-            state.given as usize,
-            state.opposite as usize,
-        ),
-    }
+// The states before the first segment.
+const FRESH: Pair = Pair {
+    given: 1,
+    opposite: 1,
+};
+
+// A text cut in its middle.
+fn halved(case: &Case, marks: &mut [u8]) -> Result<Come<Pair>, Refusal> {
+    let cut = case.segments() / 2;
+    parted(case, cut, FRESH, marks, |states, stretch, marks| {
+        match states.through(case.given.as_slice(), stretch, marks) {
+            SoughtBoth::Refused(wrong) => Err(wrong),
+            SoughtBoth::Marked {
+                segments,
+                size: _,
+                ends,
+                state,
+            } => Ok(Come {
+                segments,
+                ends,
+                state,
+            }),
+        }
+    })
+}
+
+// What so many segments and these states tell.
+fn told(segments: usize, states: Pair) -> Answer {
+    Answer::told(segments, states.given as usize, states.opposite as usize)
 }
 
 // A text cut in its middle is to tell these states, and to leave these marks.
-pub fn compare(
-    rt: &HostRuntime,
-    tally: Tally,
-    p: &[u8],
-    bytes: &[u8],
-    segments: usize,
-    states: Pair,
-    left: &[u8],
-) -> Tally {
-    let cut = segments / 2;
-    let mut front = [0u8; 2048];
-    let n = test_random::drawn::stretch(&mut front, bytes, 0, cut);
-    let mut back = [0u8; 2048];
-    let m = test_random::drawn::stretch(&mut back, bytes, cut, segments);
-    let mut marks = [7u8; 40];
-    let first = onward(Answer::told(0, 1, 1), p, part(&front, 0, n), &mut marks);
-    let both = onward(first, p, part(&back, 0, m), &mut marks);
-    let wanted = Answer::told(segments, states.given as usize, states.opposite as usize);
-    tally.compare(rt, EITHER, held(both, &marks, left), wanted)
+pub fn compare(tally: &mut Tally, case: &Case, states: Pair, wanted: &[u8]) {
+    let answer = held_in::<40, _, _>(
+        7,
+        |left| put_part(left, 0, wanted),
+        |marks| match halved(case, marks) {
+            Ok(come) => told(come.segments, come.state),
+            Err(refusal) => Answer::from(refusal),
+        },
+    );
+    tally.compare(EITHER, answer, told(case.segments(), states));
 }

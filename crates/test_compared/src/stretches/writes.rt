@@ -1,56 +1,44 @@
 // The writer: what a text was taken apart into, written again.
 use stretch::write;
-use test_reference::Verdict;
-use test_reference::places::{part, put_part, variants_before, word_at};
-use test_tally::{Answer, Tally, held, written};
+use test_reference::places::{
+    counts, lengths, letters, put_part, raised, variants_before, word_at,
+};
+use test_reference::{Bytes, Sound, Wrong};
+use test_tally::{Answer, Tally, held_in};
 
 // The group of the writes.
 const WRITES: usize = 2;
 
-// What a write answers, where it leaves these bytes in front of its buffer.
-fn rewritten(letters: &[u8], lengths: &[u16], counts: &[u8], wanted: &[u8]) -> Answer {
-    let mut out = [7u8; 2048];
-    let answer = written(write(letters, lengths, counts, &mut out));
-    let mut left = [7u8; 2048];
-    put_part(&mut left, 0, wanted);
-    held(answer, &out, &left)
-}
-
-// The parts of a text, written again.
+// The parts of a text, written again, where that leaves these bytes in front of the buffer.
 fn again(bytes: &[u8], wanted: &[u8]) -> Answer {
-    let segments = word_at(bytes, 0);
+    let segments = word_at(bytes, 0) as usize;
     let variants = variants_before(bytes, segments);
-    let mut letters = [0u8; 2048];
-    let n = test_reference::places::letters(&mut letters, bytes, segments, variants);
-    let mut lengths = [0u16; 64];
-    test_reference::places::lengths(&mut lengths, bytes, segments);
-    let mut counts = [0u8; 32];
-    test_reference::places::counts(&mut counts, bytes);
-    let long = variants % 65;
-    rewritten(
-        part(&letters, 0, n),
-        &lengths[0..long],
-        part(&counts, 0, segments),
-        wanted,
+    let row = Bytes::<2048>::put(|out| letters(out, bytes, segments, variants));
+    let mut long = [0u16; 64];
+    lengths(&mut long, bytes, segments);
+    let many = Bytes::<32>::put(|out| {
+        counts(out, bytes);
+        segments
+    });
+    held_in::<2048, _, _>(
+        7,
+        |left| put_part(left, 0, wanted),
+        |out| { Answer::from(write(row.as_slice(), &long[..variants % 65], many.as_slice(), out)) },
     )
 }
 
 // A text that is accepted, and written as it was with its letters in upper case; or refused for a variant that is repeated, at its
 // number.
-pub fn compare(rt: &HostRuntime, tally: Tally, bytes: &[u8], verdict: Verdict) -> Tally {
-    let mut raised = [0u8; 2048];
-    let n = test_reference::places::raised(
-        &mut raised,
-        verdict.kept(bytes),
-        verdict.segments,
-        verdict.variants,
-    );
-    let answer = Answer {
-        number: verdict.number,
-        place: verdict.before,
-        first: n,
-        second: 0,
-        third: 0,
-    };
-    tally.compare(rt, WRITES, again(bytes, part(&raised, 0, n)), answer)
+pub fn compare(tally: &mut Tally, bytes: &[u8], verdict: Result<Sound, Wrong>) {
+    match verdict {
+        Ok(sound) => {
+            let text = Bytes::<2048>::put(|out| raised(out, bytes, sound.segments, sound.variants));
+            let wanted = Answer::told(text.as_slice().len(), 0, 0);
+            tally.compare(WRITES, again(bytes, text.as_slice()), wanted);
+        }
+        Err(wrong) => {
+            let wanted = Answer::refused(wrong.refusal as u64, wrong.before);
+            tally.compare(WRITES, again(bytes, &[]), wanted);
+        }
+    }
 }

@@ -1,20 +1,12 @@
 // Bytes as the examples write them. Raw: two hex digits for a byte, a capital letter for itself, and at most once (..*n), which is
 // n times what stands before the star. Segments: {CGA,G}{e,T}, where e is the empty variant and none has over 255 letters.
-ghost use Rattle.std.specs.Prelude.{◌<◌};
-
 use crate::notation::words::{behind, spelt};
-use std::num::{wrapping_add_u8, wrapping_add_usize};
-use test_reference::places::{number_at, put};
+use test_reference::places::{byte_at, put};
 
 // The value of a hex digit.
-fn digit(byte: u8) -> usize
-    ensures { result < 32 }
-{
-    let low = (byte % 16) as usize;
-    if byte < 58 {
-        return low;
-    }
-    low + 9
+fn digit(byte: u8) -> u8 {
+    let low = byte % 16;
+    if byte <= b'9' { low } else { low + 9 }
 }
 
 // Puts a raw character after that many half bytes, and tells how many there are then.
@@ -23,12 +15,12 @@ fn raw_one(out: &mut [u8], halves: usize, byte: u8) -> usize {
     match byte {
         b'A'..=b'Z' => {
             put(&mut *out, at, byte);
-            wrapping_add_usize(halves, 2)
+            halves.wrapping_add(2)
         }
         _ => {
-            let value = (number_at(out, at) * 16 + digit(byte)) % 256;
-            put(&mut *out, at, value as u8);
-            wrapping_add_usize(halves, 1)
+            let high = byte_at(out, at).wrapping_mul(16);
+            put(&mut *out, at, high.wrapping_add(digit(byte)));
+            halves.wrapping_add(1)
         }
     }
 }
@@ -36,14 +28,11 @@ fn raw_one(out: &mut [u8], halves: usize, byte: u8) -> usize {
 // Puts raw characters, up to a parenthesis or a star.
 fn raw_row(out: &mut [u8], from: usize, row: &[u8]) -> usize {
     let mut halves = from;
-    let mut i = 0;
-    while i < row.len() {
-        let byte = row[i];
-        if byte < b'0' {
-            return halves;
+    for byte in row {
+        if *byte < b'0' {
+            break;
         }
-        halves = raw_one(&mut *out, halves, byte);
-        i += 1;
+        halves = raw_one(&mut *out, halves, *byte);
     }
     halves
 }
@@ -51,10 +40,8 @@ fn raw_row(out: &mut [u8], from: usize, row: &[u8]) -> usize {
 // Puts raw characters n times.
 fn raw_times(out: &mut [u8], from: usize, row: &[u8], n: u64) -> usize {
     let mut halves = from;
-    let mut k = 0;
-    while k < n {
+    for _ in 0..n {
         halves = raw_row(&mut *out, halves, row);
-        k += 1;
     }
     halves
 }
@@ -69,47 +56,44 @@ pub fn raw(out: &mut [u8], word: &[u8]) -> usize {
 
 // One more, at a place.
 fn bump(out: &mut [u8], at: usize) {
-    let before = (number_at(out, at) % 256) as u8;
-    put(&mut *out, at, wrapping_add_u8(before, 1));
+    let before = byte_at(out, at);
+    put(&mut *out, at, before.wrapping_add(1));
 }
 
 // Puts segments from a place on into a buffer of zeros, counts them in its first byte, and tells the place after them. A lone
-// segment, from place 0 on, has its variant count there instead.
+// segment, from place 0 on, has its variant count there instead. Places stay: counts and lengths are put behind what was put before.
 fn segments(out: &mut [u8], from: usize, word: &[u8]) -> usize {
     let mut at = from;
     let mut count = from;
     let mut length = from;
-    let mut i = 0;
-    while i < word.len() {
-        let byte = word[i];
-        match byte {
+    for byte in word {
+        match *byte {
             b'{' => {
                 bump(&mut *out, 0);
                 put(&mut *out, at, 1);
                 count = at;
-                length = wrapping_add_usize(at, 1);
-                at = wrapping_add_usize(at, 3);
+                length = at.wrapping_add(1);
+                at = at.wrapping_add(3);
             }
             b',' => {
                 bump(&mut *out, count);
                 length = at;
-                at = wrapping_add_usize(at, 2);
+                at = at.wrapping_add(2);
             }
             b'}' | b'e' => {}
-            _ => {
-                put(&mut *out, at, byte);
+            letter => {
+                put(&mut *out, at, letter);
                 bump(&mut *out, length);
-                at = wrapping_add_usize(at, 1);
+                at = at.wrapping_add(1);
             }
         }
-        i += 1;
     }
     at
 }
 
 // Puts a stretch, or with no head a lone segment, into a buffer of zeros, and tells how many bytes it has: segments, or raw bytes.
 pub fn stretch(out: &mut [u8], word: &[u8], head: usize) -> usize {
-    if number_at(word, 0) == 123 {
+    if word.starts_with(b"{") {
         return segments(&mut *out, head, word);
     }
     raw(&mut *out, word)

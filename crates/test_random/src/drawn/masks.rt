@@ -1,16 +1,15 @@
 // Letters of texts as references have them: some in lower case, some unknown; and bytes that are no letters.
 use crate::drawn::numbers::below;
 use crate::drawn::puts::letter;
-use std::num::wrapping_add_usize;
-use test_reference::places::{number_at, put};
+use test_reference::places::{byte_at, put};
 
 // A base as a text may have it, by a number below 32: unknown, in lower case, or as it is.
-fn masked(base: usize, kind: usize) -> u8 {
+fn masked(base: u8, kind: usize) -> u8 {
     match kind {
         0 => b'N',
         1 => b'n',
-        2..=14 => ((base | 32) % 256) as u8,
-        _ => (base % 256) as u8,
+        2..=14 => base | 32,
+        _ => base,
     }
 }
 
@@ -19,24 +18,22 @@ pub fn mask(out: &mut [u8], from: usize, n: usize, text: u64, seed: u64) {
     if below(text, 301, 2) == 0 {
         return;
     }
-    let mut i = 0;
-    while i < n {
-        let at = wrapping_add_usize(from, i);
-        let kind = below(seed, wrapping_add_usize(i, 1000), 32);
-        let byte = masked(number_at(out, at), kind);
+    for i in 0..n {
+        let at = from.wrapping_add(i);
+        let kind = below(seed, i.wrapping_add(1000), 32);
+        let byte = masked(byte_at(out, at), kind);
         put(&mut *out, at, byte);
-        i += 1;
     }
 }
 
 // A letter of any kind.
 pub fn any_letter(seed: u64, what: usize) -> u8 {
-    let kind = below(seed, wrapping_add_usize(what, 1000), 32);
-    masked(letter(seed, what, 4) as usize, kind)
+    let kind = below(seed, what.wrapping_add(1000), 32);
+    masked(letter(seed, what, 4), kind)
 }
 
 // A byte that is no letter: beside one, beside all of them, one that stands for several bases, or one with its high bit set.
 pub fn stray(seed: u64, what: usize) -> u8 {
     let strays = b"@[`{BDFHMOSUbdfhmosuRYKWrykw-.* \x00\xc1\xe1\xce\xee";
-    (number_at(strays, below(seed, what, 37)) % 256) as u8
+    byte_at(strays, below(seed, what, strays.len()))
 }

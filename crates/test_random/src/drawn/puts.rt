@@ -1,33 +1,20 @@
 // Bytes put into a buffer, as far as there is room.
 use crate::drawn::numbers::below;
-use std::num::wrapping_add_usize;
-use test_reference::places::put;
+use test_reference::places::{byte_at, put, put_part};
 
 // A number of two bytes, low byte first.
 pub fn put_word(out: &mut [u8], at: usize, number: usize) {
-    put(&mut *out, at, (number % 256) as u8);
-    put(
-        &mut *out,
-        wrapping_add_usize(at, 1),
-        (number / 256 % 256) as u8,
-    );
+    put_part(&mut *out, at, &((number % 65536) as u16).to_le_bytes());
 }
 
 // One of the first that many of A, C, G, T.
 pub fn letter(seed: u64, what: usize, alphabet: usize) -> u8 {
-    let number = below(seed, what, alphabet);
-    match number {
-        0 => b'A',
-        1 => b'C',
-        2 => b'G',
-        _ => b'T',
-    }
+    byte_at(b"ACGT", below(seed, what, alphabet))
 }
 
 // An alphabet of one, two or four letters.
 fn alphabet(seed: u64) -> usize {
-    let number = below(seed, 300, 8);
-    match number {
+    match below(seed, 300, 8) {
         0 => 1,
         1..=4 => 2,
         _ => 4,
@@ -37,13 +24,7 @@ fn alphabet(seed: u64) -> usize {
 // n letters from a place on. The seed of the alphabet is that of the text.
 pub fn put_letters(out: &mut [u8], from: usize, n: usize, text: u64, seed: u64) {
     let letters = alphabet(text);
-    let mut i = 0;
-    while i < n {
-        put(
-            &mut *out,
-            wrapping_add_usize(from, i),
-            letter(seed, i, letters),
-        );
-        i += 1;
+    for i in 0..n {
+        put(&mut *out, from.wrapping_add(i), letter(seed, i, letters));
     }
 }

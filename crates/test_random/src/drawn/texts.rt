@@ -3,7 +3,6 @@
 use crate::drawn::masks::mask;
 use crate::drawn::numbers::{below, seed};
 use crate::drawn::puts::{put_letters, put_word};
-use std::num::{wrapping_add_usize, wrapping_sub_usize};
 use test_reference::places::{part, put, put_part, repeats, segment_at};
 
 // The place after what was put, and how many variants or segments there are.
@@ -15,8 +14,7 @@ struct Made {
 
 // The length of a variant.
 fn length(seed: u64) -> usize {
-    let kind = below(seed, 400, 128);
-    match kind {
+    match below(seed, 400, 128) {
         0 => below(seed, 401, 320),
         1..=3 => below(seed, 402, 71),
         4..=19 => 0,
@@ -27,17 +25,14 @@ fn length(seed: u64) -> usize {
 
 // Whether the variant at a place is dropped: of those that repeat one from `first` on, few are kept.
 fn drops(out: &[u8], first: usize, made: Made, seed: u64) -> bool {
-    if below(seed, 405, 64) == 0 {
-        return false;
-    }
-    repeats(out, first, made.count, made.at)
+    below(seed, 405, 64) != 0 && repeats(out, first, made.count, made.at)
 }
 
 // Puts one variant more of the segment whose variants stand from `first` on, if there is room.
 fn variant(out: &mut [u8], first: usize, made: Made, text: u64, seed: u64) -> Made {
     let n = length(seed);
-    let letters = wrapping_add_usize(made.at, 2);
-    let end = wrapping_add_usize(letters, n);
+    let letters = made.at.wrapping_add(2);
+    let end = letters.wrapping_add(n);
     if out.len() < end {
         return made;
     }
@@ -49,7 +44,7 @@ fn variant(out: &mut [u8], first: usize, made: Made, text: u64, seed: u64) -> Ma
     }
     Made {
         at: end,
-        count: wrapping_add_usize(made.count, 1),
+        count: made.count.wrapping_add(1),
     }
 }
 
@@ -59,18 +54,16 @@ fn variants(out: &mut [u8], first: usize, tries: usize, text: u64, from: u64) ->
         at: first,
         count: 0,
     };
-    let mut i = 0;
-    while i < tries {
+    for i in 0..tries {
         made = variant(&mut *out, first, made, text, seed(from, i));
-        i += 1;
     }
     made
 }
 
 // Puts one segment more, if there is room for a variant.
 fn segment(out: &mut [u8], made: Made, text: u64, seed: u64) -> Made {
-    let first = wrapping_add_usize(made.at, 1);
-    let tries = wrapping_add_usize(below(seed, 500, 5), 1);
+    let first = made.at.wrapping_add(1);
+    let tries = below(seed, 500, 5).wrapping_add(1);
     let put_there = variants(&mut *out, first, tries, text, seed);
     if put_there.count == 0 {
         return made;
@@ -78,7 +71,7 @@ fn segment(out: &mut [u8], made: Made, text: u64, seed: u64) -> Made {
     put(&mut *out, made.at, (put_there.count % 256) as u8);
     Made {
         at: put_there.at,
-        count: wrapping_add_usize(made.count, 1),
+        count: made.count.wrapping_add(1),
     }
 }
 
@@ -86,10 +79,8 @@ fn segment(out: &mut [u8], made: Made, text: u64, seed: u64) -> Made {
 pub fn text(out: &mut [u8], from: u64) -> usize {
     let segments = below(from, 501, 13);
     let mut made = Made { at: 2, count: 0 };
-    let mut j = 0;
-    while j < segments {
+    for j in 0..segments {
         made = segment(&mut *out, made, from, seed(from, j));
-        j += 1;
     }
     put_word(&mut *out, 0, made.count);
     made.at
@@ -98,11 +89,11 @@ pub fn text(out: &mut [u8], from: u64) -> usize {
 // The bytes of the segments of a text from one on and before another.
 pub fn segments(bytes: &[u8], from: usize, to: usize) -> &[u8] {
     let at = segment_at(bytes, from);
-    part(bytes, at, wrapping_sub_usize(segment_at(bytes, to), at))
+    part(bytes, at, segment_at(bytes, to).wrapping_sub(at))
 }
 
 // Puts these segments as a stretch of their own, and tells how many bytes it has.
 pub fn stretch(out: &mut [u8], bytes: &[u8], from: usize, to: usize) -> usize {
-    put_word(&mut *out, 0, wrapping_sub_usize(to, from));
+    put_word(&mut *out, 0, to.wrapping_sub(from));
     put_part(&mut *out, 2, segments(bytes, from, to))
 }

@@ -15,14 +15,12 @@ const BLOCK: usize = 64;
 fn find(s: &[u8], mark: u8) -> usize
     ensures { result ≡ first_not (other mark) s.now }
 {
-    let mut i = 0;
-    while i < s.len() {
-        if s[i] == mark {
+    for (i, byte) in s.iter().enumerate() {
+        if *byte == mark {
             return i;
         }
-        i += 1;
     }
-    i
+    s.len()
 }
 
 // The place of the first byte `mark` from `from` on; the length where there is none, and `from` where it lies after the bytes.
@@ -41,10 +39,8 @@ fn is_clear(part: &[u8], mark: u8) -> bool
     ensures { result ≡ every (other mark) part.now }
 {
     let mut found = false;
-    let mut i = 0;
-    while i < part.len() {
-        found = found | (part[i] == mark);
-        i += 1;
+    for byte in part {
+        found |= *byte == mark;
     }
     !found
 }
@@ -56,6 +52,7 @@ fn passed(s: &[u8], mark: u8, from: usize) -> usize
 {
     let mut at = from;
     let mut left = s.len() - from;
+    // Goes by blocks, and stays at the last that is short.
     while BLOCK <= left {
         let end = at + BLOCK;
         if !is_clear(&s[at..end], mark) {
@@ -83,14 +80,12 @@ pub fn piece(s: &[u8], mark: u8, k: usize) -> &[u8]
     ensures { result.now ≡ get_or (pieces mark s.now) k [] }
 {
     let mut from = 0;
-    let mut i = 0;
-    while i < k {
+    for _i in 0..k {
         let end = end_of(s, mark, from);
         if end == s.len() {
             return &s[end..];
         }
         from = end + 1;
-        i += 1;
     }
     let end = end_of(s, mark, from);
     &s[from..end]
@@ -101,19 +96,18 @@ pub fn more_than(s: &[u8], mark: u8, n: usize) -> bool
     ensures { result ≡ ltb n (length (pieces mark s.now)) }
 {
     let mut from = 0;
-    let mut i = 0;
-    while i < n {
+    for _i in 0..n {
         let end = end_of(s, mark, from);
         if end == s.len() {
             return false;
         }
         from = end + 1;
-        i += 1;
     }
     true
 }
 
 // The place after a line that ends at `end`: its line feed goes.
+#[tactic(auto, unfolding(crate::specs::Pieces::next_line))]
 pub fn next_line(file: &[u8], end: usize) -> usize
     ensures { result ≡ next_line file.now end }
 {

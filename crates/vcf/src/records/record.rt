@@ -1,5 +1,5 @@
 // One record: a line of at least eight fields. What is asked of it whatever the window is.
-ghost use Rattle.std.specs.Prelude.{◌≡◌, cond};
+ghost use Rattle.std.specs.Prelude.{◌≡◌, cond, None, Some};
 ghost use Rattle.vcf.specs.Records.{position, field, allele, alternates, alternates_sound, is_record, comment, are_alleles, none};
 
 use crate::records::pieces::{COMMA, TAB, end_of, more_than, piece};
@@ -14,7 +14,7 @@ pub fn is_comment(line: &[u8]) -> bool
     if line.len() == 0 {
         return false;
     }
-    line[0] == 35
+    line[0] == b'#'
 }
 
 // The field of that number.
@@ -35,13 +35,18 @@ fn is_allele(bytes: &[u8]) -> bool
 }
 
 // Whether an ALT field says that there is no allele besides REF.
+#[tactic(auto, unfolding(crate::specs::Records::none))]
 pub fn is_none(alt: &[u8]) -> bool
     ensures { result ≡ none alt.now }
 {
-    if alt.len() != 1 {
-        return false;
-    }
-    alt[0] == 46
+    same(alt, b".")
+}
+
+// The alleles of a record: its REF, and its ALT field.
+#[derive(Clone, Copy)]
+pub struct Alleles<'a> {
+    pub reference: &'a [u8],
+    pub alt: &'a [u8],
 }
 
 // Whether every piece between commas is an allele.
@@ -49,6 +54,7 @@ fn are_alleles(alt: &[u8]) -> bool
     ensures { result ≡ are_alleles alt.now }
 {
     let mut from = 0;
+    // Goes from comma to comma, and takes what follows the last one too.
     loop {
         let end = end_of(alt, COMMA, from);
         if !is_allele(&alt[from..end]) {
@@ -74,24 +80,24 @@ fn are_alternates(alt: &[u8]) -> bool
     are_alleles(alt)
 }
 
-// The position of a line that is a sound record of the chromosome; 0 for any other.
-pub fn sound(line: &[u8], name: &[u8]) -> usize
-    ensures { result ≡ cond (is_record name.now line.now) (position line.now) 0 }
+// The position of a line that is a sound record of the chromosome; none for any other.
+pub fn sound(line: &[u8], name: &[u8]) -> Option<usize>
+    ensures { result ≡ cond (is_record name.now line.now) (Some (position line.now)) None }
 {
     if !more_than(line, TAB, 7) {
-        return 0;
+        return None;
     }
     let chromosome = field(line, 0);
     if !same(chromosome, name) {
-        return 0;
+        return None;
     }
     let reference = field(line, 3);
     if !is_allele(reference) {
-        return 0;
+        return None;
     }
     let alt = field(line, 4);
     if !are_alternates(alt) {
-        return 0;
+        return None;
     }
     let stated = field(line, 1);
     position(stated)

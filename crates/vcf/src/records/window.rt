@@ -8,23 +8,6 @@ use text::compare::alike;
 // After every position and every window.
 pub const BEYOND: usize = 4294967296;
 
-// Refusal 28: whether the window begins at position 1 or later and has no base beyond the last position.
-pub fn is_placed(window: &[u8], first: usize) -> bool
-    ensures { result ≡ placed window.now first }
-{
-    if first == 0 {
-        return false;
-    }
-    let bases = window.len();
-    if bases == 0 {
-        return true;
-    }
-    if 2147483648 < first {
-        return false;
-    }
-    bases <= 2147483648 - first
-}
-
 // The position after that many bases from a position on; BEYOND where that is greater.
 pub fn behind(position: usize, bases: usize) -> usize
     ensures { result ≡ min beyond (position + bases) }
@@ -38,36 +21,67 @@ pub fn behind(position: usize, bases: usize) -> usize
     position + bases
 }
 
-// Whether a record from `position` up to `end` has no base in the window.
-pub fn is_outside(window: &[u8], first: usize, position: usize, end: usize) -> bool
-    ensures { result ≡ outside (meant window.now) first position end }
-{
-    if window.len() == 0 {
-        return true;
-    }
-    if end <= first {
-        return true;
-    }
-    if position < first {
-        return false;
-    }
-    window.len() <= position - first
+// A piece of the reference, the first base of which stands at that position.
+#[derive(Clone, Copy)]
+pub struct Window<'a> {
+    pub bases: &'a [u8],
+    pub first: usize,
 }
 
-// Whether a record lies in the window whole, and its REF is what stands there.
-pub fn agrees(window: &[u8], first: usize, position: usize, reference: &[u8]) -> bool
-    ensures { result ≡ agrees (meant window.now) first position (meant reference.now) }
-{
-    if position < first {
-        return false;
+impl<'a> Window<'a> {
+    // Refusal 28: whether it begins at position 1 or later and has no base beyond the last position.
+    pub fn is_placed(self) -> bool
+        ensures { result ≡ placed self.entry.bases.now self.entry.first }
+    {
+        let first = self.first;
+        if first == 0 {
+            return false;
+        }
+        let bases = self.bases.len();
+        if bases == 0 {
+            return true;
+        }
+        if 2147483648 < first {
+            return false;
+        }
+        bases <= 2147483648 - first
     }
-    let start = position - first;
-    if window.len() < start {
-        return false;
+
+    // Whether a record from `position` up to `end` has no base in it.
+    pub fn is_outside(self, position: usize, end: usize) -> bool
+        ensures { result ≡ outside (meant self.entry.bases.now) self.entry.first position end }
+    {
+        let first = self.first;
+        let bases = self.bases.len();
+        if bases == 0 {
+            return true;
+        }
+        if end <= first {
+            return true;
+        }
+        if position < first {
+            return false;
+        }
+        bases <= position - first
     }
-    if window.len() - start < reference.len() {
-        return false;
+
+    // Whether a record lies in it whole, and its REF is what stands there.
+    pub fn agrees(self, position: usize, reference: &[u8]) -> bool
+        ensures { result ≡ agrees (meant self.entry.bases.now) self.entry.first position (meant reference.now) }
+    {
+        let window = self.bases;
+        let first = self.first;
+        if position < first {
+            return false;
+        }
+        let start = position - first;
+        if window.len() < start {
+            return false;
+        }
+        if window.len() - start < reference.len() {
+            return false;
+        }
+        let end = start + reference.len();
+        alike(reference, &window[start..end])
     }
-    let end = start + reference.len();
-    alike(reference, &window[start..end])
 }

@@ -1,157 +1,127 @@
-// What the text needs before any of it is written: its bytes (refusal 4) and its first repeated variant (refusal 8).
-ghost use Rattle.std.specs.Prelude.{◌≡◌, false, cond, [], ◌∷◌, ◌+◌, ltb, take};
+// What the text needs before any of it is written: its bytes (refusal 4) and its first repeated variant (refusal 8). One that is too long
+// is no more counted; one with a repeated variant is, since 4 comes before 8.
+ghost use Rattle.std.specs.Prelude.{◌≡◌, ◌≤◌, [], ◌∷◌, Ok, IfOk, take};
 ghost use Rattle.text.specs.Letter.{meant};
 ghost use Rattle.layout.specs.Reading.{among};
 ghost use Rattle.vcf.specs.Pieces.{pieces};
 ghost use Rattle.vcf.specs.Records.{alternates};
-ghost use Rattle.vcf.specs.Tallies.{within, nothing, opened, tallied, tally_in, Sane};
+ghost use Rattle.layout.specs.Bytes.{greatest_stretch};
+ghost use Rattle.vcf.specs.Tallies.{nothing, counted, grown, opened, tallied, spaced, tally_in, Sane};
 
 use crate::records::pieces::{COMMA, end_of};
-use crate::records::record::is_none;
+use crate::records::record::{Alleles, is_none};
 use layout::{FIRST_LETTER, FIRST_SEGMENT, FIRST_VARIANT};
 use text::compare::alike;
-use text::limits;
+use text::{Refusal, limits, refusal};
 
-// How the text stands: all of it fits so far, or it has a repeated variant of that number, or it is too long.
+// What a text needs so far: its bytes, how many segments it has, and how many variants, or the refusal of its first repeated one.
+// That it is sane is asked in clauses: as a ghost field, each definition of specs/ that makes one would have to prove it.
 #[derive(Clone, Copy)]
-pub enum Needed {
-    Fits {
-        bytes: usize,
-        segments: usize,
-        variants: usize,
-    },
-    Repeated {
-        bytes: usize,
-        number: usize,
-    },
-    Long,
+pub struct Needed {
+    pub bytes: usize,
+    pub segments: usize,
+    pub variants: Result<usize, Refusal>,
 }
 
-// Whether that many bytes and that many more fit a stretch.
-fn fits(bytes: usize, more: usize) -> bool
-    ensures { result ≡ within (bytes + more) }
+// How many variants there are with one more, which is repeated or not.
+fn counted(variants: Result<usize, Refusal>, again: bool) -> Result<usize, Refusal>
+    requires { IfOk variants (λ v. v ≤ greatest_stretch) }
+    ensures { result ≡ counted variants again }
 {
-    if limits::GREATEST_STRETCH < bytes {
-        return false;
+    let number = variants?;
+    if again {
+        return Err(Refusal {
+            number: refusal::REPEATED,
+            place: number,
+        });
     }
-    more <= limits::GREATEST_STRETCH - bytes
+    Ok(number + 1)
 }
 
 impl Needed {
     // No segment: a segment count alone.
     pub fn nothing() -> Needed
-        ensures { result ≡ nothing }
+        ensures { Ok result ≡ nothing }
     {
-        Needed::Fits {
+        Needed {
             bytes: FIRST_SEGMENT,
             segments: 0,
-            variants: 0,
+            variants: Ok(0),
         }
+    }
+
+    // With that many bytes more.
+    fn grown(self, more: usize) -> Result<Needed, Refusal>
+        requires { Sane (Ok self) }
+        ensures { result ≡ grown (Ok self) more }
+    {
+        let bytes = self.bytes;
+        if limits::GREATEST_STRETCH - bytes < more {
+            return Err(Refusal {
+                number: refusal::STRETCH_LONG,
+                place: 0,
+            });
+        }
+        Ok(Needed {
+            bytes: bytes + more,
+            ..self
+        })
     }
 
     // With one segment more: its variant count.
-    fn open(self) -> Needed
-        requires { Sane self }
-        ensures { result ≡ opened self }
+    fn open(self) -> Result<Needed, Refusal>
+        requires { Sane (Ok self) }
+        ensures { result ≡ opened (Ok self) }
     {
-        match self {
-            Needed::Long => Needed::Long,
-            Needed::Fits {
-                bytes,
-                segments,
-                variants,
-            } => {
-                if !fits(bytes, FIRST_VARIANT) {
-                    return Needed::Long;
-                }
-                Needed::Fits {
-                    bytes: bytes + FIRST_VARIANT,
-                    segments: segments + 1,
-                    variants,
-                }
-            }
-            Needed::Repeated { bytes, number } => {
-                if !fits(bytes, FIRST_VARIANT) {
-                    return Needed::Long;
-                }
-                Needed::Repeated {
-                    bytes: bytes + FIRST_VARIANT,
-                    number,
-                }
-            }
-        }
+        let needed = self.grown(FIRST_VARIANT)?;
+        Ok(Needed {
+            segments: needed.segments + 1,
+            ..needed
+        })
     }
 
     // With one variant more, repeated or not: its length, then its letters.
-    fn variant(self, letters: usize, again: bool) -> Needed
-        requires { Sane self }
-        ensures { result ≡ tallied self letters again }
+    fn variant(self, letters: usize, again: bool) -> Result<Needed, Refusal>
+        requires { Sane (Ok self) }
+        ensures { result ≡ tallied (Ok self) letters again }
     {
-        if limits::GREATEST_STRETCH < letters {
-            return Needed::Long;
-        }
-        let more = letters + FIRST_LETTER;
-        match self {
-            Needed::Long => Needed::Long,
-            Needed::Fits {
-                bytes,
-                segments,
-                variants,
-            } => {
-                if !fits(bytes, more) {
-                    return Needed::Long;
-                }
-                if again {
-                    return Needed::Repeated {
-                        bytes: bytes + more,
-                        number: variants,
-                    };
-                }
-                Needed::Fits {
-                    bytes: bytes + more,
-                    segments,
-                    variants: variants + 1,
-                }
-            }
-            Needed::Repeated { bytes, number } => {
-                if !fits(bytes, more) {
-                    return Needed::Long;
-                }
-                Needed::Repeated {
-                    bytes: bytes + more,
-                    number,
-                }
-            }
-        }
+        let begun = self.grown(FIRST_LETTER)?;
+        let needed = begun.grown(letters)?;
+        Ok(Needed {
+            variants: counted(needed.variants, again),
+            ..needed
+        })
     }
 
     // With that many bases as a segment of one variant; none where there are none.
-    pub fn gap(self, bases: usize) -> Needed
-        requires { Sane self }
-        ensures { result ≡ cond (ltb 0 bases) (tallied (opened self) bases false) self }
+    pub fn gap(self, bases: usize) -> Result<Needed, Refusal>
+        requires { Sane (Ok self) }
+        ensures { result ≡ spaced (Ok self) bases }
     {
         if bases == 0 {
-            return self;
+            return Ok(self);
         }
-        let begun = self.open();
+        let begun = self.open()?;
         begun.variant(bases, false)
     }
 
     // With the alleles of ALT after REF.
-    fn alternates(self, reference: &[u8], alt: &[u8]) -> Needed
-        requires { Sane self }
-        ensures { result ≡ tally_in self (meant reference.now ∷ []) (pieces 0x2C (meant alt.now)) }
+    fn alternates(self, alleles: Alleles) -> Result<Needed, Refusal>
+        requires { Sane (Ok self) }
+        ensures { result ≡ tally_in (Ok self) (meant alleles.entry.reference.now ∷ []) (pieces 0x2C (meant alleles.entry.alt.now)) }
     {
+        let alt = alleles.alt;
         let mut needed = self;
         let mut from = 0;
         let mut k = 0;
+        // Goes from comma to comma, and takes what follows the last one too.
         loop {
             let end = end_of(alt, COMMA, from);
             let allele = &alt[from..end];
-            let again = repeated(reference, alt, k, allele);
-            needed = needed.variant(allele.len(), again);
+            let again = repeated(alleles, k, allele);
+            needed = needed.variant(allele.len(), again)?;
             if end == alt.len() {
-                return needed;
+                return Ok(needed);
             }
             from = end + 1;
             k += 1;
@@ -159,30 +129,30 @@ impl Needed {
     }
 
     // With the segment of a record.
-    pub fn record(self, reference: &[u8], alt: &[u8]) -> Needed
-        requires { Sane self }
-        ensures { result ≡ tally_in (opened self) [] (meant reference.now ∷ alternates (meant alt.now)) }
+    pub fn record(self, alleles: Alleles) -> Result<Needed, Refusal>
+        requires { Sane (Ok self) }
+        ensures { result ≡ tally_in (opened (Ok self)) [] (meant alleles.entry.reference.now ∷ alternates (meant alleles.entry.alt.now)) }
     {
-        let begun = self.open();
-        let first = begun.variant(reference.len(), false);
-        if is_none(alt) {
-            return first;
+        let begun = self.open()?;
+        let first = begun.variant(alleles.reference.len(), false)?;
+        if is_none(alleles.alt) {
+            return Ok(first);
         }
-        first.alternates(reference, alt)
+        first.alternates(alleles)
     }
 }
 
 // Whether an allele is REF, or one of the first k of ALT.
-fn repeated(reference: &[u8], alt: &[u8], k: usize, allele: &[u8]) -> bool
+fn repeated(alleles: Alleles, k: usize, allele: &[u8]) -> bool
     ensures { result ≡ among (meant allele.now)
-        (meant reference.now ∷ take k (pieces 0x2C (meant alt.now))) }
+        (meant alleles.entry.reference.now ∷ take k (pieces 0x2C (meant alleles.entry.alt.now))) }
 {
-    if alike(allele, reference) {
+    if alike(allele, alleles.reference) {
         return true;
     }
+    let alt = alleles.alt;
     let mut from = 0;
-    let mut i = 0;
-    while i < k {
+    for _i in 0..k {
         let end = end_of(alt, COMMA, from);
         if alike(allele, &alt[from..end]) {
             return true;
@@ -191,7 +161,6 @@ fn repeated(reference: &[u8], alt: &[u8], k: usize, allele: &[u8]) -> bool
             return false;
         }
         from = end + 1;
-        i += 1;
     }
     false
 }

@@ -5,8 +5,8 @@ use lib.ListN.{length}
 use Rattle.desk_list.proofs.Checks.{Checking}
 use Rattle.desk_list.proofs.checking.check.Given as goal
 
-abbrev pub invariant-loop-next : goal.invariant-loop-next
-invariant-loop-next l = Checking l.list l.at l.count
+abbrev pub invariant-loop-line : goal.invariant-loop-line
+invariant-loop-line l = Checking l.list l.at l.count
 
-abbrev pub decreases-loop-next : goal.decreases-loop-next
-decreases-loop-next l = length l.list - l.at
+abbrev pub decreases-loop-line : goal.decreases-loop-line
+decreases-loop-line l = length l.list - l.at

@@ -1,26 +1,28 @@
 use native.Mathlib.Omega.{arith}
+use mathlib.Core.Path.{◌∙◌}
 use Rattle.desk_list.proofs.Values.{telling-none, telling-large, telling-more, telling-end}
 use Rattle.desk_list.proofs.decimal.told.Goals as goal
 
-pub loop-i-init : goal.loop-i-init
-loop-i-init c = telling-none _
+pub loop-digit-init : goal.loop-digit-init
+loop-digit-init c = telling-none _
 
-pub overflow_sub-d : goal.overflow_sub-d
-overflow_sub-d c = omega (arith, c.low-d.ensures.1)
+pub loop-digit-preserved : goal.loop-digit-preserved
+loop-digit-preserved c =
+    let d = c.from.ensures in
+    let p = c.in_ok-checked_mul.ensures in
+    let s = c.in_ok-n.ensures in
+    telling-more c.loop-digit.invariant c.loop-digit-test.true (omega (arith, d, p, s)) (omega (arith, d, p, s))
 
-pub returns-then-d-n : goal.returns-then-d-n
-returns-then-d-n c =
-    telling-large c.loop-i.invariant c.low-d.ensures.0 c.loop-i-test.true c.if-d-n.true c.low-d.ensures.1
+pub returns-in_err-checked_mul : goal.returns-in_err-checked_mul
+returns-in_err-checked_mul c =
+    c.from_residual.ensures ∙ telling-large c.loop-digit.invariant c.loop-digit-test.true (omega (arith, c.in_err-checked_mul.ensures))
 
-pub overflow_mul-n : goal.overflow_mul-n
-overflow_mul-n c = omega (arith, c.if-d-n.false, c.low-d.ensures.1)
-
-pub overflow_add-n : goal.overflow_add-n
-overflow_add-n c = omega (arith, c.if-d-n.false, c.low-d.ensures.1)
-
-pub loop-i-preserved : goal.loop-i-preserved
-loop-i-preserved c =
-    telling-more c.loop-i.invariant c.low-d.ensures.0 c.loop-i-test.true c.if-d-n.false c.low-d.ensures.1
+pub returns-in_err-n : goal.returns-in_err-n
+returns-in_err-n c =
+    let d = c.from.ensures in
+    let p = c.in_ok-checked_mul.ensures in
+    c.from_residual-in_err-n.ensures
+    ∙ telling-large c.loop-digit.invariant c.loop-digit-test.true (omega (arith, d, p, c.in_err-n.ensures))
 
 pub returns : goal.returns
-returns c = telling-end c.loop-i.invariant c.loop-i-test.false
+returns c = telling-end c.loop-digit.invariant c.loop-digit-test.false

@@ -1,52 +1,28 @@
+use Prim.Native.Nat.{◌<◌}
 use native.Mathlib.Omega.{arith}
-use Rattle.desk_list.proofs.Checks.{next-nothing, next_more, next-wrong}
+use mathlib.Core.Path.{sym, ◌∙◌}
 use Rattle.desk_night.specs.Sweep.{swept}
-use Rattle.desk_night.proofs.Sweeps.{sweeping-none, sweeping-full}
-use Rattle.desk_night.proofs.Sweeps.{sweeping-nothing, sweeping-wrong, sweeping-more, sweeping-end}
+use Rattle.desk_night.proofs.Sweeps.{sweeping-none, sweeping-full, sweeping-past, sweeping-more, sweeping-end}
 use Rattle.desk_night.proofs.sweeping.sweep.Goals as goal
 
-pub loop-k-init : goal.loop-k-init
-loop-k-init c = sweeping-none _
+pub loop-line-init : goal.loop-line-init
+loop-line-init c = sweeping-none _
 
-pub loop-k-smaller-in-Nothing : goal.loop-k-smaller-in-Nothing
-loop-k-smaller-in-Nothing c =
-    let n = next-nothing c.in-Nothing.is c.line_at.ensures.onward in
-    omega (arith, n.0, n.1)
-
-pub loop-k-preserved-in-Nothing : goal.loop-k-preserved-in-Nothing
-loop-k-preserved-in-Nothing c =
-    sweeping-nothing c.loop-k.invariant c.line_at.ensures.value c.in-Nothing.is
-
-pub loop-k-smaller-in-Wrong : goal.loop-k-smaller-in-Wrong
-loop-k-smaller-in-Wrong c =
-    let n = next-wrong c.in-Wrong.is c.line_at.ensures.onward in
-    omega (arith, n.0, n.1)
-
-pub loop-k-preserved-in-Wrong : goal.loop-k-preserved-in-Wrong
-loop-k-preserved-in-Wrong c =
-    sweeping-wrong c.loop-k.invariant c.line_at.ensures.value c.in-Wrong.is
-
-pub turn-sweep-requires : goal.turn-sweep-requires
-turn-sweep-requires c = omega (arith, c.loop-k-test.true)
-
-pub overflow_add-k : goal.overflow_add-k
-overflow_add-k c = omega (arith, c.loop-k-test.true)
-
-pub loop-k-smaller : goal.loop-k-smaller
-loop-k-smaller c =
-    let n = next_more c.in-Withheld.is c.line_at.ensures.onward in
-    omega (arith, n.0, n.1)
-
-pub loop-k-preserved : goal.loop-k-preserved
-loop-k-preserved c =
-    sweeping-more c.loop-k.invariant c.line_at.ensures.value c.in-Withheld.is c.loop-k-test.true c.part.ensures
-    c.turn-sweep.ensures
-
-pub returns-in-End : goal.returns-in-End
+pub returns-then-k-eq-MOST : goal.returns-then-k-eq-MOST
 unfolding swept
-returns-in-End c =
-    sweeping-end c.loop-k.invariant c.line_at.ensures.value c.in-End.is
+returns-then-k-eq-MOST c = sweeping-full c.loop-line.invariant (omega arith)
 
 pub returns : goal.returns
 unfolding swept
-returns c = sweeping-full c.loop-k.invariant c.loop-k-test.false
+returns c = sweeping-end c.loop-line.invariant c.line_at.ensures.value c.in_default.is
+
+pub loop-line-preserved-in_default-unwrap_or : goal.loop-line-preserved-in_default-unwrap_or
+loop-line-preserved-in_default-unwrap_or c =
+    sweeping-past c.loop-line.invariant c.line_at.ensures.value c.in-Some.is (sym c.unwrap_or.ensures ∙ c.in_default-unwrap_or.is)
+
+pub loop-line-preserved : goal.loop-line-preserved
+loop-line-preserved c =
+    let few = c.loop-line.invariant.few in
+    let l : c.loop-line.k < 32 = omega (arith, c.if-k-eq-MOST.false) in
+    sweeping-more c.loop-line.invariant c.line_at.ensures.value c.in-Some.is (sym c.unwrap_or.ensures ∙ c.in-Some-unwrap_or.is) l
+    c.part-pattern.ensures c.turn-sweep.ensures

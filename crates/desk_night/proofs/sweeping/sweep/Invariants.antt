@@ -5,8 +5,8 @@ use lib.ListN.{length}
 use Rattle.desk_night.proofs.Sweeps.{Sweeping}
 use Rattle.desk_night.proofs.sweeping.sweep.Given as goal
 
-abbrev pub invariant-loop-k : goal.invariant-loop-k
-invariant-loop-k l = Sweeping l.first l.list l.stretch l.initial.sweep l.sweep l.k l.at
+abbrev pub invariant-loop-line : goal.invariant-loop-line
+invariant-loop-line l = Sweeping l.first l.list l.stretch l.initial.sweep l.sweep l.k l.at
 
-abbrev pub decreases-loop-k : goal.decreases-loop-k
-decreases-loop-k l = length l.list - l.at
+abbrev pub decreases-loop-line : goal.decreases-loop-line
+decreases-loop-line l = length l.list - l.at

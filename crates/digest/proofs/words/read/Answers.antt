@@ -1,25 +1,11 @@
--- `digest::words::read` meets its contract: word by word.
-use Rattle.std.proofs.Common.{refl}
-use Rattle.digest.specs.Words.{block_at}
-use Rattle.digest.proofs.Bytes.{cons}
+use Rattle.std.proofs.Common.{◌∙◌, length-set, arith}
+use Rattle.digest.proofs.Runs.{words-more, words-all}
 use Rattle.digest.proofs.words.read.Goals as goal
 
+pub loop-i-preserved : goal.loop-i-preserved
+loop-i-preserved c =
+    let l = c.loop-i in
+    (length-set l.m l.i c.word_at.result ∙ l.invariant.0, words-more c.args.s.now l.m l.i (omega arith) l.invariant.1 c.word_at.ensures)
+
 pub returns : goal.returns
-unfolding block_at
-returns c =
-    cons c.word_at.ensures
-    (cons c.word_at-2.ensures
-    (cons c.word_at-3.ensures
-    (cons c.word_at-4.ensures
-    (cons c.word_at-5.ensures
-    (cons c.word_at-6.ensures
-    (cons c.word_at-7.ensures
-    (cons c.word_at-8.ensures
-    (cons c.word_at-9.ensures
-    (cons c.word_at-10.ensures
-    (cons c.word_at-11.ensures
-    (cons c.word_at-12.ensures
-    (cons c.word_at-13.ensures
-    (cons c.word_at-14.ensures
-    (cons c.word_at-15.ensures
-    (cons c.word_at-16.ensures refl)))))))))))))))
+returns c = words-all c.args.s.now c.loop-i.m c.loop-i.i (omega arith) (omega arith) c.loop-i.invariant.1

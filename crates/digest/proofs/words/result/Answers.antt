@@ -1,14 +1,14 @@
--- `digest::words::result` meets its contract: the bytes of four words, read one by one.
-use Rattle.std.proofs.Common.{◌≡◌, ℕ, List, ◌++◌, ◌∙◌, ap₂}
-use Rattle.digest.specs.Words.{first32}
+use Rattle.std.proofs.Common.{rules, ◌∙◌, arith}
+use Rattle.std.proofs.lemmas.Slice.{overwrites}
+use Rattle.digest.proofs.Runs.{octets-more, octets-all}
 use Rattle.digest.proofs.words.result.Goals as goal
 
-both : {a b c d : List ℕ} → a ≡ b → c ≡ d → a ++ c ≡ b ++ d
-both p q = ap₂ (λ (x y : List ℕ). x ++ y) p q
+pub loop-i-preserved : goal.loop-i-preserved
+loop-i-preserved c = (
+  search (rules, overwrites),
+  octets-more c.args.h.now c.loop-i.bytes c.copy_from_slice.new.self c.loop-i.i _ (omega arith) c.loop-i.invariant.1
+      (c.copy_from_slice.ensures.after ∙ c.to_le_bytes.ensures),
+)
 
 pub returns : goal.returns
-unfolding first32
-returns c =
-    c.joined.ensures
-    ∙ both c.bytes_of-a.ensures (both c.bytes_of-b.ensures
-    (both c.bytes_of-c.ensures c.bytes_of-d.ensures))
+returns c = octets-all c.args.h.now c.loop-i.bytes c.loop-i.i (omega arith) (omega arith) c.loop-i.invariant.1

@@ -1,5 +1,4 @@
 use native.Mathlib.Omega.{arith}
-use borrow.Author.Tests.{not-true, not-false}
 use Rattle.eds_notation.proofs.Shows.{showing-none, showing-over, showing-last, showing-length, showing-more}
 use Rattle.eds_notation.proofs.braced.put_segment.Goals as goal
 
@@ -13,11 +12,11 @@ shape_of-out-then-not-is_there c =
 pub returns-then-not-is_there : goal.returns-then-not-is_there
 returns-then-not-is_there c =
     showing-over c.loop-variant.invariant c.put_bytes.ensures _ c.is_there.ensures
-    (not-true _ c.if-not-is_there.true-raw)
+    c.if-not-is_there.true
 
 pub loop-variant-preserved : goal.loop-variant-preserved
 loop-variant-preserved c =
-    showing-more c.loop-variant.invariant _ c.is_there.ensures (not-false _ c.if-not-is_there.false-raw)
+    showing-more c.loop-variant.invariant _ c.is_there.ensures c.if-not-is_there.false
     c.put_bytes-start.ensures _ c.letters.ensures c.put_bytes-next.ensures
 
 pub shape_of-out : goal.shape_of-out
@@ -26,4 +25,4 @@ shape_of-out c = showing-length c.loop-variant.invariant c.put_bytes-2.ensures
 pub returns : goal.returns
 returns c =
     showing-last c.loop-variant.invariant c.put_bytes-2.ensures
-    (λ i. omega (arith, c.shared_slice_known-1.given i)) c.loop-variant-test.false
+    (λ i. omega (arith, c.type_inv.stretch i)) c.loop-variant-test.false

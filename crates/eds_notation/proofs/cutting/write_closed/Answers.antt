@@ -1,7 +1,6 @@
 -- `eds_notation::cutting::write_closed` meets its contract.
 use mathlib.Core.Path.{◌≡◌, sym, ◌∙◌}
 use mathlib.Core.Bool.{true}
-use borrow.Author.Tests.{not-true, not-false}
 use lib.ListN.{length}
 use lib.Seq.{length-take-le}
 use Rattle.eds_notation.specs.Cutting.{within}
@@ -13,7 +12,7 @@ use Rattle.eds_notation.proofs.cutting.write_closed.Goals.{Else-not-is_within}
 lies :
     (c : Else-not-is_within) →
     within c.args.tape (length c.args.letters.now) (length c.args.lengths.now) ≡ true
-lies c = sym c.is_within.ensures ∙ not-false _ c.if-not-is_within.false-raw
+lies c = sym c.is_within.ensures ∙ c.if-not-is_within.false
 
 inside :
     (c : Else-not-is_within) →
@@ -27,7 +26,7 @@ returns-then-counts-segments c =
 pub returns-then-not-is_within : goal.returns-then-not-is_within
 returns-then-not-is_within c =
     let whole = closed-not c.args.tape c.args.letters.now c.args.lengths.now c.args.counts.now c.args.out.now
-    (sym c.is_within.ensures ∙ not-true _ c.if-not-is_within.true-raw) in record { result_value = whole.0; out_after = whole.1 }
+    (sym c.is_within.ensures ∙ c.if-not-is_within.true) in record { result_value = whole.0; out_after = whole.1 }
 
 pub overflow_sub-spelt : goal.overflow_sub-spelt
 overflow_sub-spelt c = (inside (goal.at.overflow_sub-spelt c).Else-not-is_within).letters-open

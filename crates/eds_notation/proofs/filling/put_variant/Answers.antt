@@ -4,9 +4,8 @@ use native.Mathlib.Omega.{arith}
 use mathlib.Core.Path.{◌≡◌, sym, ◌∙◌}
 use mathlib.Core.Bool.{true}
 use lib.ListN.{length}
-use borrow.Author.Tests.{not-true, not-false}
 use Rattle.eds_notation.specs.Filling.{fits}
-use Rattle.eds_notation.proofs.Fillings.{Fitting, fits-is, full-leaves, done-leaves, wrong-leaves}
+use Rattle.eds_notation.proofs.Fillings.{Fitting, fits-is, stop-leaves, done-leaves}
 use Rattle.eds_notation.proofs.Fillings.{open-size, variant-far, variant-many, variant-full, variant-repeated, variant-done}
 use Rattle.eds_notation.proofs.filling.put_variant.Goals as goal
 use Rattle.eds_notation.proofs.filling.put_variant.Goals.{Else-not-fits}
@@ -15,7 +14,7 @@ use Rattle.eds_notation.proofs.filling.put_variant.Goals.{Else-not-fits}
 room :
     (c : Else-not-fits) →
     fits c.args.tape 0 c.args.another ≡ true
-room c = sym c.fits.ensures ∙ not-false _ c.if-not-fits.false-raw
+room c = sym c.fits.ensures ∙ c.if-not-fits.false
 
 fitting :
     (c : Else-not-fits) →
@@ -27,15 +26,17 @@ there : (c : Else-not-fits) → c.args.tape.letters ≤ length c.args.letters.no
 there c = c.if-letters-end.false
 
 pub returns-then-letters-end : goal.returns-then-letters-end
-returns-then-letters-end c = record { value = c.full.ensures ∙ variant-far _ _ _ _ _ c.if-letters-end.true; lengths_after = full-leaves _ _ c.full.ensures _ _ }
+returns-then-letters-end c =
+    rw c.full.ensures (record { value = variant-far _ _ _ _ _ c.if-letters-end.true; lengths_after = stop-leaves _ _ _ })
 
 pub returns-then-lengths-at : goal.returns-then-lengths-at
-returns-then-lengths-at c = record { value = c.full-then-lengths-at.ensures ∙ variant-many _ _ _ _ _ c.if-lengths-at.true; lengths_after = full-leaves _ _ c.full-then-lengths-at.ensures _ _ }
+returns-then-lengths-at c =
+    rw c.full-then-lengths-at.ensures (record { value = variant-many _ _ _ _ _ c.if-lengths-at.true; lengths_after = stop-leaves _ _ _ })
 
 pub returns-then-not-fits : goal.returns-then-not-fits
 returns-then-not-fits c =
-    let none = sym c.fits.ensures ∙ not-true _ c.if-not-fits.true-raw in
-    record { value = c.full-then-not-fits.ensures ∙ variant-full _ _ _ _ _ none; lengths_after = full-leaves _ _ c.full-then-not-fits.ensures _ _ }
+    let none = sym c.fits.ensures ∙ c.if-not-fits.true in
+    rw c.full-then-not-fits.ensures (record { value = variant-full _ _ _ _ _ none; lengths_after = stop-leaves _ _ _ })
 
 pub overflow_sub-first : goal.overflow_sub-first
 overflow_sub-first c = (fitting (goal.at.overflow_sub-first c).Else-not-fits).lengths
@@ -48,7 +49,7 @@ stands-requires c = open-size _ _ _ (fitting (goal.at.stands-requires c).Else-no
 
 pub returns-then-stands : goal.returns-then-stands
 returns-then-stands c =
-    record { value = variant-repeated _ _ _ _ _ (there (goal.at.returns-then-stands c).Else-not-fits) c.if-lengths-at.false (room (goal.at.returns-then-stands c).Else-not-fits) _ c.stands.ensures c.if-stands.true; lengths_after = wrong-leaves _ _ _ }
+    record { value = variant-repeated _ _ _ _ _ (there (goal.at.returns-then-stands c).Else-not-fits) c.if-lengths-at.false (room (goal.at.returns-then-stands c).Else-not-fits) _ c.stands.ensures c.if-stands.true; lengths_after = stop-leaves _ _ _ }
 
 pub overflow_cast-lengths : goal.overflow_cast-lengths
 overflow_cast-lengths c =

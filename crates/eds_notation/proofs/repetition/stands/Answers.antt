@@ -1,18 +1,18 @@
 use Rattle.eds_notation.proofs.Repeats.{comparing-none, comparing-same, comparing-more, comparing-end}
 use Rattle.eds_notation.proofs.repetition.stands.Goals as goal
 
-pub loop-i-init : goal.loop-i-init
-loop-i-init c = comparing-none _ _ _
+pub loop-length-init : goal.loop-length-init
+loop-length-init c = comparing-none _ _ _
 
 pub returns-then-alike_from_end : goal.returns-then-alike_from_end
 returns-then-alike_from_end c =
-    comparing-same c.loop-i.invariant c.loop-i-test.true c.stated.ensures c.least-size.ensures _
+    comparing-same c.loop-length.invariant c.loop-length-test.true c.from.ensures c.min-size.ensures _
     c.alike_from_end.ensures c.if-alike_from_end.true
 
-pub loop-i-preserved : goal.loop-i-preserved
-loop-i-preserved c =
-    comparing-more c.loop-i.invariant c.loop-i-test.true c.stated.ensures c.least-size.ensures _
+pub loop-length-preserved : goal.loop-length-preserved
+loop-length-preserved c =
+    comparing-more c.loop-length.invariant c.loop-length-test.true c.from.ensures c.min-size.ensures _
     c.alike_from_end.ensures c.if-alike_from_end.false
 
 pub returns : goal.returns
-returns c = comparing-end c.loop-i.invariant c.loop-i-test.false
+returns c = comparing-end c.loop-length.invariant c.loop-length-test.false

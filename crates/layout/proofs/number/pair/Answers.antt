@@ -5,7 +5,4 @@ use Rattle.layout.proofs.number.pair.Goals as goal
 
 pub returns : goal.returns
 unfolding word
-returns c =
-    let low = c.wide-low.ensures in
-    let high = c.wide-high.ensures in
-    (omega (arith, low.0, high.0), omega (arith, low.1, high.1))
+returns c = (omega (arith, c.from_le_bytes.ensures, c.from.ensures), omega arith)

@@ -1,39 +1,39 @@
 -- `layout::repetition::print` meets its contract, from what `head` tells of the place.
 use Rattle.std.proofs.Common.{ℕ, ◌+◌, ◌-◌, ◌*◌, ◌/◌, ◌%◌, ◌^◌, sym, ap, ◌∙◌, arith}
-use Rattle.layout.specs.Pieces.{told_part}
+use Rattle.text.specs.Refusal.{outcome}
 use Rattle.layout.proofs.Heads.{Whole, head-is, head-not}
 use Rattle.layout.proofs.Prints.{print-lone, print-cut, print-whole}
 use Rattle.layout.proofs.repetition.print.Goals as goal
-use Rattle.layout.proofs.repetition.print.Goals.{In-At}
+use Rattle.layout.proofs.repetition.print.Goals.{In-Ok}
 
 -- where the letters stand
-found : (c : In-At)
+found : (c : In-Ok)
     → Whole
     c.args.stretch.now
     c.args.at
-    c.in-At.start
-    c.in-At.next
-found c = head-is _ _ _ _ (sym c.head.ensures ∙ ap told_part c.in-At.is)
+    c.in-Ok.part.start
+    c.in-Ok.part.next
+found c = head-is _ _ _ _ (sym c.head.ensures ∙ ap outcome c.in-Ok.is)
 
 pub returns-then-count-eq1 : goal.returns-then-count-eq1
 returns-then-count-eq1 c = sym (print-lone _ _ _ c.if-count-eq1.true)
 
 pub overflow_sub-letters : goal.overflow_sub-letters
-overflow_sub-letters c = let w = found (goal.at.overflow_sub-letters c).In-At in omega (arith, w.starts, w.ends)
+overflow_sub-letters c = let w = found (goal.at.overflow_sub-letters c).In-Ok in omega (arith, w.starts, w.ends)
 
-pub overflow_sub-next : goal.overflow_sub-next
-overflow_sub-next c = let w = found (goal.at.overflow_sub-next c).In-At in omega (arith, w.starts, w.ends)
+pub overflow_sub-part : goal.overflow_sub-part
+overflow_sub-part c = let w = found (goal.at.overflow_sub-part c).In-Ok in omega (arith, w.starts, w.ends)
 
-pub bounds-stretch-next : goal.bounds-stretch-next
-bounds-stretch-next c = let w = found (goal.at.bounds-stretch-next c).In-At in omega (arith, w.starts, w.ends, w.inside)
+pub bounds-stretch-part : goal.bounds-stretch-part
+bounds-stretch-part c = let w = found (goal.at.bounds-stretch-part c).In-Ok in omega (arith, w.starts, w.ends, w.inside)
 
-pub returns-in-Refused : goal.returns-in-Refused
-returns-in-Refused c =
-    let cut = head-not _ _ _ _ (sym c.head.ensures ∙ ap told_part c.in-Refused.is) in
+pub returns-in-Err : goal.returns-in-Err
+returns-in-Err c =
+    let cut = head-not _ _ _ _ (sym c.head.ensures ∙ ap outcome c.in-Err.is) in
     sym (print-cut _ _ _ c.if-count-eq1.false cut)
 
-pub returns-in-At : goal.returns-in-At
-returns-in-At c =
-    let n = c.in-At.next - c.in-At.start in
+pub returns-in-Ok : goal.returns-in-Ok
+returns-in-Ok c =
+    let n = c.in-Ok.part.next - c.in-Ok.part.start in
     ap (λ (x : ℕ). 1 * 2 ^ (n % 16 * 4 + x / 2 % 4) % 2 ^ 64) c.wide-last.ensures.0
-    ∙ print-whole _ _ _ _ _ c.if-count-eq1.false (found (goal.at.returns-in-At c).In-At)
+    ∙ print-whole _ _ _ _ _ c.if-count-eq1.false (found (goal.at.returns-in-Ok c).In-Ok)

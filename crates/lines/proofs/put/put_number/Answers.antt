@@ -1,7 +1,9 @@
--- `lines::put::put_number` meets its contract: what is spelt at the end of the local buffer is put.
-use Rattle.lines.proofs.Putting.{spelt}
+-- `lines::put::put_number` meets its contract: the digits are those that std writes of the number.
+use Rattle.std.proofs.Common.{◌∙◌}
+use Rattle.lines.proofs.Digits.{decimal-digits}
 use Rattle.lines.proofs.put.put_number.Goals as goal
 
 pub returns : goal.returns
 returns c =
-    spelt _ c.spell-first.new.out _ _ _ c.spell-first.result _ 20 c.spell-first.auto.out c.spell-first.ensures.1 c.put_bytes.ensures
+    let same = c.as_bytes.ensures.value ∙ c.format.ensures.text ∙ decimal-digits c.args.number c.ranges.number.fits in
+    rw same at c.put_bytes.ensures

@@ -1,36 +1,19 @@
-use native.Mathlib.Omega.{arith}
-use Rattle.manifest.proofs.Finding.{listing_none, listing-more, listing-no-comment, listing-wrong, listing-end}
+use mathlib.Core.Path.{sym, ◌∙◌}
+use Rattle.manifest.proofs.Finding.{listing_none, listing-more, listing-wrong, listing-end}
 use Rattle.manifest.proofs.checking.listed.Goals as goal
 
-pub loop-next-init : goal.loop-next-init
-loop-next-init c = listing_none _
+pub loop-line-init : goal.loop-line-init
+loop-line-init c = listing_none _
 
-pub overflow_add-count : goal.overflow_add-count
-overflow_add-count c =
-    let l = c.loop-next in
-    let more = listing-more l.invariant c.next_stretch.ensures.value c.in-Stretch.is c.next_stretch.ensures.onward in
-    omega (arith, more.1.few, more.1.upto)
+pub returns-then-is_err : goal.returns-then-is_err
+returns-then-is_err c =
+    listing-wrong c.loop-line.invariant c.next_stretch.ensures.value c.in-Some.is c.next_stretch.ensures.onward
+    (sym c.is_err.ensures.value ∙ c.if-is_err.true)
 
-pub loop-next-smaller : goal.loop-next-smaller
-loop-next-smaller c =
-    let l = c.loop-next in
-    let more = listing-more l.invariant c.next_stretch.ensures.value c.in-Stretch.is c.next_stretch.ensures.onward in
-    omega (arith, more.0, more.1.upto)
+pub loop-line-preserved : goal.loop-line-preserved
+loop-line-preserved c =
+    listing-more c.loop-line.invariant c.next_stretch.ensures.value c.in-Some.is c.next_stretch.ensures.onward
+    (sym c.is_err.ensures.value ∙ c.if-is_err.false)
 
-pub loop-next-preserved : goal.loop-next-preserved
-loop-next-preserved c =
-    let l = c.loop-next in
-    let more = listing-more l.invariant c.next_stretch.ensures.value c.in-Stretch.is c.next_stretch.ensures.onward in
-    more.1
-
-pub returns-in-Comment : goal.returns-in-Comment
-returns-in-Comment c =
-    listing-no-comment c.loop-next.invariant c.next_stretch.ensures.value c.in-Comment.is
-
-pub returns-in-Wrong : goal.returns-in-Wrong
-returns-in-Wrong c =
-    listing-wrong c.loop-next.invariant c.next_stretch.ensures.value c.in-Wrong.is
-
-pub returns-in-End : goal.returns-in-End
-returns-in-End c =
-    listing-end c.loop-next.invariant c.next_stretch.ensures.value c.in-End.is c.counted.ensures
+pub returns : goal.returns
+returns c = listing-end c.loop-line.invariant c.next_stretch.ensures.value c.in_default.is c.counted.ensures

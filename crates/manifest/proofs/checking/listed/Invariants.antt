@@ -5,8 +5,8 @@ use lib.ListN.{length}
 use Rattle.manifest.proofs.Finding.{Listing}
 use Rattle.manifest.proofs.checking.listed.Given as goal
 
-abbrev pub invariant-loop-next : goal.invariant-loop-next
-invariant-loop-next l = Listing l.manifest l.at l.count
+abbrev pub invariant-loop-line : goal.invariant-loop-line
+invariant-loop-line l = Listing l.manifest l.at l.count
 
-abbrev pub decreases-loop-next : goal.decreases-loop-next
-decreases-loop-next l = length l.manifest - l.at
+abbrev pub decreases-loop-line : goal.decreases-loop-line
+decreases-loop-line l = length l.manifest - l.at

@@ -5,8 +5,8 @@ use lib.ListN.{length}
 use Rattle.manifest.proofs.Finding.{Seeking}
 use Rattle.manifest.proofs.reading.next_stretch.Given as goal
 
-abbrev pub invariant-loop-from : goal.invariant-loop-from
-invariant-loop-from l = Seeking l.manifest l.at l.from
+abbrev pub invariant-loop-line : goal.invariant-loop-line
+invariant-loop-line l = Seeking l.manifest l.at l.from
 
-abbrev pub decreases-loop-from : goal.decreases-loop-from
-decreases-loop-from l = length l.manifest - l.from
+abbrev pub decreases-loop-line : goal.decreases-loop-line
+decreases-loop-line l = length l.manifest - l.from

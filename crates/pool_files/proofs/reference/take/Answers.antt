@@ -1,4 +1,4 @@
-use Rattle.std.proofs.Common.{◌<◌, sym, ap, ◌∙◌, arith}
+use Rattle.std.proofs.Common.{◌≡◌, ◌<◌, refl, sym, ap, ◌∙◌, arith}
 use Rattle.pool_files.specs.Reference.{Filled}
 use Rattle.pool_files.proofs.Takes.{takes_none, takes_all, takes-room, takes-full, takes-end, takes-more}
 use Rattle.pool_files.proofs.reference.take.Goals as goal
@@ -20,7 +20,7 @@ shape_of-bases-then-is_end c = c.loop-at.invariant.size
 pub returns-then-is_end : goal.returns-then-is_end
 returns-then-is_end c =
     let e =
-    takes-end c.loop-at.invariant c.loop-at-test.true c.if-space-eq0.false _ c.step-next.ensures _ c.led_to-led.ensures
+    takes-end c.loop-at.invariant c.loop-at-test.true c.if-space-eq0.false _ c.step-next.ensures _ refl
     (sym c.is_end.ensures ∙ c.if-is_end.true) in
     record { answer = ap (λ (f : Filled). f.taken) e; buffer = ap (λ (f : Filled). f.buffer) e }
 
@@ -31,7 +31,7 @@ put_base-space-requires c =
 
 pub loop-at-preserved : goal.loop-at-preserved
 loop-at-preserved c =
-    takes-more c.loop-at.invariant c.loop-at-test.true c.if-space-eq0.false _ _ _ _ c.step-next.ensures c.led_to-led.ensures
+    takes-more c.loop-at.invariant c.loop-at-test.true c.if-space-eq0.false _ _ _ _ c.step-next.ensures refl
     (sym c.is_end.ensures ∙ c.if-is_end.false) c.put_base-space.ensures.value c.put_base-space.ensures.bases_after
 
 pub shape_of-bases : goal.shape_of-bases
@@ -40,4 +40,5 @@ shape_of-bases c = c.loop-at.invariant.size
 pub returns : goal.returns
 returns c =
     let e = takes_all c.loop-at.invariant c.loop-at-test.false in
-    record { answer = ap (λ (f : Filled). f.taken) e; buffer = ap (λ (f : Filled). f.buffer) e }
+    let at : c.max.result ≡ c.loop-at.at = omega (arith, c.max.ensures, c.loop-at-test.false, c.loop-at.invariant.inside, c.loop-at.auto.at) in
+    record { answer = rw at (ap (λ (f : Filled). f.taken) e); buffer = ap (λ (f : Filled). f.buffer) e }

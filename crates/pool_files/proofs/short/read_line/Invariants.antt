@@ -1,11 +1,6 @@
 -- `pool_files::short::read_line` meets its contract. The loop's invariant, `Reads`: the bytes that are left lead to what all of them lead to.
--- The measure is their number.
-use Rattle.std.proofs.Common.{◌-◌, length}
 use Rattle.pool_files.proofs.Shorts.{Reads}
 use Rattle.pool_files.proofs.short.read_line.Given as goal
 
 abbrev pub invariant-loop-at : goal.invariant-loop-at
-invariant-loop-at l = Reads l.name l.initial.now l.piece l.initial.at l.initial.short l.now l.at l.short
-
-abbrev pub decreases-loop-at : goal.decreases-loop-at
-decreases-loop-at l = length l.piece - l.at
+invariant-loop-at l = Reads l.name l.initial.now l.piece l.from l.initial.short l.now l.at l.short

@@ -1,28 +1,12 @@
--- `search::marking::hand` meets its contract, from what `handed` says of the room for the marks.
-use Prim.Native.Nat.{ℕ}
-use mathlib.Core.Path.{ap}
-use Rattle.search.specs.Answers.{Seen, told_sought}
-use Rattle.search.proofs.Markings.{hand-not, hand-short, hand-all}
+-- `search::marking::hand` meets its contract: std's copy, where there is room.
+use Rattle.std.proofs.Common.{arith}
+use Rattle.search.proofs.Markings.{handed-none, handed-all}
 use Rattle.search.proofs.marking.hand.Goals as goal
 
--- how many segments are told of
-abbrev segments : Seen → ℕ
-segments x = x.segments
+pub returns-then-marks-segments : goal.returns-then-marks-segments
+returns-then-marks-segments c = let whole = handed-none _ c.args.found.now _ c.if-marks-segments.true in record { value = whole.0; marks_after = whole.1 }
 
-pub handed-requires : goal.handed-requires
-handed-requires c =
-    c.requires _ (ap told_sought c.in-Marked.is)
-
-pub returns-then-not-handed : goal.returns-then-not-handed
-returns-then-not-handed c =
-    hand-short segments c.args.found.now c.args.marks.now _ _ (ap told_sought c.in-Marked.is) _
-    c.handed.ensures.marks_after _ c.handed.ensures.value c.if-not-handed.true-raw
-
-pub returns-in-Refused : goal.returns-in-Refused
-returns-in-Refused c =
-    hand-not segments c.args.found.now c.args.marks.now _ _ _ (ap told_sought c.in-Refused.is)
-
-pub returns-else-not-handed : goal.returns-else-not-handed
-returns-else-not-handed c =
-    hand-all segments c.args.found.now c.args.marks.now _ _ (ap told_sought c.in-Marked.is) _
-    c.handed.ensures.marks_after _ c.handed.ensures.value c.if-not-handed.false-raw
+pub returns : goal.returns
+returns c =
+    let whole = handed-all c.args.segments c.args.found.now c.args.marks.now _ c.requires (omega arith) c.copy_from_slice.ensures.after in
+    record { value = whole.0; marks_after = whole.1 }

@@ -7,10 +7,10 @@ use Rattle.search.proofs.Searches.{Searching}
 use Rattle.search.proofs.run.run.Given as goal
 
 abbrev pub invariant-loop-walked : goal.invariant-loop-walked
-invariant-loop-walked l =
-    Searching l.stop l.pattern l.initial.reached.bits l.stretch l.initial.walked.count l.initial.walked.at l.marks l.walked l.ends l.reached.bits
+invariant-loop-walked g l =
+    Searching l.stop (g.M.Method.pattern l.method) l.initial.reached.bits l.stretch l.initial.walked.count l.initial.walked.at l.marks l.walked l.ends l.reached.bits
     × (length l.marks ≡ length l.initial.marks)
 
 abbrev pub decreases-loop-walked : goal.decreases-loop-walked
-decreases-loop-walked l =
+decreases-loop-walked g l =
     l.initial.walked.count - l.walked.passed

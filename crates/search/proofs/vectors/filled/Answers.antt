@@ -1,36 +1,25 @@
 use Prim.Native.Nat.{◌<◌}
-use native.Mathlib.Omega.{arith}
-use mathlib.Core.Path.{sym, ap, ◌∙◌}
+use Rattle.std.proofs.Common.{◌∙◌, arith}
 use lib.ListN.{length}
 use Rattle.search.specs.Masks.{bases}
 use Rattle.search.proofs.Copies.{copied_all}
-use Rattle.search.proofs.BitScans.{filling-none, filling-more, filling-all, bases-long, bases-all, bases-near, bases-inside}
+use Rattle.search.proofs.BitScans.{filling-none, filling-more, filling-all, bases-length, bases-near, bases-inside}
 use Rattle.search.proofs.BitScans.{bases-at}
 use Rattle.search.proofs.vectors.filled.Goals as goal
-use Rattle.search.proofs.vectors.filled.Goals.{In-loop-k, then-all-gt-GREATEST_PATTERN, else-all-gt-GREATEST_PATTERN}
+use Rattle.search.proofs.vectors.filled.Goals.{In-loop-k}
 
 -- the base that is entered
 near : (c : In-loop-k) → c.loop-k.k < length (bases c.args.pattern.now)
 near c = rw (← c.loop-k.invariant.0) c.loop-k-test.true
 
 pub loop-k-init : goal.loop-k-init
-loop-k-init c =
-    let P = c.args.pattern.now in (
-      elim c.if-all-gt-GREATEST_PATTERN.branch [
-        | then-all-gt-GREATEST_PATTERN w ↦ w.m-is ∙ sym (bases-long P w.if-all-gt-GREATEST_PATTERN.true)
-        | else-all-gt-GREATEST_PATTERN w ↦ w.m-is ∙ sym (ap length (bases-all P w.if-all-gt-GREATEST_PATTERN.false))
-      ],
-      filling-none _ _,
-    )
+loop-k-init c = (c.min-m.ensures ∙ bases-length _, filling-none _ _)
 
 pub bounds-pattern-k : goal.bounds-pattern-k
 bounds-pattern-k c = bases-inside _ _ (near (goal.at.bounds-pattern-k c).In-loop-k)
 
 pub overflow_shl-table : goal.overflow_shl-table
 overflow_shl-table c = bases-near c.args.pattern.now _ (near (goal.at.overflow_shl-table c).In-loop-k)
-
-pub overflow_add-k : goal.overflow_add-k
-overflow_add-k c = omega (arith, bases-near c.args.pattern.now _ (near (goal.at.overflow_add-k c).In-loop-k))
 
 pub loop-k-preserved : goal.loop-k-preserved
 loop-k-preserved c =

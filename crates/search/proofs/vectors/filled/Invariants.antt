@@ -1,6 +1,5 @@
--- `search::vectors::filled` meets its contract. The loop's invariant, `Filling`: the first k bases are entered. The measure is the number
--- of bases left. After it the five entries of lower case are copied.
-use Prim.Native.Nat.{◌-◌}
+-- `search::vectors::filled` meets its contract. The loop's invariant, `Filling`: the first k bases are entered.
+-- After it the five entries of lower case are copied.
 use mathlib.Core.Path.{◌≡◌}
 use lib.ListN.{length}
 use Rattle.search.specs.Masks.{bases}
@@ -9,6 +8,3 @@ use Rattle.search.proofs.vectors.filled.Given as goal
 
 abbrev pub invariant-loop-k : goal.invariant-loop-k
 invariant-loop-k l = (l.m ≡ length (bases l.pattern)) × Filling l.blank (bases l.pattern) l.table l.k
-
-abbrev pub decreases-loop-k : goal.decreases-loop-k
-decreases-loop-k l = l.m - l.k

@@ -1,5 +1,5 @@
 -- `test_tally::held` meets its contract: two buffers are the same list exactly when the definition's test says so.
-use Rattle.std.proofs.Common.{◌∙◌, rules}
+use Rattle.std.proofs.Common.{◌∙◌}
 use Rattle.test_tally.proofs.Answering.{held_same, held-other}
 use Rattle.test_tally.proofs.answers.held.Goals as goal
 

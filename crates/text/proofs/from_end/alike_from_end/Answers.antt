@@ -1,7 +1,7 @@
 use Prim.Native.Nat.{◌+◌, ◌-◌}
 use native.Mathlib.Omega.{arith}
 use mathlib.Core.Path.{◌≡◌, sym}
-use Rattle.text.proofs.Likes.{like-lengths, meant-length}
+use Rattle.text.proofs.Likes.{like-lengths}
 use Rattle.text.proofs.FromEnd.{from-meant, from-letter, letter-differs, from_all}
 use Rattle.text.proofs.from_end.alike_from_end.Goals as goal
 
@@ -11,15 +11,6 @@ returns-then-a-b c = sym (like-lengths _ _ c.if-a-b.true)
 pub loop-i-init : goal.loop-i-init
 loop-i-init c =
     from-meant c.args.a.now c.args.b.now _ c.same_from-i.ensures
-
-pub bounds-a-from : goal.bounds-a-from
-bounds-a-from c =
-    omega (arith, c.loop-i-test.true, c.loop-i.invariant.inside, meant-length c.args.a.now)
-
-pub bounds-b-from : goal.bounds-b-from
-bounds-b-from c =
-    let q = c.loop-i.invariant in
-    omega (arith, c.loop-i-test.true, q.inside, q.even, meant-length c.args.b.now)
 
 pub returns-then-differ : goal.returns-then-differ
 returns-then-differ c = sym (letter-differs _ _ _ c.differ.ensures c.if-differ.true)

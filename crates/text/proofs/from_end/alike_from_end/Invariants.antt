@@ -6,6 +6,3 @@ use Rattle.text.proofs.from_end.alike_from_end.Given as goal
 
 abbrev pub invariant-loop-i : goal.invariant-loop-i
 invariant-loop-i l = SameFrom (meant l.a) (meant l.b) l.i
-
-abbrev pub decreases-loop-i : goal.decreases-loop-i
-decreases-loop-i l = l.i

@@ -1,21 +1,15 @@
-use mathlib.Core.Path.{sym, ◌∙◌}
-use borrow.Author.Tests.{not-true, not-false}
+-- `text::pattern::first_other` meets its contract: it is std's search for a place.
+use Rattle.std.proofs.Common.{not, rules, tests, ap, ◌∙◌, length}
+use Rattle.std.proofs.lemmas.Iterator.{YieldsList-from_slice}
+use Rattle.std.proofs.lemmas.Iterator.Search.{position_from_yields_List}
+use Rattle.std.specs.Option.{unwrap_or}
 use Rattle.text.specs.Letter.{base}
-use Rattle.text.proofs.Letters.{passed_none, passed-more, passed-stop, passed-all}
+use Rattle.text.proofs.Library.{position-first}
 use Rattle.text.proofs.pattern.first_other.Goals as goal
 
-pub loop-i-init : goal.loop-i-init
-loop-i-init c = passed_none base _
-
-pub returns-then-not-is_base : goal.returns-then-not-is_base
-returns-then-not-is_base c =
-    let wrong = sym c.is_base.ensures ∙ not-true _ c.if-not-is_base.true-raw in
-    sym (passed-stop base _ _ c.loop-i.invariant c.loop-i-test.true wrong)
-
-pub loop-i-preserved : goal.loop-i-preserved
-loop-i-preserved c =
-    let right = sym c.is_base.ensures ∙ not-false _ c.if-not-is_base.false-raw in
-    passed-more base _ _ c.loop-i.invariant c.loop-i-test.true right
-
 pub returns : goal.returns
-returns c = sym (passed-all base _ _ c.loop-i.invariant c.loop-i-test.false)
+returns c =
+    let found =
+    position_from_yields_List (λ b. not (base b)) _ _ c.position.result c.position.ensures.ran
+    (YieldsList-from_slice c.args.bytes.now cc) (λ x b q k. search (rules, tests)) in
+    c.unwrap_or.ensures ∙ ap (λ p. unwrap_or p (length c.args.bytes.now)) found ∙ position-first base _

@@ -9,16 +9,16 @@ wrong_in_block-wrong-requires c = omega (arith, c.requires)
 pub loop-at-init : goal.loop-at-init
 loop-at-init c = blocks-none letter c.args.part.now 16 _ c.wrong_in_block-wrong.ensures
 
-pub wrong_in_block-more-requires : goal.wrong_in_block-more-requires
-wrong_in_block-more-requires c = omega (arith, c.loop-at-test.true)
-
-pub overflow_add-at : goal.overflow_add-at
-overflow_add-at c = omega (arith, c.loop-at-test.true)
-
 pub loop-at-preserved : goal.loop-at-preserved
 loop-at-preserved c =
-    blocks_more letter c.args.part.now 16 c.loop-at.at _ _ c.loop-at.invariant c.wrong_in_block-more.ensures
+    blocks_more letter c.args.part.now 16 c.loop-at.at _ _ c.loop-at.invariant c.wrong_in_block-wrong-in-loop-at.ensures
 
 pub returns : goal.returns
 returns c =
     blocks-all letter c.args.part.now 16 _ _ c.requires c.loop-at-test.false c.loop-at.invariant
+
+pub returns-2 : goal.returns-2
+returns-2 c =
+    let next =
+    blocks_more letter c.args.part.now 16 c.loop-at.at _ _ c.loop-at.invariant c.wrong_in_block-wrong-in-loop-at.ensures in
+    blocks-all letter c.args.part.now 16 _ _ c.requires (omega arith) next

@@ -1,12 +1,7 @@
-use mathlib.Core.Path.{refl}
-use Rattle.text.proofs.Padding.{padding-none, padding-more, padding-all}
+-- `text::strand::copied` meets its contract: std's copy, over the front of the zeros.
+use Rattle.std.proofs.Common.{ap, ◌∙◌, List, ℕ, ◌++◌, drop, length, replicate}
+use Rattle.text.proofs.Padding.{padding-over}
 use Rattle.text.proofs.strand.copied.Goals as goal
 
-pub loop-i-init : goal.loop-i-init
-loop-i-init c = padding-none _
-
-pub loop-i-preserved : goal.loop-i-preserved
-loop-i-preserved c = padding-more _ _ _ c.loop-i.invariant _ refl c.requires c.loop-i-test.true
-
 pub returns : goal.returns
-returns c = padding-all _ _ _ c.loop-i.invariant c.loop-i-test.false
+returns c = ap (λ (x : List ℕ). x ++ drop (length c.args.part.now) (replicate 64 0)) c.copy_from_slice.ensures.after ∙ padding-over c.args.part.now

@@ -15,7 +15,7 @@ use Rattle.vcf.proofs.put.put_text.Goals as goal
 use Rattle.vcf.proofs.put.put_text.Goals.{At-loop-put}
 
 abbrev W : At-loop-put → List ℕ
-W l = l.args.window.now
+W l = l.args.window.bases.now
 
 -- its bases after the last record
 within : (l : At-loop-put) → l.loop-put.put.base ≤ length (W l)

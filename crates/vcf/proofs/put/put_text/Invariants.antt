@@ -8,7 +8,7 @@ use Rattle.vcf.proofs.put.put_text.Given as goal
 
 abbrev pub invariant-loop-put : goal.invariant-loop-put
 invariant-loop-put l =
-    Putting (meant l.window) l.first l.file l.initial.out l.out l.put.base l.put.at l.put.left l.at
+    Putting (meant l.window.bases.now) l.window.first l.file l.initial.out l.out l.put.base l.put.at l.put.left l.at
 
 abbrev pub decreases-loop-put : goal.decreases-loop-put
 decreases-loop-put l = length l.file - l.at

@@ -9,7 +9,7 @@ returns-in_default c =
 
 pub loop-walk-init : goal.loop-walk-init
 loop-walk-init c =
-    unended-none _ _ _ _ c.requires.0 c.requires.1 (open_is _ c.open.ensures c.in-At.is)
+    unended-none _ _ _ _ c.requires.0 c.requires.1 (open_is _ c.open.ensures c.in-Ok.is)
 
 pub over-passed-requires : goal.over-passed-requires
 over-passed-requires c =

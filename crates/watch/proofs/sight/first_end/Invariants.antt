@@ -1,7 +1,7 @@
 -- `watch::sight::first_end` meets its contract. The loop's invariant, `Unended`: nothing ends in the segments that the walk has passed, and the
 -- state is theirs. The measure is the number of segments left.
 use Prim.Native.Nat.{◌-◌}
-use Rattle.watch.specs.Rounds.{text_of}
+use Rattle.watch.specs.Sight.{text_of}
 use Rattle.watch.proofs.Sights.{Unended}
 use Rattle.watch.proofs.sight.first_end.Given as goal
 

@@ -5,7 +5,7 @@ use Rattle.watch.proofs.sight.over.Given as goal
 
 abbrev pub invariant-loop-cursor : goal.invariant-loop-cursor
 invariant-loop-cursor l =
-    Sweeping l.pattern l.bits l.stretch l.at l.cursor l.out l.missed
+    Sweeping l.pattern l.state.bits l.stretch l.at l.cursor l.out l.missed
 
 abbrev pub decreases-loop-cursor : goal.decreases-loop-cursor
 decreases-loop-cursor l =

@@ -24,12 +24,12 @@ same c = emitted-length c.loop-k.invariant.emitted ∙ c.put_variants.auto.out
 -- the next variant: its number is that of a length, its letters are there, and its bytes fit
 number :
     (c : In-loop-k) →
-    c.args.first + c.loop-k.k < length c.args.lengths.now
+    c.args.first + c.loop-k.k < length c.args.parts.lengths.now
 number c = passing-number c.loop-k.invariant.passing c.loop-k-test.true
 
 inside :
     (c : After-stated-size) →
-    c.loop-k.start + c.stated-size.result ≤ length c.args.letters.now
+    c.loop-k.start + c.stated-size.result ≤ length c.args.parts.letters.now
 inside c =
     rw meant-length at (passing-inside c.loop-k.invariant.passing c.loop-k-test.true c.stated-size.ensures)
 
@@ -42,7 +42,7 @@ room c =
 
 pub overflow_add-next : goal.overflow_add-next
 overflow_add-next c =
-    omega (arith, segment-room (meant c.args.letters.now) c.args.out.now c.args.at c.requires.within c.requires.count_in_bounds)
+    omega (arith, segment-room (meant c.args.parts.letters.now) c.args.out.now c.args.at c.requires.within c.requires.count_in_bounds)
 
 pub loop-k-init : goal.loop-k-init
 loop-k-init c =
@@ -51,11 +51,11 @@ loop-k-init c =
 pub overflow_add-first : goal.overflow_add-first
 overflow_add-first c = omega (arith, number (goal.at.overflow_add-first c).In-loop-k)
 
-pub offset_bounds-lengths-first : goal.offset_bounds-lengths-first
-offset_bounds-lengths-first c = omega (arith, number (goal.at.offset_bounds-lengths-first c).In-loop-k)
+pub offset_bounds-parts-first : goal.offset_bounds-parts-first
+offset_bounds-parts-first c = omega (arith, number (goal.at.offset_bounds-parts-first c).In-loop-k)
 
-pub bounds-lengths-first : goal.bounds-lengths-first
-bounds-lengths-first c = number (goal.at.bounds-lengths-first c).In-loop-k
+pub bounds-parts-first : goal.bounds-parts-first
+bounds-parts-first c = number (goal.at.bounds-parts-first c).In-loop-k
 
 pub overflow_add-end : goal.overflow_add-end
 overflow_add-end c = omega (arith, inside (goal.at.overflow_add-end c).After-stated-size)
@@ -65,7 +65,7 @@ slice_bounds-put_variant-end c = omega (arith, inside (goal.at.slice_bounds-put_
 
 pub loop-k-preserved : goal.loop-k-preserved
 loop-k-preserved c =
-    let letters = c.args.letters.now in
+    let letters = c.args.parts.letters.now in
     let start = c.loop-k.start in
     let next = c.loop-k.next in
     let out = c.loop-k.out in

@@ -1,6 +1,7 @@
+use Rattle.std.proofs.Common.{◌≡◌, Err, rules}
 use native.Mathlib.Omega.{arith}
 use mathlib.Core.Path.{sym, ap, ◌∙◌}
-use Rattle.text.specs.Refusal.{told_amount}
+use Rattle.text.specs.Refusal.{outcome}
 use Rattle.writer.proofs.Texts.{matched-within}
 use Rattle.writer.proofs.GivenText.{accepted-none, accepted-refused, accepted-more, accepted-end}
 use Rattle.writer.proofs.sound.segments_given.Goals as goal
@@ -11,10 +12,11 @@ loop-segment-init c = accepted-none c.requires
 pub segment_given-requires : goal.segment_given-requires
 segment_given-requires c = record { segment_in_bounds = c.loop-segment-test.true; within = matched-within c.loop-segment.invariant.matched c.loop-segment-test.true }
 
-pub returns-in-Refused : goal.returns-in-Refused
-returns-in-Refused c =
-    let e = sym c.segment_given.ensures ∙ ap told_amount c.in-Refused.is in
-    sym (accepted-refused c.loop-segment.invariant _ _ c.loop-segment-test.true e)
+pub returns-in_err-at : goal.returns-in_err-at
+returns-in_err-at c =
+    let same : c.from_residual.result ≡ Err c.in_err-at.field-0.0 = search rules in
+    let e = sym c.segment_given.ensures ∙ ap outcome c.in_err-at.was in
+    rw same (sym (accepted-refused c.loop-segment.invariant _ _ c.loop-segment-test.true e))
 
 pub overflow_add-variant : goal.overflow_add-variant
 overflow_add-variant c =
@@ -22,7 +24,7 @@ overflow_add-variant c =
 
 pub loop-segment-preserved : goal.loop-segment-preserved
 loop-segment-preserved c =
-    let e = sym c.segment_given.ensures ∙ ap told_amount c.in-Is.is in
+    let e = sym c.segment_given.ensures ∙ ap outcome c.in_ok-at.was in
     accepted-more c.loop-segment.invariant _ _ c.loop-segment-test.true c.wide-variant.ensures.0 e
 
 pub returns : goal.returns

@@ -11,7 +11,7 @@ use Rattle.writer.proofs.GivenSegment.{given-wrong, given-again, given-sound}
 use Rattle.writer.proofs.sound.variant_given.Goals as goal
 use Rattle.writer.proofs.sound.variant_given.Goals.{After-stated}
 
-inside : (c : After-stated) → c.args.at + c.stated.result ≤ length c.args.letters.now
+inside : (c : After-stated) → c.args.at + c.stated.result ≤ length c.args.parts.letters.now
 inside c = rw meant-length at (next-in c.requires c.stated.ensures)
 
 pub overflow_add-end : goal.overflow_add-end
@@ -26,7 +26,7 @@ overflow_add-place c = omega (arith, inside (goal.at.overflow_add-place c).After
 pub returns-then-wrong-end : goal.returns-then-wrong-end
 returns-then-wrong-end c =
     let a = c.args in
-    let w = first_part a.letters.now a.at (a.at + c.stated.result - a.at) c.first_wrong-wrong.ensures in
+    let w = first_part a.parts.letters.now a.at (a.at + c.stated.result - a.at) c.first_wrong-wrong.ensures in
     sym (given-wrong _ _ _ _ _ c.stated.ensures w (rw meant-length (inside (goal.at.returns-then-wrong-end c).After-stated)) c.if-wrong-end.true)
 
 pub repeated-requires : goal.repeated-requires
@@ -36,14 +36,14 @@ pub returns-then-repeated : goal.returns-then-repeated
 returns-then-repeated c =
     let a = c.args in
     let n = a.at + c.stated.result - a.at in
-    let w = first_part a.letters.now a.at n c.first_wrong-wrong.ensures in
-    let again = sym (among-part a.letters.now a.at n _) ∙ sym c.repeated.ensures ∙ c.if-repeated.true in
+    let w = first_part a.parts.letters.now a.at n c.first_wrong-wrong.ensures in
+    let again = sym (among-part a.parts.letters.now a.at n _) ∙ sym c.repeated.ensures ∙ c.if-repeated.true in
     sym (given-again _ _ _ _ _ c.stated.ensures w c.if-wrong-end.false again)
 
 pub returns : goal.returns
 returns c =
     let a = c.args in
     let n = a.at + c.stated.result - a.at in
-    let w = first_part a.letters.now a.at n c.first_wrong-wrong.ensures in
-    let once = sym (among-part a.letters.now a.at n _) ∙ sym c.repeated.ensures ∙ c.if-repeated.false in
+    let w = first_part a.parts.letters.now a.at n c.first_wrong-wrong.ensures in
+    let once = sym (among-part a.parts.letters.now a.at n _) ∙ sym c.repeated.ensures ∙ c.if-repeated.false in
     sym (given-sound _ _ _ _ _ c.stated.ensures w c.if-wrong-end.false once)

@@ -1,12 +1,7 @@
 -- `card::rows::carry::carry` meets its contract. The loop's invariant, `Carrying`: what the letters read so far make of every state within
--- the union. The measure is the number of letters left.
-use Prim.Native.Nat.{◌-◌}
-use lib.ListN.{length}
+-- the union.
 use Rattle.card.proofs.Carries.{Carrying}
 use Rattle.card.proofs.rows.carry.carry.Given as goal
 
 abbrev pub invariant-loop-i : goal.invariant-loop-i
 invariant-loop-i l = Carrying l.pattern l.live l.variant l.i l.d l.finished
-
-abbrev pub decreases-loop-i : goal.decreases-loop-i
-decreases-loop-i l = length l.variant - l.i

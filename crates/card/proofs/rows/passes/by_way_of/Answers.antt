@@ -21,14 +21,14 @@ slice_bounds-first_end-end c =
 pub slice_bounds-first_end-end-in-Marked : goal.slice_bounds-first_end-end-in-Marked
 slice_bounds-first_end-end-in-Marked c = simp length-take (omega (arith, slice_bounds-first_end-end (goal.at.slice_bounds-first_end-end-in-Marked c).In-Marked))
 
-pub first_end-first-requires : goal.first_end-first-requires
-first_end-first-requires c =
-    simp length-take (omega (arith, of-few _ _ c.args.marks.now c.requires _ _ (found (goal.at.first_end-first-requires c).In-Marked)))
+pub first_end-requires : goal.first_end-requires
+first_end-requires c =
+    simp length-take (omega (arith, of-few _ _ c.args.marks.now c.requires _ _ (found (goal.at.first_end-requires c).In-Marked)))
 
 pub told-requires : goal.told-requires
 told-requires c =
     of_zero c.args.pattern.now c.args.stretch.now c.args.marks.now c.requires _ _ (found (goal.at.told-requires c).In-Marked) _
-    c.through.ensures.marks_after _ c.first_end-first.ensures
+    c.through.ensures.marks_after _ c.first_end.ensures
 
 pub returns-in-Refused : goal.returns-in-Refused
 returns-in-Refused c =

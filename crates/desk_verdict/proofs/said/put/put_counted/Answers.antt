@@ -5,5 +5,4 @@ use Rattle.desk_verdict.proofs.said.put.put_counted.Goals as goal
 
 pub returns : goal.returns
 unfolding counted
-returns c =
-    put-more c.put_bytes-next.ensures c.put_number.ensures
+returns c = put-more c.put_bytes-next.ensures c.put_number.ensures

@@ -5,5 +5,4 @@ use Rattle.desk_verdict.proofs.said.put.put_named.Goals as goal
 
 pub returns : goal.returns
 unfolding named
-returns c =
-    put-more (put-more c.put_bytes-next.ensures c.put_bytes-end.ensures) c.put_bytes.ensures
+returns c = put-more (put-more c.put_bytes-next.ensures c.put_bytes-end.ensures) c.put_bytes.ensures

@@ -1,4 +1,3 @@
-use native.Mathlib.Omega.{arith}
 use Rattle.search.proofs.BorderTables.{building-none, building-matched, building-more, building-all}
 use Rattle.search.proofs.borders.table.border_table.Goals as goal
 
@@ -8,18 +7,6 @@ loop-i-init c = building-none c.requires
 pub fallback-k-requires : goal.fallback-k-requires
 fallback-k-requires c =
     building-matched c.loop-i.invariant c.requires c.loop-i-test.true
-
-pub overflow_add-i : goal.overflow_add-i
-overflow_add-i c = omega arith
-
-pub offset_bounds-table-i : goal.offset_bounds-table-i
-offset_bounds-table-i c = omega arith
-
-pub bounds-table-i : goal.bounds-table-i
-bounds-table-i c = omega arith
-
-pub loop-i-smaller : goal.loop-i-smaller
-loop-i-smaller c = omega arith
 
 pub loop-i-preserved : goal.loop-i-preserved
 loop-i-preserved c =

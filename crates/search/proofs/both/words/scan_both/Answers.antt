@@ -4,24 +4,24 @@ use Rattle.search.proofs.BitScans.{turning-start, turning-more, turning-all, sca
 use Rattle.search.proofs.Pairs.{evens_at, odds-at}
 use Rattle.search.proofs.both.words.scan_both.Goals as goal
 
-pub loop-i-init : goal.loop-i-init
-loop-i-init c = (
+pub loop-letter-init : goal.loop-letter-init
+loop-letter-init c = (
   λ st is P y. turning-start P _ _ _ _ _ (omega arith) y _ is,
   λ st is P y. turning-start P _ _ _ _ _ (omega arith) y _ is,
 )
 
-pub loop-i-preserved : goal.loop-i-preserved
-loop-i-preserved c = (
+pub loop-letter-preserved : goal.loop-letter-preserved
+loop-letter-preserved c = (
   λ st is P y.
-      turning-more P _ _ _ _ _ _ _ _ _ y (c.loop-i.invariant.0 st is P y) c.loop-i-test.true _ refl (omega (arith, c.type_inv.variant c.loop-i.i)) _ (evens_at _ _),
+      turning-more P _ _ _ _ _ _ _ _ _ y (c.loop-letter.invariant.0 st is P y) c.loop-letter-test.true _ refl (omega (arith, c.type_inv.variant c.loop-letter.letter-index)) _ (evens_at _ _),
   λ st is P y.
-      turning-more P _ _ _ _ _ _ _ _ _ y (c.loop-i.invariant.1 st is P y) c.loop-i-test.true _ refl (omega (arith, c.type_inv.variant c.loop-i.i)) _ (odds-at _ _),
+      turning-more P _ _ _ _ _ _ _ _ _ y (c.loop-letter.invariant.1 st is P y) c.loop-letter-test.true _ refl (omega (arith, c.type_inv.variant c.loop-letter.letter-index)) _ (odds-at _ _),
 )
 
 pub returns : goal.returns
 returns c =
-    let end = c.loop-i-test.false in
-    let i = c.loop-i.invariant in record {
+    let end = c.loop-letter-test.false in
+    let i = c.loop-letter.invariant in record {
       scanned_by = λ P y.
           let t = i.0 _ refl P y in
           (turning-all P _ _ _ _ _ _ _ t end, scanning-wrong P _ _ _ _ _ _ t.scanning end);

@@ -4,9 +4,9 @@ use Rattle.search.proofs.Words.{Sweeping}
 use Rattle.search.proofs.state.State.over.Given as goal
 
 abbrev pub invariant-loop-cursor : goal.invariant-loop-cursor
-invariant-loop-cursor l =
-    Sweeping l.pattern l.bits l.stretch l.at l.cursor l.out l.missed
+invariant-loop-cursor g l =
+    Sweeping (g.M.Method.pattern l.method) l.bits l.stretch l.at l.cursor l.out l.missed
 
 abbrev pub decreases-loop-cursor : goal.decreases-loop-cursor
-decreases-loop-cursor l =
+decreases-loop-cursor g l =
     l.cursor.left

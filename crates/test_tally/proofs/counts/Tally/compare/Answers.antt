@@ -1,15 +1,17 @@
--- `test_tally::Tally::compare` meets its contract: it counts one more, and one more that differs where `equals` says so.
-use Rattle.std.proofs.Common.{sym, ◌∙◌, rules}
-use Rattle.test_tally.proofs.Compared.{compared-alike, compared-differs}
+-- `test_tally::Tally::compare` meets its contract: it counts one more, and one more that differs where the answers are not the same.
+use Rattle.std.proofs.Common.{◌≡◌, true, false, sym, ◌∙◌}
+use Rattle.std.proofs.lemmas.Bool.{not-true, not-false}
+use Rattle.test_tally.specs.Answers.{alike}
 use Rattle.test_tally.proofs.counts.Tally.compare.Goals as goal
 
-pub returns-then-equals : goal.returns-then-equals
-returns-then-equals c =
-    let same = sym c.equals.ensures ∙ c.if-equals.true in
-    compared-alike c.args.self c.args.group c.args.got c.args.wanted c.more-counted.ensures c.wrapping_add_u64-ran.ensures.value same
+pub returns-then-ne : goal.returns-then-ne
+unfolding alike
+returns-then-ne c =
+    let differs : alike c.args.got c.args.wanted ≡ false = not-true _ (sym c.ne.ensures ∙ c.if-ne.true) in
+    rw (c.or-self.ensures, c.more.ensures, differs)
 
-pub returns : goal.returns
-returns c =
-    let differs = sym c.equals.ensures ∙ c.if-equals.false in
-    compared-differs c.args.self c.args.group c.args.got c.args.wanted c.more-counted.ensures c.wrapping_add_u64-ran.ensures.value differs
-    c.wrapping_add_u64.ensures.value
+pub returns-else-ne : goal.returns-else-ne
+unfolding alike
+returns-else-ne c =
+    let same : alike c.args.got c.args.wanted ≡ true = not-false _ (sym c.ne.ensures ∙ c.if-ne.false) in
+    rw (c.more.ensures, same)

@@ -1,11 +1,6 @@
--- `vcf::records::pieces::more_than` meets its contract. The loop's invariant, `Counted`: i pieces are passed. The measure is the number of
--- pieces to pass.
-use Prim.Native.Nat.{◌-◌}
+-- `vcf::records::pieces::more_than` meets its contract. The loop's invariant, `Counted`: i pieces are passed.
 use Rattle.vcf.proofs.Marks.{Counted}
 use Rattle.vcf.proofs.records.pieces.more_than.Given as goal
 
 abbrev pub invariant-loop-i : goal.invariant-loop-i
-invariant-loop-i l = Counted l.mark l.s l.n l.from l.i
-
-abbrev pub decreases-loop-i : goal.decreases-loop-i
-decreases-loop-i l = l.n - l.i
+invariant-loop-i l = Counted l.mark l.s l.n l.from l._i

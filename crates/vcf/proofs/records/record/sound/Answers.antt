@@ -8,7 +8,7 @@ use Prim.Native.Nat.{ℕ}
 use lib.Dec.{ltb}
 use Rattle.text.specs.Compare.{same}
 use Rattle.vcf.specs.Pieces.{pieces}
-use Rattle.vcf.specs.Records.{field, position_of, allele, alternates_sound}
+use Rattle.vcf.specs.Records.{field, position_of, stated, allele, alternates_sound}
 use Rattle.vcf.proofs.Alleles.{through, few-fields, wrong_name, wrong-reference, wrong-alternates, stated-position}
 use Rattle.vcf.proofs.records.record.sound.Goals as goal
 use Rattle.vcf.proofs.records.record.sound.Goals.{Else-not-is_allele, Else-not-more_than, Else-not-same}
@@ -53,5 +53,5 @@ returns-then-not-are_alternates c =
 pub returns : goal.returns
 returns c =
     let e = through alternates_sound c.field-alt.ensures c.are_alternates.ensures (not-false _ c.if-not-are_alternates.false-raw) in
-    c.position.ensures ∙ ap position_of c.field-stated.ensures ∙ sym
+    c.position.ensures ∙ ap (λ (x : List ℕ). stated (position_of x)) c.field-stated.ensures ∙ sym
     (stated-position _ _ (enough (goal.at.returns c).Else-not-more_than) (named (goal.at.returns c).Else-not-same) (refd (goal.at.returns c).Else-not-is_allele) e)

@@ -13,12 +13,12 @@ use Rattle.vcf.proofs.survey.needed.repeated.Goals.{Else-alike}
 -- it is not REF
 other :
     (c : Else-alike) →
-    among (meant c.args.allele.now) (meant c.args.reference.now ∷ take c.args.k (pieces 0x2C (meant c.args.alt.now)))
-    ≡ among (meant c.args.allele.now) (take c.args.k (pieces 0x2C (meant c.args.alt.now)))
-other c = among-rest c.args.allele.now c.args.reference.now _ (sym c.alike.ensures ∙ c.if-alike.false)
+    among (meant c.args.allele.now) (meant c.args.alleles.reference.now ∷ take c.args.k (pieces 0x2C (meant c.args.alleles.alt.now)))
+    ≡ among (meant c.args.allele.now) (take c.args.k (pieces 0x2C (meant c.args.alleles.alt.now)))
+other c = among-rest c.args.allele.now c.args.alleles.reference.now _ (sym c.alike.ensures ∙ c.if-alike.false)
 
 pub returns-then-alike : goal.returns-then-alike
-returns-then-alike c = among_first c.args.allele.now c.args.reference.now _
+returns-then-alike c = among_first c.args.allele.now c.args.alleles.reference.now _
     (sym c.alike.ensures ∙ c.if-alike.true)
 
 pub loop-i-init : goal.loop-i-init

@@ -8,7 +8,7 @@ use Rattle.vcf.proofs.survey.scan.scan.Given as goal
 
 abbrev pub invariant-loop-at : goal.invariant-loop-at
 invariant-loop-at l =
-    Scanning l.name (meant l.window) l.first l.file l.at l.start l.passed l.reached
+    Scanning l.name (meant l.window.bases.now) l.window.first l.file l.at l.start l.passed l.reached
 
 abbrev pub decreases-loop-at : goal.decreases-loop-at
 decreases-loop-at l = length l.file - l.at

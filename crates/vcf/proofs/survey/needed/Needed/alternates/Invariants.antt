@@ -2,11 +2,12 @@
 -- number of bytes left.
 use Prim.Native.Nat.{◌-◌}
 use lib.ListN.{length}
+use Rattle.std.proofs.Common.{Ok}
 use Rattle.vcf.proofs.Tallying.{Behind}
 use Rattle.vcf.proofs.survey.needed.Needed.alternates.Given as goal
 
 abbrev pub invariant-loop-needed : goal.invariant-loop-needed
-invariant-loop-needed l = Behind l.initial.needed l.reference l.alt l.needed l.from l.k
+invariant-loop-needed l = Behind (Ok l.initial.needed) l.alleles.reference.now l.alleles.alt.now (Ok l.needed) l.from l.k
 
 abbrev pub decreases-loop-needed : goal.decreases-loop-needed
-decreases-loop-needed l = length l.alt - l.from
+decreases-loop-needed l = length l.alleles.alt.now - l.from

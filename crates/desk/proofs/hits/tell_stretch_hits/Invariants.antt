@@ -1,9 +1,0 @@
--- `desk::hits::tell_stretch_hits` ends.
-use Rattle.std.proofs.Common.{◌-◌, length}
-use Rattle.desk.proofs.hits.tell_stretch_hits.Given as goal
-
-abbrev pub invariant-loop-at : goal.invariant-loop-at
-invariant-loop-at l = Unit {0}
-
-abbrev pub decreases-loop-at : goal.decreases-loop-at
-decreases-loop-at l = length l.list - l.at

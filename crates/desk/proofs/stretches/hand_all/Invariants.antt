@@ -1,9 +1,0 @@
--- `desk::stretches::hand_all` ends.
-use Rattle.std.proofs.Common.{◌-◌}
-use Rattle.desk.proofs.stretches.hand_all.Given as goal
-
-abbrev pub invariant-loop-i : goal.invariant-loop-i
-invariant-loop-i l = Unit {0}
-
-abbrev pub decreases-loop-i : goal.decreases-loop-i
-decreases-loop-i l = l.all - l.i

@@ -1,9 +1,0 @@
--- `judged::lists::list` is safe and ends. The measure is the number of records left.
-use Rattle.std.proofs.Common.{◌-◌, ◌≤◌, rules}
-use Rattle.judged.proofs.lists.list.Given as goal
-
-abbrev pub invariant-loop-k : goal.invariant-loop-k
-invariant-loop-k l = l.k ≤ l.n
-
-abbrev pub decreases-loop-k : goal.decreases-loop-k
-decreases-loop-k l = l.n - l.k

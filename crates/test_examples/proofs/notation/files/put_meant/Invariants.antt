@@ -1,9 +1,0 @@
--- `test_examples::notation::files::put_meant` is safe and ends: the buffer keeps its length. The measure is the number of characters left.
-use Rattle.std.proofs.Common.{◌≡◌, ◌-◌, length, rules}
-use Rattle.test_examples.proofs.notation.files.put_meant.Given as goal
-
-abbrev pub invariant-loop-i : goal.invariant-loop-i
-invariant-loop-i l = length l.out ≡ length l.initial.out
-
-abbrev pub decreases-loop-i : goal.decreases-loop-i
-decreases-loop-i l = length l.row - l.i

@@ -1,9 +1,0 @@
--- `test_random::patterns::put_bases` is safe and ends: the buffer keeps its length. The measure is the number of letters left.
-use Rattle.std.proofs.Common.{◌≡◌, ◌-◌, length}
-use Rattle.test_random.proofs.patterns.put_bases.Given as goal
-
-abbrev pub invariant-loop-i : goal.invariant-loop-i
-invariant-loop-i l = length l.out ≡ length l.initial.out
-
-abbrev pub decreases-loop-i : goal.decreases-loop-i
-decreases-loop-i l = length l.letters - l.i
