@@ -6,6 +6,7 @@ ghost use Rattle.card.specs.Held.{row_of, rows_in};
 ghost use Rattle.card.specs.Cards.{row_in};
 
 use crate::cards::Card;
+use crate::rows::earlier;
 
 // The state that leaves, and the first end. It stays a number, as it stands in a card: "none" is the latest, so that the earlier of two
 // ends is the lesser.
@@ -39,7 +40,7 @@ impl Card {
         while rest != 0 {
             if rest % 2 == 1 {
                 exit |= self.exits[q];
-                first = first.min(self.firsts[q]);
+                first = earlier(first, self.firsts[q]);
             }
             rest /= 2;
             q += 1;

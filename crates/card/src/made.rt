@@ -5,6 +5,7 @@ ghost use Rattle.text.specs.Card.{later, join, joined};
 ghost use Rattle.card.specs.Cards.{card_in, card_out};
 
 use crate::cards::Card;
+use crate::rows::earlier;
 
 // An end counted from `count` segments earlier; "none" stays "none". The sum of an end and a count is never cut off in a card that
 // has at most 4294967294 segments.
@@ -31,7 +32,7 @@ impl Card {
         for q in 0..Card::GREATEST_PATTERN {
             let row = right.follow(exits[q]);
             exits[q] = row.exit;
-            firsts[q] = firsts[q].min(later(count, row.first));
+            firsts[q] = earlier(firsts[q], later(count, row.first));
         }
         let segments = count + right.segments;
         Card {

@@ -5,5 +5,6 @@ mod passes;
 mod segment;
 mod start;
 
+pub use ends::earlier;
 pub use passes::{Summed, over};
 pub use start::Rows;

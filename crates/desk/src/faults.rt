@@ -4,7 +4,7 @@ use crate::tell::{tell_named, tell_refused};
 use desk_list::Fault;
 use desk_night::Trouble;
 use desk_verdict::said::put_fault;
-use files::{Told, say, tell};
+use files::{Told, say, say_line, tell};
 
 // The most faulty lines that are told.
 const MOST_TOLD: usize = 20;
@@ -30,7 +30,7 @@ fn tell_faults(rt: &HostRuntime, list: &[u8]) {
         let mut out = [0u8; 64];
         let n = put_fault(i.saturating_add(1) as u64, &mut out);
         say(rt, &out[..n]);
-        let _ = eprintln!(rt; "{}", meaning(fault));
+        say_line(rt, meaning(fault));
     }
 }
 
@@ -38,12 +38,8 @@ fn tell_faults(rt: &HostRuntime, list: &[u8]) {
 pub fn tell_list(rt: &HostRuntime, list: &[u8], trouble: Option<Trouble>) -> Result<(), Told> {
     match trouble {
         Some(Trouble::List) => tell_faults(rt, list),
-        Some(Trouble::Empty) => {
-            let _ = eprintln!(rt; "the list has no sequence");
-        }
-        Some(Trouble::Many) => {
-            let _ = eprintln!(rt; "the list has more than 32 sequences");
-        }
+        Some(Trouble::Empty) => say_line(rt, "the list has no sequence"),
+        Some(Trouble::Many) => say_line(rt, "the list has more than 32 sequences"),
         _ => return Ok(()),
     }
     Err(Told)

@@ -12,7 +12,7 @@ mod screening;
 mod tell;
 
 use desk_night::{Night, Trouble};
-use files::{Told, WORD, count_words, read_file, word};
+use files::{Told, WORD, count_words, read_file, say_line, word};
 use screening::{Named, Screening};
 use tell::{tell_named, tell_verdict};
 
@@ -82,7 +82,7 @@ fn screen(rt: &HostRuntime, first: bool, number: usize) -> Result<(), Told> {
     let mut path = [0u8; WORD];
     let mut bytes = [0u8; MOST_BYTES];
     let Some(list) = read_file(rt, word(rt, number, &mut path), &mut bytes)? else {
-        let _ = eprintln!(rt; "the list has more than 65536 bytes");
+        say_line(rt, "the list has more than 65536 bytes");
         return Err(Told);
     };
     let next = number.saturating_add(1);
@@ -106,8 +106,9 @@ fn main(rt: HostRuntime) {
         // What failed has been said, and the script reads the verdict off the last line.
         let _ = screen(&rt, first, number);
     } else {
-        let _ = eprintln!(rt;
-            "usage: desk [--first] LIST TEXT or desk [--first] LIST --files FILE..."
+        say_line(
+            &rt,
+            "usage: desk [--first] LIST TEXT or desk [--first] LIST --files FILE...",
         );
     }
 }

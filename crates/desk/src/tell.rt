@@ -2,7 +2,7 @@
 use desk_night::{Trouble, Verdict, put_verdict};
 use desk_verdict::said::{put_done, put_hit, put_named, put_refused, put_standing};
 use desk_verdict::{Standing, next_marked};
-use files::{Told, given_to_append, say, write_all};
+use files::{Told, given_to_append, say, say_line, write_all};
 use text::{Refusal, part};
 
 // Room for a line with a file's name, the longest of which has 4,096 bytes.
@@ -14,7 +14,7 @@ const DECIDED: u32 = 3;
 // Lines that decide nothing by themselves.
 pub fn print(rt: &HostRuntime, lines: &[u8]) -> Result<(), Told> {
     write_all(&mut rt.stdout(), lines).map_err(|_| {
-        let _ = eprintln!(rt; "desk: standard output could not be written");
+        say_line(rt, "desk: standard output could not be written");
         Told
     })
 }

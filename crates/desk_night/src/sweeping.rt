@@ -33,7 +33,8 @@ fn turn(done: Swept, k: usize, first: bool, pattern: &[u8], stretch: &[u8]) -> S
     }
 }
 
-// Takes every sequence of the list, in order; also those after one that is refused, so that where each stands is known.
+// Takes every sequence of the list, in order; also those after one that is refused, so that where each stands is known. After the last
+// that a list may have, no line is read.
 pub fn sweep(standings: [Standing; MOST], first: bool, list: &[u8], stretch: &[u8]) -> Swept
     ensures { result ≡ swept first list.now stretch.now standings }
 {
@@ -48,12 +49,12 @@ pub fn sweep(standings: [Standing; MOST], first: bool, list: &[u8], stretch: &[u
         let Some(withheld) = line.said.unwrap_or(None) else {
             continue;
         };
-        if k == MOST {
-            return sweep;
-        }
         let pattern = part(list, withheld.start, withheld.end);
         sweep = turn(sweep, k, first, pattern, stretch);
         k += 1;
+        if k == MOST {
+            return sweep;
+        }
     }
     sweep
 }

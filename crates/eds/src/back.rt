@@ -1,6 +1,7 @@
 // A stretch back to braces.
 use eds_notation::put_braces;
 use files::{fail, read_all, write_all};
+use lines::put_refusal;
 use text::{limits, part};
 
 // Prints the braces of a stretch on a line, or its refusal.
@@ -9,10 +10,12 @@ fn print(rt: &HostRuntime, stretch: &[u8]) {
     match put_braces(stretch, &mut out) {
         Ok(end) => {
             let _ = write_all(&mut rt.stdout(), part(&out, 0, end));
-            let _ = println!(rt);
+            let _ = write_all(&mut rt.stdout(), b"\n");
         }
         Err(wrong) => {
-            let _ = println!(rt; "refused {} at {}", wrong.number, wrong.place);
+            let mut line = [0u8; 64];
+            let end = put_refusal(wrong, &mut line, 0);
+            let _ = write_all(&mut rt.stdout(), part(&line, 0, end));
         }
     }
 }

@@ -2,9 +2,9 @@
 // them are written, so is the manifest, which is the text.
 use digest::Hashing;
 use eds_notation::{Halt, Place, Stop, Tape, Wrong, cut, finish, read_on, write_closed};
-use files::{Told, WORD, fail, fill, word, written};
-use manifest::put_digest;
-use std::io::{Cursor, Write};
+use files::{Told, WORD, fail, fill, word, write_all};
+use lines::{put_bytes, put_line};
+use manifest::{MOST_BYTES, put_digest};
 use stretch::Written;
 use text::{limits, part};
 use text_files::Built;
@@ -22,7 +22,7 @@ const ABOUT: usize = 8192;
 const SOURCE: usize = 2;
 
 // How far a text has come: what is held of it, with its letters, lengths and counts, the place after what was read, the digest of what was
-// read, and what is written.
+// read, and what is written, with the manifest's lines.
 #[derive(Drop)]
 struct Text<'a> {
     rt: &'a HostRuntime,
@@ -34,15 +34,21 @@ struct Text<'a> {
     place: Place,
     hashing: Hashing,
     built: Built<'a>,
+    lines: [u8; MOST_BYTES],
+}
+
+// Prints a line of a word and a number.
+fn print_line(rt: &HostRuntime, word: &[u8], number: u64) {
+    let mut line = [0u8; 64];
+    let end = put_line(word, number, &mut line, 0);
+    let _ = write_all(&mut rt.stdout(), part(&line, 0, end));
 }
 
 // Says what is wrong, and its line and column.
 fn tell_wrong(rt: &HostRuntime, wrong: Wrong, place: Place) -> Told {
-    let number = wrong.number();
-    let _ = println!(rt;
-        "wrong {number}\nline {}\ncolumn {}",
-        place.line, place.column
-    );
+    print_line(rt, b"wrong ", wrong.number());
+    print_line(rt, b"line ", place.line as u64);
+    print_line(rt, b"column ", place.column as u64);
     Told
 }
 
@@ -58,9 +64,12 @@ impl Text<'_> {
             &self.counts,
             &mut out,
         ) {
-            Written::Bytes(n) => self.built.write_stretch(rt, part(&out, 0, n)),
+            Written::Bytes(n) => {
+                self.built
+                    .write_stretch(rt, part(&out, 0, n), &mut self.lines)
+            }
             Written::Refused(wrong) => {
-                let _ = println!(rt; "refused {}", wrong.number);
+                print_line(rt, b"refused ", wrong.number);
                 Err(Told)
             }
         }
@@ -133,17 +142,16 @@ impl Text<'_> {
     // Writes the manifest, with a comment line on where the text comes from, and says how many stretches there are.
     fn write_manifest(&mut self) -> Result<(), Told> {
         let rt = self.rt;
-        let mut digest = [0u8; 64];
-        put_digest(self.hashing.end(), &mut digest, 0);
         let mut path = [0u8; WORD];
-        let mut about = Cursor::new([0u8; ABOUT]);
-        let _ = about.write_all(b"# braces ");
-        let _ = about.write_all(&digest);
-        let _ = about.write_all(b"  ");
-        let _ = about.write_all(word(rt, SOURCE, &mut path));
-        let _ = about.write_all(b"\n");
-        self.built.write_manifest(rt, written(&about))?;
-        let _ = println!(rt; "stretches {}", self.built.stretches);
+        let mut about = [0u8; ABOUT];
+        let digest = put_bytes(b"# braces ", &mut about, 0);
+        let blanks = put_digest(self.hashing.end(), &mut about, digest);
+        let source = put_bytes(b"  ", &mut about, blanks);
+        let feed = put_bytes(word(rt, SOURCE, &mut path), &mut about, source);
+        let end = put_bytes(b"\n", &mut about, feed);
+        self.built
+            .write_manifest(rt, part(&about, 0, end), &mut self.lines)?;
+        print_line(rt, b"stretches ", self.built.stretches);
         Ok(())
     }
 
@@ -178,6 +186,7 @@ pub fn convert(rt: &HostRuntime, name: &[u8]) -> Result<(), Told> {
         place: Place::first(),
         hashing: Hashing::new(),
         built: Built::begin(rt, name)?,
+        lines: manifest::room(),
     };
     text.take_all()?;
     text.end()

@@ -16,6 +16,6 @@ pub use names::folder;
 pub use opening::opened;
 pub use putting::written;
 pub use reading::{fill, read_all, read_file, read_piece};
-pub use saying::{Told, fail, say, tell};
+pub use saying::{Told, fail, say, say_line, say_words, tell};
 pub use words::{WORD, count_words, word};
 pub use writing::{write_all, write_aside, write_new};

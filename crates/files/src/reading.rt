@@ -21,9 +21,9 @@ fn read_once<F: io::Read>(file: &mut F, bytes: &mut [u8]) -> io::Result<usize>
 }
 
 // The first n bytes of a buffer, as what was read; none where there are none.
-fn front(bytes: &[u8], n: usize) -> Option<&[u8]>
-    requires { n ≤ length bytes.now }
-    ensures { IfSome result (λ piece. PieceInto bytes.now piece.now) }
+fn front<'a>(bytes: &'a mut [u8], n: usize) -> Option<&'a [u8]>
+    requires { n ≤ length bytes.old }
+    ensures { IfSome result (λ piece. PieceInto bytes.entry piece) }
 {
     if n == 0 {
         return None;
@@ -37,7 +37,7 @@ pub fn read_piece<'a, F: io::Read>(
     file: &mut F,
     bytes: &'a mut [u8],
 ) -> io::Result<Option<&'a [u8]>>
-    ensures { IfOk result (λ read. IfSome read (λ piece. PieceInto bytes.old piece.now)) }
+    ensures { IfOk result (λ read. IfSome read (λ piece. PieceInto bytes.entry piece)) }
 {
     if bytes.is_empty() {
         return Err(Error::from(ErrorKind::InvalidInput));
@@ -46,9 +46,9 @@ pub fn read_piece<'a, F: io::Read>(
     Ok(front(bytes, n))
 }
 
-// Reads until the buffer is full or the file ends: the bytes that it found, at least one, or none at the end of the file.
-pub fn fill<'a, F: io::Read>(file: &mut F, bytes: &'a mut [u8]) -> io::Result<Option<&'a [u8]>>
-    ensures { IfOk result (λ read. IfSome read (λ piece. PieceInto bytes.old piece.now)) }
+// Reads until the buffer is full or the file ends: how many bytes it put at the start of the buffer.
+fn filled<F: io::Read>(file: &mut F, bytes: &mut [u8]) -> io::Result<usize>
+    ensures { IfOk result (λ n. n ≤ length bytes.new) }
 {
     let mut at = 0;
     // Stays a loop over a place: each read goes on where the last one ended, and no iterator lends the rest of a buffer.
@@ -58,20 +58,27 @@ pub fn fill<'a, F: io::Read>(file: &mut F, bytes: &'a mut [u8]) -> io::Result<Op
             n => at += n,
         }
     }
-    Ok(front(bytes, at))
+    Ok(at)
+}
+
+// Reads until the buffer is full or the file ends: the bytes that it found, at least one, or none at the end of the file.
+pub fn fill<'a, F: io::Read>(file: &mut F, bytes: &'a mut [u8]) -> io::Result<Option<&'a [u8]>>
+    ensures { IfOk result (λ read. IfSome read (λ piece. PieceInto bytes.entry piece)) }
+{
+    let n = filled(file, &mut *bytes)?;
+    Ok(front(bytes, n))
 }
 
 // Reads a file to its end: all its bytes, or none where it has more than the buffer. After a full buffer it asks for one byte more, and so
 // knows whether there is any.
 pub fn read_all<'a, F: io::Read>(file: &mut F, bytes: &'a mut [u8]) -> io::Result<Option<&'a [u8]>>
-    ensures { IfOk result (λ read. IfSome read (λ whole. ReadInto bytes.old whole.now)) }
+    ensures { IfOk result (λ read. IfSome read (λ whole. ReadInto bytes.entry whole)) }
 {
-    let room = bytes.len();
-    let whole = fill(&mut *file, bytes)?.unwrap_or(&[]);
-    if 0 < room && whole.len() == room && read_piece(file, &mut [0])?.is_some() {
+    let n = filled(&mut *file, &mut *bytes)?;
+    if 0 < n && n == bytes.len() && read_piece(file, &mut [0])?.is_some() {
         return Ok(None);
     }
-    Ok(Some(whole))
+    Ok(Some(&bytes[..n]))
 }
 
 // Opens a file by its name, and reads it to its end.
@@ -80,7 +87,7 @@ fn read_named<'a>(
     path: &[u8],
     bytes: &'a mut [u8],
 ) -> io::Result<Option<&'a [u8]>>
-    ensures { IfOk result (λ read. IfSome read (λ whole. ReadInto bytes.old whole.now)) }
+    ensures { IfOk result (λ read. IfSome read (λ whole. ReadInto bytes.entry whole)) }
 {
     let mut file = opened(rt, path)?;
     read_all(&mut file, bytes)
@@ -92,7 +99,7 @@ pub fn read_file<'a>(
     path: &[u8],
     bytes: &'a mut [u8],
 ) -> Result<Option<&'a [u8]>, Told>
-    ensures { IfOk result (λ read. IfSome read (λ whole. ReadInto bytes.old whole.now)) }
+    ensures { IfOk result (λ read. IfSome read (λ whole. ReadInto bytes.entry whole)) }
 {
     read_named(rt, path, bytes).map_err(|error| fail(rt, path, error))
 }

@@ -1,14 +1,14 @@
 // The words of the command line, as bytes. The first is the program's own name, and has number 0.
-ghost use Rattle.std.specs.Prelude.{◌≤◌, length};
+ghost use Rattle.files.specs.Reads.{ReadInto};
 
 use std::env::{Env, FillError};
 
 // Room for a word that names a file: the longest such name has fewer bytes.
 pub const WORD: usize = 4096;
 
-// A word, put into the buffer; empty where it is missing or has no room.
+// A word, put at the start of the buffer; empty where it is missing or has no room.
 pub fn word<'a>(rt: &HostRuntime, number: usize, out: &'a mut [u8]) -> &'a [u8]
-    ensures { length result.now ≤ length out.old }
+    ensures { ReadInto out.entry result }
 {
     let n = rt.arg(number, &mut *out).unwrap_or(0);
     &out[..n]

@@ -21,6 +21,19 @@ fn text(line: &[u8], k: usize) -> Bytes<40000> {
     Bytes::<40000>::put(|out| stretch(out, word(line, k), 2))
 }
 
+// The answer of a call on a stretch. It is a call of its own, so that there is one stretch for all of them.
+fn answer_on(call: u8, line: &[u8], text: &[u8]) -> Answer {
+    match call {
+        b'c' => Answer::from(stretch::check(text)),
+        b'r' => reads::read(line, text),
+        b'R' => reads::read_kept(line, text),
+        b'w' => writes::write(line, text),
+        b'k' => lists::known(line, text),
+        b't' => lists::ticked(line, text),
+        _ => Answer::refused(101, 0),
+    }
+}
+
 // The answer of a call, which is known by its first letter: S is a search by border tables, R a read by a reader that keeps the stretch.
 // A line of no known call has none that is right.
 fn answer(call: u8, line: &[u8]) -> Answer {
@@ -34,13 +47,10 @@ fn answer(call: u8, line: &[u8]) -> Answer {
         b'u' => searches::sought(line, |p, _, text, marks| either(p, text, marks)),
         b'f' => searches::feed(line),
         b'l' => searches::lengths(line),
-        b'c' => Answer::from(stretch::check(text(line, 1).as_slice())),
-        b'r' => reads::read(line, text(line, 1).as_slice()),
-        b'R' => reads::read_kept(line, text(line, 1).as_slice()),
-        b'w' => writes::write(line, text(line, 5).as_slice()),
-        b'k' => lists::known(line, text(line, 1).as_slice()),
-        b't' => lists::ticked(line, text(line, 1).as_slice()),
-        _ => Answer::refused(101, 0),
+        _ => {
+            let k = if call == b'w' { 5 } else { 1 };
+            answer_on(call, line, text(line, k).as_slice())
+        }
     }
 }
 

@@ -14,6 +14,7 @@ fn state(line: &[u8], k: usize) -> State {
 }
 
 // feed PATTERN state SEGMENT = state ends
+#[inline(never)]
 pub fn feed(line: &[u8]) -> Answer {
     let segment = Bytes::<40000>::put(|out| stretch(out, word(line, 3), 0));
     let (p, strand) = pattern(line);
@@ -27,6 +28,7 @@ pub fn lengths(line: &[u8]) -> Answer {
 }
 
 // search PATTERN STRETCH MARKS = segments size ends, and united: into eight marks, each 7 before.
+#[inline(never)]
 pub fn sought<F: FnOnce(&[u8], Strand, &[u8], &mut [u8]) -> Searched>(
     line: &[u8],
     search: F,

@@ -6,6 +6,7 @@ use test_tally::{Answer, held_in, lent};
 
 // write LETTERS LENGTHS COUNTS room STRETCH = bytes: letters, lengths of two bytes, low byte first, and counts are raw. Into that many
 // bytes of a buffer of 7, where it leaves the stretch in front of it.
+#[inline(never)]
 pub fn write(line: &[u8], text: &[u8]) -> Answer {
     let letters = Bytes::<70000>::put(|out| raw(out, word(line, 1)));
     let counts = Bytes::<11000>::put(|out| raw(out, word(line, 3)));

@@ -1,9 +1,9 @@
 // The records of the chromosome, one after another, each as its line in short. A line that is wrong is said and passed over; from then on
 // nothing is built or written.
 use crate::contig::length_said;
-use crate::source::{PIECE, Source};
+use crate::source::Source;
 use crate::words::{TOO_LONG, VARIANTS, tell, tell_at, wrong_record};
-use files::Told;
+use files::{Told, say_line};
 use pool_files::{ShortLine, read_line};
 use text::part;
 use vcf::records::heading;
@@ -23,13 +23,13 @@ enum Got {
 // record's line in short, how many records of the chromosome and of others there were, how many columns a record has and how many bases
 // the chromosome, where something says so, whether the last line may have no line feed, and how many faults were told.
 #[derive(Drop)]
-pub struct Records<'a> {
+pub struct Records<'a, 's, 'v> {
     rt: &'a HostRuntime,
     name: &'a [u8],
-    pub source: Source,
+    pub source: Source<'v>,
     line: ShortLine,
-    // Stays an array with a place below: the memory is fixed.
-    short: [u8; PIECE],
+    // Stays a buffer with a place below: the memory is fixed.
+    short: &'s mut [u8],
     number: u64,
     behind: usize,
     pub own: u64,
@@ -53,26 +53,30 @@ fn wrong_heading(first: &[u8]) -> Option<&'static str> {
     }
 }
 
-impl Records<'_> {
-    // The records of the chromosome of this name in a variant file, of which the first piece is read. One that does not begin as such a file
-    // is said, and not taken.
-    pub fn begin<'a>(
+// Reads the first piece of a variant file. One that does not begin as such a file is said.
+pub fn read_first(rt: &HostRuntime, source: &mut Source<'_>) -> Result<(), Told> {
+    source.next_piece(rt)?;
+    match wrong_heading(source.piece()) {
+        Some(reason) => Err(tell(rt, VARIANTS, reason)),
+        None => Ok(()),
+    }
+}
+
+impl Records<'_, '_, '_> {
+    // The records of the chromosome of this name in a variant file whose first piece is read, with room for a line in short.
+    pub fn begin<'a, 's, 'v>(
         rt: &'a HostRuntime,
         name: &'a [u8],
-        source: Source,
+        source: Source<'v>,
         is_unended: bool,
-    ) -> Result<Records<'a>, Told> {
-        let mut source = source;
-        source.next_piece(rt)?;
-        if let Some(reason) = wrong_heading(source.piece()) {
-            return Err(tell(rt, VARIANTS, reason));
-        }
-        Ok(Records {
+        short: &'s mut [u8],
+    ) -> Records<'a, 's, 'v> {
+        Records {
             rt,
             name,
             source,
             line: ShortLine::at(0),
-            short: [0; PIECE],
+            short,
             number: 0,
             behind: 0,
             own: 0,
@@ -81,19 +85,19 @@ impl Records<'_> {
             bases: None,
             is_unended,
             faults: 0,
-        })
+        }
     }
 
     // The record's line in short.
     pub fn line(&self) -> &[u8] {
-        part(&self.short, 0, self.behind)
+        part(self.short, 0, self.behind)
     }
 
     // Counts a fault that was told, up to the last.
     pub fn count_fault(&mut self) -> Result<(), Told> {
         self.faults = self.faults.wrapping_add(1);
         if self.faults == MOST_FAULTS {
-            let _ = eprintln!(self.rt; "pool: 20 faults; the rest is not looked at");
+            say_line(self.rt, "pool: 20 faults; the rest is not looked at");
             return Err(Told);
         }
         Ok(())
@@ -118,21 +122,29 @@ impl Records<'_> {
 
     // After a line that begins with #: the line of the columns' names, or what is said of the chromosome's length.
     fn after_comment(&mut self, line: ShortLine, columns: usize) {
-        let kept = part(&self.short, 0, line.behind);
-        if kept.starts_with(b"CHROM") {
+        if self.kept(line).starts_with(b"CHROM") {
             self.columns = Some(columns);
-        } else if let Some(bases) = length_said(kept, self.name) {
+        } else if let Some(bases) = self.length(line) {
             self.bases = Some(bases);
         }
     }
 
+    // What is kept of a line.
+    fn kept(&self, line: ShortLine) -> &[u8] {
+        part(self.short, 0, line.behind)
+    }
+
+    // How many bases a line says that the chromosome has, if it does.
+    fn length(&self, line: ShortLine) -> Option<u64> {
+        length_said(self.kept(line), self.name)
+    }
+
     // The record of the line in short, or why it is refused.
     fn measured(&mut self) -> Result<Got, Told> {
-        let line = part(&self.short, 0, self.behind);
-        match measure(line, b"") {
+        match measure(self.line(), b"") {
             Ok(record) => Ok(Got::Record(record)),
             Err(wrong) => {
-                let reason = wrong_record(wrong, line);
+                let reason = wrong_record(wrong, self.line());
                 self.passed(reason)
             }
         }
@@ -192,13 +204,10 @@ impl Records<'_> {
 
     // Reads on to the end of the line or of the piece, after which the next one is read.
     fn turn(&mut self) -> Result<Got, Told> {
-        let come = read_line(
-            self.name,
-            self.line,
-            self.source.piece(),
-            self.source.at,
-            &mut self.short,
-        );
+        let name = self.name;
+        let line = self.line;
+        let at = self.source.at;
+        let come = read_line(name, line, self.source.piece(), at, &mut *self.short);
         self.line = come.line;
         if let Some(at) = come.next {
             self.source.at = at;

@@ -8,10 +8,10 @@ use pool_files::{Reading, Taken, take};
 
 // The reference, the name of the chromosome, where the reading stands, and line and column where the piece that is held begins.
 #[derive(Drop)]
-pub struct Reference<'a> {
+pub struct Reference<'a, 's> {
     rt: &'a HostRuntime,
     name: &'a [u8],
-    pub source: Source,
+    pub source: Source<'s>,
     reading: Reading,
     place: Place,
 }
@@ -25,9 +25,13 @@ fn wrong_first(piece: &[u8]) -> &'static str {
     }
 }
 
-impl Reference<'_> {
+impl Reference<'_, '_> {
     // A reference of which nothing is read yet.
-    pub fn begin<'a>(rt: &'a HostRuntime, name: &'a [u8], source: Source) -> Reference<'a> {
+    pub fn begin<'a, 's>(
+        rt: &'a HostRuntime,
+        name: &'a [u8],
+        source: Source<'s>,
+    ) -> Reference<'a, 's> {
         Reference {
             rt,
             name,
@@ -81,7 +85,7 @@ impl Reference<'_> {
 
     // Takes n bases of the sequence into the window, for which there is room, or as many of them as the piece has. Whether the sequence
     // goes on.
-    pub fn take(&mut self, window: &mut Window, n: usize) -> Result<bool, Told> {
+    pub fn take(&mut self, window: &mut Window<'_>, n: usize) -> Result<bool, Told> {
         let before = self.reading;
         let from = Taken {
             reading: before,
@@ -93,7 +97,7 @@ impl Reference<'_> {
             self.name,
             from,
             self.source.piece(),
-            &mut window.bytes,
+            &mut *window.bytes,
             most,
         );
         window.hold(got.count);

@@ -7,14 +7,14 @@ use text::part;
 // How much is read at once.
 pub const PIECE: usize = 65536;
 
-// The word of the command line that names a file, the file, the piece that is held, with how far it is read and where it ends, whether the
-// file so far ends with a line feed, and its digest.
+// The word of the command line that names a file, the file, the buffer of the piece that is held, with how far it is read and where it
+// ends, whether the file so far ends with a line feed, and its digest.
 #[derive(Drop)]
-pub struct Source {
+pub struct Source<'a> {
     number: usize,
     file: File,
-    // Stays an array with two places: the memory is fixed, and a piece is read in turns.
-    piece: [u8; PIECE],
+    // Stays a buffer with two places: the memory is fixed, and a piece is read in turns.
+    piece: &'a mut [u8],
     pub at: usize,
     pub end: usize,
     pub feed: bool,
@@ -23,27 +23,31 @@ pub struct Source {
     pub hashing: Hashing,
 }
 
-impl Source {
-    // Opens the file that this word names, of which nothing is read yet, or says why not.
-    pub fn open(rt: &HostRuntime, number: usize) -> Result<Source, Told> {
-        let mut path = [0u8; WORD];
-        let path = word(rt, number, &mut path);
-        let file = opened(rt, path).map_err(|error| fail(rt, path, error))?;
-        Ok(Source {
+// Opens the file that this word names, or says why not.
+pub fn open(rt: &HostRuntime, number: usize) -> Result<File, Told> {
+    let mut path = [0u8; WORD];
+    let path = word(rt, number, &mut path);
+    opened(rt, path).map_err(|error| fail(rt, path, error))
+}
+
+impl Source<'_> {
+    // The file that this word names, of which nothing is read yet, with room for its pieces.
+    pub fn of<'a>(number: usize, file: File, piece: &'a mut [u8]) -> Source<'a> {
+        Source {
             number,
             file,
-            piece: [0; PIECE],
+            piece,
             at: 0,
             end: 0,
             feed: true,
             ended: false,
             hashing: Hashing::new(),
-        })
+        }
     }
 
     // The piece that is held.
     pub fn piece(&self) -> &[u8] {
-        part(&self.piece, 0, self.end)
+        part(self.piece, 0, self.end)
     }
 
     // Reads the next piece. Whether there was one.
@@ -53,7 +57,7 @@ impl Source {
         if self.ended {
             return Ok(false);
         }
-        match fill(&mut self.file, &mut self.piece) {
+        match fill(&mut self.file, &mut *self.piece) {
             Ok(None) => {
                 self.ended = true;
                 Ok(false)

@@ -1,12 +1,13 @@
 // The walk along a chromosome: its bases go into a window, which is cut, built and written whenever its stretch has no room for what
 // comes next. So every stretch is as full as it can be, and no record lies across a cut. Once there was a fault nothing more is built or
 // written, and the rest is only looked through.
-use crate::about::written_about;
+use crate::about::{ABOUT, put_about};
 use crate::records::Records;
 use crate::reference::Reference;
 use crate::window::Window;
 use crate::words::{REFERENCE, VARIANTS, tell};
-use files::{Told, written};
+use files::{Told, say_line, write_all};
+use lines::{put_line, put_number};
 use stretch::Written;
 use text::compare::alike;
 use text::numbers::least;
@@ -15,17 +16,21 @@ use text_files::Built;
 use vcf::records::record::field;
 use vcf::{Measured, build};
 
-// How far both files have come, the window at hand, and what is written.
+// How many digits are said of the number of bases that the variant file has: the first fifteen, if there are more.
+const DIGITS: usize = 15;
+
+// How far both files have come, the window at hand, and what is written, with the manifest's lines.
 #[derive(Drop)]
-pub struct Walk<'a> {
+pub struct Walk<'a, 's, 'v> {
     pub rt: &'a HostRuntime,
-    pub window: Window,
-    pub reference: Reference<'a>,
-    pub records: Records<'a>,
+    pub window: Window<'s>,
+    pub reference: Reference<'a, 's>,
+    pub records: Records<'a, 's, 'v>,
     pub built: Built<'a>,
+    pub lines: &'s mut [u8],
 }
 
-impl Walk<'_> {
+impl Walk<'_, '_, '_> {
     // How many bases the text has so far.
     pub fn bases(&self) -> usize {
         self.window.next_position().wrapping_sub(1)
@@ -35,26 +40,30 @@ impl Walk<'_> {
     fn build_window(&mut self) -> Result<(), Told> {
         let rt = self.rt;
         let mut out = [0u8; limits::GREATEST_STRETCH];
+        let first = self.window.first;
         match build(
             self.window.lines(),
             self.window.bases(),
-            self.window.first,
+            first,
             b"",
             &mut out,
         ) {
-            Written::Bytes(n) => self.built.write_stretch(rt, part(&out, 0, n))?,
+            Written::Bytes(n) => self
+                .built
+                .write_stretch(rt, part(&out, 0, n), &mut *self.lines)?,
             Written::Refused(wrong) => {
                 tell(rt, REFERENCE, "a window could not be built");
-                let _ = eprintln!(rt; "refused {} at {}", wrong.number, wrong.place);
+                say_line(
+                    rt,
+                    format_args!("refused {} at {}", wrong.number, wrong.place),
+                );
                 return Err(Told);
             }
         }
-        if self.built.stretches % 100 == 0 {
-            let _ = eprintln!(rt;
-                "{} stretches, {} bases",
-                self.built.stretches,
-                self.bases()
-            );
+        let stretches = self.built.stretches;
+        let bases = self.bases();
+        if stretches % 100 == 0 {
+            say_line(rt, format_args!("{stretches} stretches, {bases} bases"));
         }
         Ok(())
     }
@@ -151,6 +160,9 @@ impl Walk<'_> {
         }
         match self.records.bases {
             Some(said) if said != bases as u64 => {
+                let mut digits = [0u8; DIGITS];
+                let end = put_number(said, &mut digits, 0);
+                let said = std::str::from_utf8(part(&digits, 0, end)).unwrap_or("");
                 tell(
                     self.rt,
                     VARIANTS,
@@ -176,17 +188,17 @@ impl Walk<'_> {
     // chromosome and records of others.
     fn end_text(&mut self) -> Result<(), Told> {
         let rt = self.rt;
-        let about = written_about(self);
-        self.built.write_manifest(rt, written(&about))?;
-        let stretches = self.built.stretches;
-        let bases = self.bases();
-        let own = self.records.own;
-        let others = self.records.others;
-        if println!(rt;
-            "stretches {stretches}\nbases {bases}\nrecords {own}\nothers {others}"
-        ).is_err()
-        {
-            let _ = eprintln!(rt; "pool: standard output could not be written");
+        let mut about = [0u8; ABOUT];
+        let end = put_about(self, &mut about);
+        self.built
+            .write_manifest(rt, part(&about, 0, end), &mut *self.lines)?;
+        let mut done = [0u8; 128];
+        let first = put_line(b"stretches ", self.built.stretches, &mut done, 0);
+        let second = put_line(b"bases ", self.bases() as u64, &mut done, first);
+        let third = put_line(b"records ", self.records.own, &mut done, second);
+        let end = put_line(b"others ", self.records.others, &mut done, third);
+        if write_all(&mut rt.stdout(), part(&done, 0, end)).is_err() {
+            say_line(rt, "pool: standard output could not be written");
         }
         Ok(())
     }
@@ -197,7 +209,7 @@ impl Walk<'_> {
         let cut = self.cut_last();
         let read = self.reference.source.read_to_end(self.rt);
         if self.records.faults != 0 {
-            let _ = eprintln!(self.rt; "pool: nothing was built");
+            say_line(self.rt, "pool: nothing was built");
             return Err(Told);
         }
         judged.and(cut).and(read)?;

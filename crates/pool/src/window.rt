@@ -17,22 +17,21 @@ const HEADED: usize = 20;
 // The position of the window's first base, how many bases it has, what its stretch holds, the buffer, the place after its lines, and whether
 // the bases that come are those of a record's REF: they are held with its segment.
 #[derive(Drop)]
-pub struct Window {
+pub struct Window<'a> {
     pub first: usize,
     pub count: usize,
     held: Held,
-    // Stays an array with places in it: the memory is fixed.
-    pub bytes: [u8; ROOM],
+    // Stays a buffer with places in it: the memory is fixed.
+    pub bytes: &'a mut [u8],
     end: usize,
     pub is_inside: bool,
 }
 
-impl Window {
-    // The window that begins with the base of this position.
-    pub fn begin(first: usize) -> Window {
-        let mut bytes = [0; ROOM];
-        let end = put_bytes(&HEADING, &mut bytes, LINES);
-        put_bytes(b"\n", &mut bytes, end);
+impl Window<'_> {
+    // The window that begins with the base of this position, in a buffer of ROOM bytes.
+    pub fn begin<'a>(first: usize, bytes: &'a mut [u8]) -> Window<'a> {
+        let end = put_bytes(&HEADING, &mut *bytes, LINES);
+        put_bytes(b"\n", &mut *bytes, end);
         Window {
             first,
             count: 0,
@@ -58,11 +57,11 @@ impl Window {
 
     // Its bases, and its lines.
     pub fn bases(&self) -> &[u8] {
-        part(&self.bytes, 0, self.count)
+        part(self.bytes, 0, self.count)
     }
 
     pub fn lines(&self) -> &[u8] {
-        part(&self.bytes, LINES, self.end)
+        part(self.bytes, LINES, self.end)
     }
 
     // How many bases more there is room for. Those of a record's REF have room, since its segment has.
@@ -93,8 +92,8 @@ impl Window {
 
     // Puts a record's line after the others. Whether there is room left: where there is none, it is not one of them.
     pub fn put_line(&mut self, line: &[u8]) -> bool {
-        let end = put_bytes(line, &mut self.bytes, self.end);
-        let end = put_bytes(b"\n", &mut self.bytes, end);
+        let end = put_bytes(line, &mut *self.bytes, self.end);
+        let end = put_bytes(b"\n", &mut *self.bytes, end);
         if end == ROOM {
             return false;
         }

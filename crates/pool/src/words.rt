@@ -1,5 +1,5 @@
 // What is said on standard error: file, line and reason. Files are named as the command line names them.
-use files::{Told, WORD, say, word};
+use files::{Told, WORD, say, say_words, word};
 use std::fmt::Display;
 use text::{Refusal, refusal};
 use vcf::records::record::field;
@@ -28,9 +28,12 @@ pub fn tell_at<P: Display + Drop, D: Display + Drop>(
     reason: D,
 ) -> Told {
     let mut path = [0u8; WORD];
-    let _ = eprint!(rt; "pool: ");
+    say(rt, b"pool: ");
     say(rt, word(rt, number, &mut path));
-    let _ = eprintln!(rt; "{place}: {reason}");
+    say_words(rt, place);
+    say(rt, b": ");
+    say_words(rt, reason);
+    say(rt, b"\n");
     Told
 }
 

@@ -4,4 +4,4 @@
 
 mod built;
 
-pub use built::Built;
+pub use built::{Built, is_nameable};

@@ -18,9 +18,16 @@ pub fn first_end(marks: &[u8]) -> u32
     }
 }
 
+// The earlier of two first ends; "none" is the latest.
+pub fn earlier(a: u32, b: u32) -> u32
+    ensures { result ≡ min a b }
+{
+    a.min(b)
+}
+
 // The earlier of a first end and of segment k, where an occurrence ends in it.
 pub fn sooner(first: u32, ends: bool, k: u32) -> u32
     ensures { result ≡ min first (cond ends k none) }
 {
-    if ends { first.min(k) } else { first }
+    if ends { earlier(first, k) } else { first }
 }

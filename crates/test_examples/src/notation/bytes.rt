@@ -1,10 +1,14 @@
 // Bytes as the examples write them. Raw: two hex digits for a byte, a capital letter for itself, and at most once (..*n), which is
 // n times what stands before the star. Segments: {CGA,G}{e,T}, where e is the empty variant and none has over 255 letters.
+ghost use Rattle.std.specs.Prelude.{◌<◌};
+
 use crate::notation::words::{behind, spelt};
 use test_reference::places::{byte_at, put};
 
 // The value of a hex digit.
-fn digit(byte: u8) -> u8 {
+fn digit(byte: u8) -> u8
+    ensures { result < 32 }
+{
     let low = byte % 16;
     if byte <= b'9' { low } else { low + 9 }
 }

@@ -22,7 +22,7 @@ loop-rest-preserved c =
     let h = c.loop-rest.invariant in
     let l = inside (goal.at.loop-rest-preserved c).In-loop-rest in
     elim c.if-rest-eq1.branch [
-      | then-rest-eq1 w ↦ following-taken _ _ _ _ _ _ _ h _ _ l w.if-rest-eq1.true w.exit-is (w.first-is ∙ w.min-first.ensures)
+      | then-rest-eq1 w ↦ following-taken _ _ _ _ _ _ _ h _ _ l w.if-rest-eq1.true w.exit-is (w.first-is ∙ w.earlier-first.ensures)
       | else-rest-eq1 w ↦ following-passed _ _ _ _ _ _ _ h _ _ l w.if-rest-eq1.false w.exit-is w.first-is
     ]
 

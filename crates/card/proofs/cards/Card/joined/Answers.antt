@@ -7,7 +7,7 @@ loop-q-init c = changing-none _ _ _ (record { states = search rules; ends = sear
 
 pub loop-q-preserved : goal.loop-q-preserved
 loop-q-preserved c =
-    let on = row-through _ _ _ _ _ _ _ c.follow-row.ensures c.later.ensures c.min.ensures in
+    let on = row-through _ _ _ _ _ _ _ c.follow-row.ensures c.later.ensures c.earlier.ensures in
     changing-more _ _ _ _ _ c.loop-q.invariant _ _ c.loop-q-test.true on
 
 pub overflow_add-segments : goal.overflow_add-segments

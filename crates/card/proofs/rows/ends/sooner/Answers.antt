@@ -3,7 +3,7 @@ use native.Mathlib.Omega.{arith}
 use Rattle.card.proofs.rows.ends.sooner.Goals as goal
 
 pub returns-then-ends : goal.returns-then-ends
-returns-then-ends c = rw c.if-ends.true c.min.ensures
+returns-then-ends c = rw c.if-ends.true c.earlier.ensures
 
 pub returns-else-ends : goal.returns-else-ends
 returns-else-ends c = rw c.if-ends.false (omega arith)
