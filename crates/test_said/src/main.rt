@@ -1,5 +1,5 @@
-// Says rows of digits, up to more bytes than `files` puts together at once, by each of its calls that say words; tests/faults/run compares
-// them with its own.
+// Says words of up to 2,403 bytes, more than `files` puts together at once, by each of its calls that say words. tests/faults/run compares
+// what comes out with its own.
 #![tactic(auto)]
 
 use files::{say_line, say_words, tell};
